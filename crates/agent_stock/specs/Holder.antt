@@ -3,7 +3,7 @@ use Rattle.std.specs.Prelude.{ℕ, List, ◌++◌, codes}
 use Rattle.agent_stock.specs.declared.stock.Holder.{Holder}
 use Rattle.agent_stock.specs.declared.stock.Holder.TheVariants.{Desk, Agent, Used, Void}
 
--- who has numbers, as AGENT ACME
+-- the holder of numbers, such as AGENT ACME
 abbrev pub holder_text : Holder → List ℕ
 holder_text Desk = codes "DESK"
 holder_text (Agent code) = codes "AGENT " ++ code

@@ -5,7 +5,6 @@ use Rattle.std.specs.BTreeMap.{get}
 use Rattle.agent_stock.specs.Stock.{Holders}
 use Rattle.agent_stock.specs.declared.plain.PlainRows.{PlainRows}
 
--- who has a row for each number
 abbrev pub holders_of : PlainRows → Holders
 holders_of rows number = get nat_cmp rows.by_number number
 

@@ -1,5 +1,5 @@
--- The stock of waybill numbers: a map from a number to its holder, and what the four orders make of
--- it.
+-- The stock of waybill numbers: a map from a number to its holder, and the effect of the four
+-- orders.
 use Rattle.std.specs.Prelude.{ℕ, ◌≡◌, ◌+◌, Bool, true, false, not, ◌&&◌, nat_lt, nat_le, if◌then◌else◌, Option, Some, None}
 use Rattle.std.specs.List.{find, range_with_len}
 use Rattle.std.specs.Str.{bytes_eq}
@@ -14,27 +14,24 @@ use Rattle.agent_stock.specs.declared.stock.Order.TheVariants as order
 use Rattle.agent_stock.specs.declared.stock.StockFault.{StockFault}
 use Rattle.agent_stock.specs.declared.stock.StockFault.TheVariants as fault
 
--- who holds each number; one that isn't in stock has no holder
+-- the holder of each number; one that isn't in stock has none
 abbrev pub Holders : Type 0
 Holders = ℕ → Option Holder
 
--- whether a number is one of so many from the first one on
+-- true if a number is one of `count` consecutive ones
 abbrev pub is_among : ℕ → ℕ → ℕ → Bool
 is_among first count q = nat_le first q && nat_lt q (first + count)
 
--- whether a number is one of the run
 abbrev pub covers : Run → ℕ → Bool
 covers run q = is_among run.first run.count q
 
--- the most numbers of one run
 abbrev pub largest_run : ℕ
 largest_run = 1_000_000
 
--- whether a run has some numbers, not too many, and stays within its prefix
+-- true if a run has numbers, not too many, and stays within its prefix
 abbrev pub is_run : Run → Bool
 is_run run = nat_lt 0 run.count && nat_le run.count largest_run && nat_le (serial_of run.first + run.count) serials
 
--- whether a holder passes a test
 abbrev pub passes : Test → Option Holder → Bool
 passes is.Absent None = true
 passes is.Absent (Some _) = false
@@ -48,44 +45,41 @@ passes _ _ = false
 abbrev pub lowest_failing : Holders → Run → Test → Option ℕ
 lowest_failing h run test = find (λ q. not (passes test (h q))) (range_with_len run.first run.count)
 
--- the run is with the holder, and every other number is as before
+-- the run has the new holder, and all other numbers are unchanged
 abbrev pub assigned : Holders → Run → Holder → Holders
 assigned h run to q = if covers run q then Some to else h q
 
--- the numbers that an order is for
 abbrev pub run_of : Order → Run
 run_of (order.TakeIn run) = run
 run_of (order.Issue run agent) = run
 run_of (order.GiveBack run agent) = run
 run_of (order.Void run) = run
 
--- what an order asks of each number
 abbrev pub test_of : Order → Test
 test_of (order.TakeIn run) = is.Absent
 test_of (order.Issue run agent) = is.Desk
 test_of (order.GiveBack run agent) = is.With agent
 test_of (order.Void run) = is.DeskOrAgent
 
--- who has the numbers afterwards
 abbrev pub holder_after : Order → Holder
 holder_after (order.TakeIn run) = Desk
 holder_after (order.Issue run agent) = Agent agent
 holder_after (order.GiveBack run agent) = Desk
 holder_after (order.Void run) = Void
 
--- the refusal that names the lowest failing number
+-- the refusal for the lowest failing number
 abbrev pub refusal_number : Order → ℕ
 refusal_number (order.TakeIn run) = 101
 refusal_number (order.Issue run agent) = 102
 refusal_number (order.GiveBack run agent) = 103
 refusal_number (order.Void run) = 104
 
--- the first refusal of an order, if any: its number, and the waybill number that it is for
+-- the first refusal of an order, if any: its number, and the waybill number that fails
 abbrev pub refused_by : Option ℕ → ℕ → Option (ℕ × Option ℕ)
 refused_by None number = None
 refused_by (Some lowest) number = Some (number, Some lowest)
 
--- a run of another size is refused before its numbers are looked at
+-- a run that can't be ordered is refused before its numbers are tested
 abbrev pub run_refusal : Holders → Run → Test → ℕ → Option (ℕ × Option ℕ)
 run_refusal h run test number = if is_run run then refused_by (lowest_failing h run test) number else Some (105, None)
 
@@ -96,12 +90,12 @@ order_refusal h o = run_refusal h (run_of o) (test_of o) (refusal_number o)
 abbrev pub after_order : Holders → Order → Holders
 after_order h o = assigned h (run_of o) (holder_after o)
 
--- what a fault says: a refusal is the order's, and leaves the stock as it was
+-- a refusal is the order's, and leaves the stock unchanged
 abbrev pub RefusesOrder : {F : Type 0} → Option (ℕ × Option ℕ) → Holders → Holders → StockFault F → Type 0
 RefusesOrder refusal before after (fault.Refused number lowest) = (refusal ≡ Some (number, lowest)) × (after ≡ before)
 RefusesOrder refusal before after (fault.Rows _) = Unit {0}
 
--- what is said of every fault but one of the rows
+-- a property of every fault except one of the rows
 abbrev pub UnlessRows : {F : Type 0} → Type 0 → StockFault F → Type 0
 UnlessRows P (fault.Refused number lowest) = P
 UnlessRows P (fault.Rows _) = Unit {0}

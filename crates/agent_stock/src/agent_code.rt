@@ -7,13 +7,13 @@ use awb_number::ascii_text;
 use std::fmt;
 use std::marker::Model;
 
-/// The most characters that an agent's code has.
+/// The length of the longest agent's code.
 const LONGEST: usize = 11;
 
-/// An agent by its code of 1 to 11 upper-case letters or digits. Contracts see it as that text.
+/// An agent, by its code of 1 to 11 upper-case letters or digits. Contracts see it as that text.
 #[derive(Clone, Copy, Debug, PartialEq, Eq)]
 pub struct AgentCode {
-    // Zeros follow the code.
+    // Zeros pad the code.
     bytes: [u8; LONGEST],
     len: usize,
 }
@@ -45,7 +45,6 @@ fn are_letters_or_digits(text: &[u8]) -> bool
         .all(|b| b.is_ascii_uppercase() || b.is_ascii_digit())
 }
 
-/// Whether these bytes are an agent's code.
 fn is_code(text: &[u8]) -> bool
     ensures { result ≡ is_agent_code text.now }
 {
@@ -53,7 +52,7 @@ fn is_code(text: &[u8]) -> bool
 }
 
 impl AgentCode {
-    /// The code that these bytes are, where they are one.
+    /// Returns the code if the text is one.
     pub fn read(text: &[u8]) -> Option<AgentCode>
         ensures valid { IsSome result ↔ IsTrue (is_agent_code text.now) }
         ensures value { IfSome result (λ code. code ≡ text.now) }

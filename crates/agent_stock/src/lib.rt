@@ -1,4 +1,4 @@
-//! Who holds each waybill number: the desk, an agent, nobody any more.
+//! The stock of waybill numbers: each is held by the desk or an agent, used or void.
 #![tactic(auto)]
 
 mod agent_code;

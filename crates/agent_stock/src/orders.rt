@@ -6,7 +6,7 @@ use crate::rows::StockRows;
 use crate::stock::{Order, Run, StockFault};
 use crate::terms::Terms;
 
-/// Gives the run of some terms to their holder, where each of its numbers passes the test.
+/// Gives the run of an order to its new holder, if each of its numbers passes the test.
 fn change<R: StockRows>(rows: &mut R, terms: &Terms) -> Result<(), StockFault<R::Fault>>
     requires { R.is_sound rows.old → R.is_ready rows.old }
     ensures accepted { R.is_sound rows.new
@@ -59,7 +59,7 @@ pub fn carry_out<R: StockRows>(rows: &mut R, order: &Order) -> Result<(), StockF
     change(rows, &order.terms())
 }
 
-/// Takes in numbers that aren't in stock: they go to the desk. Refused 105, then 101.
+/// Takes in numbers that aren't in stock, for the desk. Refuses with 105, then 101.
 pub fn take_in<R: StockRows>(rows: &mut R, run: &Run) -> Result<(), StockFault<R::Fault>>
     requires { R.is_sound rows.old → R.is_ready rows.old }
     ensures accepted { R.is_sound rows.new
@@ -80,7 +80,7 @@ pub fn take_in<R: StockRows>(rows: &mut R, run: &Run) -> Result<(), StockFault<R
     carry_out(rows, &Order::TakeIn(*run))
 }
 
-/// Gives numbers of the desk to an agent. Refused 105, then 102.
+/// Issues numbers of the desk to an agent. Refuses with 105, then 102.
 pub fn issue<R: StockRows>(
     rows: &mut R,
     run: &Run,
@@ -105,7 +105,7 @@ pub fn issue<R: StockRows>(
     carry_out(rows, &Order::Issue(*run, agent))
 }
 
-/// Gives numbers of an agent back to the desk. Refused 105, then 103.
+/// Returns numbers of an agent to the desk. Refuses with 105, then 103.
 pub fn give_back<R: StockRows>(
     rows: &mut R,
     run: &Run,
@@ -130,7 +130,7 @@ pub fn give_back<R: StockRows>(
     carry_out(rows, &Order::GiveBack(*run, agent))
 }
 
-/// Makes numbers void that the desk or an agent has. Refused 105, then 104.
+/// Voids numbers of the desk or of agents. Refuses with 105, then 104.
 pub fn void_run<R: StockRows>(rows: &mut R, run: &Run) -> Result<(), StockFault<R::Fault>>
     requires { R.is_sound rows.old → R.is_ready rows.old }
     ensures accepted { R.is_sound rows.new

@@ -13,7 +13,7 @@ use awb_number::Awb;
 use std::alloc::{AllocError, Global};
 use std::collections::BTreeMap;
 
-/// The stock as a plain map in memory, a number at a time.
+/// The stock as a plain map in memory, with an entry for each number.
 #[derive(Drop)]
 pub struct PlainRows {
     by_number: BTreeMap<u64, Holder>,
@@ -24,7 +24,7 @@ pub struct PlainRows {
 impl PlainRows {
     ghost use Rattle.agent_stock.specs.Plain.{holders_of, nobody};
 
-    /// Nothing is in stock.
+    /// Returns an empty stock.
     pub fn new(alloc: Global) -> PlainRows
         ensures { holders_of result ≡ nobody }
     {
@@ -33,14 +33,14 @@ impl PlainRows {
         }
     }
 
-    /// Who holds a number.
+    /// Returns the holder of a number.
     pub fn get(&self, number: &Awb) -> Option<Holder>
         ensures { result ≡ holders_of self.now number.now }
     {
         self.by_number.get(&number.key()).copied()
     }
 
-    /// A second map with the same holders.
+    /// Returns a copy with the same holders.
     pub fn try_clone(&self) -> Result<PlainRows, AllocError>
         ensures { IfOk result (λ copy. holders_of copy ≡ holders_of self.now) }
     {
@@ -49,7 +49,6 @@ impl PlainRows {
         })
     }
 
-    /// The numbers in stock, ascending.
     fn in_stock(&self, alloc: Global) -> Result<Vec<Held>, AllocError>
         ensures rising { IfOk result (λ numbers. AreRising numbers.items) }
         ensures holders { IfOk result
@@ -66,7 +65,7 @@ impl PlainRows {
         Ok(numbers)
     }
 
-    /// The maximal runs of the stock, ascending. It fails only where memory runs out.
+    /// Returns the maximal runs of the stock, ascending.
     pub fn runs(&self, alloc: Global) -> Result<Vec<StockRun>, AllocError>
         ensures { IfOk result (λ rows. AreStockRuns (holders_of self.now) rows.items) }
     {

@@ -3,32 +3,32 @@ ghost use Rattle.std.specs.Prelude.{◌≡◌, true, IfOk, OnOk};
 use crate::stock::{Holder, Run, Test};
 use awb_number::Awb;
 
-/// Where the numbers of the stock are kept: a map from number to holder, which may fail.
-/// What it holds after a fault is not said.
+/// A store of the stock: a map from number to holder, which may fail. After a fault there is no
+/// guarantee about what it holds.
 pub trait StockRows {
     ghost use Rattle.agent_stock.specs.Stock.{Holders, is_run, lowest_failing, assigned};
 
     type Fault;
 
-    /// Who holds each number.
+    /// The holder of each number.
     ghost holders: { Self → Holders };
 
-    /// The premise of what the calls say: what they stand on has worked so far.
+    /// The premise of the contracts: the storage has worked so far.
     ghost is_sound: { Self → Type 0 };
 
-    /// What it holds is in order, so that it can be read and changed.
+    /// The store is ready to be read and changed.
     ghost is_ready: { Self → Type 0 };
 
-    /// Nothing differs between the first and the second.
+    /// The second is like the first.
     ghost as_before: { Self → Self → Type 0 };
 
-    /// The second has all but the holders from the first.
+    /// The second is like the first, except for the holders.
     ghost beside: { Self → Self → Type 0 };
 
     /// Nothing was committed from the first to the second.
     ghost commits_nothing: { Self → Self → Type 0 };
 
-    /// Who holds a number.
+    /// Returns the holder of a number.
     fn holder(&mut self, number: &Awb) -> Result<Option<Holder>, Self::Fault>
         requires { is_sound self.old → is_ready self.old }
         ensures answer { is_sound self.new
@@ -37,7 +37,7 @@ pub trait StockRows {
         ensures sound { is_sound self.new → is_sound self.old }
         ensures commits { commits_nothing self.old self.new };
 
-    /// The lowest number of a run that fails a test, if any.
+    /// Returns the lowest number of a run that fails a test, if any.
     fn uniform(&mut self, run: &Run, test: &Test) -> Result<Option<Awb>, Self::Fault>
         requires run { is_run run.now ≡ true }
         requires ready { is_sound self.old → is_ready self.old }

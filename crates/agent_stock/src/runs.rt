@@ -5,15 +5,15 @@ use crate::stock::Holder;
 use awb_number::Awb;
 use std::alloc::{AllocError, Global};
 
-/// A number in stock, and who holds it.
+/// A number in stock, with its holder.
 #[derive(Clone, Copy, Debug, PartialEq, Eq)]
 pub struct Held {
     pub number: Awb,
     pub holder: Holder,
 }
 
-/// Numbers one after another that one holder has: the first, and how many, at most the 10,000,000
-/// of a prefix.
+/// Consecutive numbers of one holder: the first, and their count, at most the 10,000,000 of a
+/// prefix.
 #[derive(Clone, Copy, Debug, PartialEq, Eq)]
 pub struct StockRun {
     pub first: Awb,
@@ -22,7 +22,6 @@ pub struct StockRun {
 }
 
 impl StockRun {
-    /// The run of one number.
     fn of_one(held: &Held) -> StockRun
         ensures { result ≡ record { first = held.now.number; count = 1; holder = held.now.holder } }
     {
@@ -33,7 +32,6 @@ impl StockRun {
         }
     }
 
-    /// Whether a number is the next one of the run's prefix, and with its holder.
     fn goes_on(&self, held: &Held) -> bool
         ensures { IsTrue result ↔ GoesOn self.now held.now }
     {
@@ -43,7 +41,7 @@ impl StockRun {
     }
 }
 
-/// The maximal runs of a number and those that follow it, where they rise.
+/// Returns the maximal runs of a number and those that follow it, if they are ascending.
 fn runs_from(alloc: Global, first: &Held, following: &[Held]) -> Result<Vec<StockRun>, AllocError>
     ensures { AreRising (first.now ∷ following.now)
         → IfOk result
@@ -63,8 +61,8 @@ fn runs_from(alloc: Global, first: &Held, following: &[Held]) -> Result<Vec<Stoc
     Ok(rows)
 }
 
-/// The maximal runs of numbers that rise: as many as follow one another in a prefix and have one
-/// holder. Nothing is said of the runs of other numbers. It fails only where memory runs out.
+/// Returns the maximal runs of ascending numbers: consecutive numbers of one prefix and one holder.
+/// For other numbers there is no guarantee.
 pub fn runs_of(alloc: Global, numbers: &[Held]) -> Result<Vec<StockRun>, AllocError>
     ensures { AreRising numbers.now
         → IfOk result (λ rows. AreStockRuns (holders_among numbers.now) rows.items) }

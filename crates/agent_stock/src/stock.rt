@@ -8,24 +8,23 @@ use awb_number::{Awb, SERIALS};
 use std::fmt;
 use std::marker::Model;
 
-/// The most numbers that one order is for.
+/// The largest number of waybill numbers in an order.
 const LARGEST_RUN: u32 = 1_000_000;
 
-/// Who holds a waybill number that is in stock.
+/// The holder of a waybill number in stock.
 #[derive(Clone, Copy, Debug, PartialEq, Eq)]
 pub enum Holder {
     /// The station's own desk.
     Desk,
-    /// An agent, to whom it was issued.
+    /// An agent to whom the number was issued.
     Agent(AgentCode),
-    /// A waybill was declared under it.
+    /// A waybill was declared with the number.
     Used,
-    /// It is never to be used.
+    /// The number must never be used.
     Void,
 }
 
 impl Holder {
-    /// Whether both are the same holder.
     pub(crate) fn is_same(&self, other: &Holder) -> bool
         ensures { IsTrue result ↔ (self.now ≡ other.now) }
     {
@@ -39,7 +38,7 @@ impl Holder {
     }
 }
 
-/// As `DESK` or `AGENT ACME`.
+/// Written like `DESK` or `AGENT ACME`.
 impl fmt::Display for Holder {
     ghost output = { λ holder. Some (holder_text holder) };
 
@@ -53,11 +52,11 @@ impl fmt::Display for Holder {
     }
 }
 
-/// The largest number that an order may state as its count.
+/// The largest count that an order can have.
 const LARGEST_COUNT: u32 = 9_999_999;
 
-/// How many numbers an order states, 0 to 9,999,999: seven digits at most. Whether so many can be
-/// ordered is asked by [`Run::is_run`].
+/// The count of an order, 0 to 9,999,999: at most seven digits. [`Run::is_run`] tests whether that
+/// many numbers can be ordered.
 #[derive(Clone, Copy, Debug, PartialEq, Eq, PartialOrd, Ord)]
 pub struct RunCount {
     number: u32,
@@ -77,7 +76,7 @@ impl Model for RunCount {
 }
 
 impl RunCount {
-    /// The count, where the number is at most 9,999,999.
+    /// Returns the count if the number is at most 9,999,999.
     pub fn new(number: u32) -> Option<RunCount>
         ensures in_range { IsSome result ↔ IsRunCount number }
         ensures value { IfSome result (λ c. c ≡ number) }
@@ -98,8 +97,8 @@ impl RunCount {
     }
 }
 
-/// Numbers one after another: the first, and how many. It may be too long for an order, and end
-/// past its prefix.
+/// Consecutive numbers: the first, and their count. A run may be too long for an order, and end
+/// after its prefix.
 #[derive(Clone, Copy, Debug, PartialEq, Eq)]
 pub struct Run {
     pub first: Awb,
@@ -107,7 +106,7 @@ pub struct Run {
 }
 
 impl Run {
-    /// The run of one number.
+    /// Returns the run of one number.
     pub fn of_one(number: Awb) -> Run
         ensures value { result ≡ record { first = number; count = 1 } }
         ensures is_run { is_run result ≡ true }
@@ -118,7 +117,7 @@ impl Run {
         }
     }
 
-    /// Whether it has 1 to 1,000,000 numbers and stays within its prefix.
+    /// Returns whether the run has 1 to 1,000,000 numbers and stays within its prefix.
     pub fn is_run(&self) -> bool
         ensures { result ≡ is_run self.now }
     {
@@ -127,10 +126,10 @@ impl Run {
     }
 }
 
-/// What is asked of the holder of each number of a run.
+/// A test of the holder of each number in a run.
 #[derive(Clone, Copy, Debug, PartialEq, Eq)]
 pub enum Test {
-    /// It is not in stock.
+    /// The number isn't in stock.
     Absent,
     /// The desk has it.
     Desk,
@@ -141,7 +140,7 @@ pub enum Test {
 }
 
 impl Test {
-    /// Whether a holder, or none, passes.
+    /// Returns whether an optional holder passes.
     pub fn passes(&self, holder: &Option<Holder>) -> bool
         ensures { result ≡ passes self.now holder.now }
     {
@@ -155,26 +154,26 @@ impl Test {
     }
 }
 
-/// What a desk does with a run of numbers.
+/// An order on a run of numbers.
 #[derive(Clone, Copy, Debug, PartialEq, Eq)]
 pub enum Order {
     /// Numbers that aren't in stock go to the desk.
     TakeIn(Run),
     /// Numbers of the desk go to an agent.
     Issue(Run, AgentCode),
-    /// Numbers of an agent go back to the desk.
+    /// Numbers of an agent are returned to the desk.
     GiveBack(Run, AgentCode),
     /// Numbers of the desk or of agents become void.
     Void(Run),
 }
 
-/// Why an order wasn't carried out.
+/// The reason why an order wasn't carried out.
 #[derive(Clone, Copy, Debug, PartialEq, Eq)]
 pub enum StockFault<F> {
-    /// Nothing changed. The refusal's number, and the lowest number of the run that failed:
-    /// 101 in stock already, 102 not at the desk, 103 not with that agent, 104 Used, Void or not in
-    /// stock. 105, with no number: the count isn't 1 to 1,000,000, or the run ends past its prefix.
+    /// Nothing changed. The refusal's number, and the lowest number of the run that fails: 101
+    /// already in stock, 102 not at the desk, 103 not with that agent, 104 used, void or not in
+    /// stock. 105 has no number: the count isn't 1 to 1,000,000, or the run ends after its prefix.
     Refused(u16, Option<Awb>),
-    /// The rows failed. Nothing is said of what they hold.
+    /// The rows failed. There is no guarantee about what they hold.
     Rows(F),
 }

@@ -3,22 +3,21 @@ ghost use Rattle.agent_stock.specs.Stock.{run_of, test_of, holder_after, refusal
 
 use crate::stock::{Holder, Order, Run, Test};
 
-/// What an order comes to: what is asked of each number of its run, and who has the numbers
-/// afterwards.
+/// An order in normal form: the run, the test that each number must pass, and the new holder.
 #[derive(Clone, Copy, Debug, PartialEq, Eq)]
 pub struct Terms {
-    /// The numbers. A run that can't be ordered is refused 105.
+    /// The numbers. A run that can't be ordered is refused with 105.
     pub run: Run,
-    /// What the holder of each number has to pass.
+    /// The test of each number's holder.
     pub test: Test,
-    /// Who has the numbers afterwards.
+    /// The new holder.
     pub to: Holder,
-    /// The number of the refusal that names the lowest number that fails the test: 101 to 104.
+    /// The number of the refusal for the lowest number that fails the test: 101 to 104.
     pub refusal: u16,
 }
 
 impl Order {
-    /// The terms of the order.
+    /// Returns the order in normal form.
     pub fn terms(&self) -> Terms
         ensures run { result.run ≡ run_of self.now }
         ensures test { result.test ≡ test_of self.now }

@@ -16,7 +16,7 @@ second : (a b : Bool) → (a && b) ≡ true → b ≡ true
 second true b h = h
 second false b h = cc
 
--- where each byte passes a test that only ASCII passes
+-- each byte passes a test that only ASCII passes
 pub IsAscii-tested : (test : ℕ → Bool) → ((b : ℕ) → test b ≡ true → b < 128) → (text : List ℕ) → list_all test text ≡ true → IsAscii text
 IsAscii-tested test ascii [] h = IsAscii-nil
 IsAscii-tested test ascii (b ∷ bs) h =

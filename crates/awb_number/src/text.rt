@@ -5,7 +5,7 @@ ghost use Rattle.awb_number.specs.Number.{number_text};
 use crate::awb::Awb;
 use std::fmt;
 
-/// ASCII bytes as a text.
+/// Returns ASCII bytes as a text.
 pub fn ascii_text(bytes: &[u8]) -> &str
     requires { IsAscii bytes.now }
     ensures { result.now ≡ bytes.now }
@@ -16,7 +16,7 @@ pub fn ascii_text(bytes: &[u8]) -> &str
     }
 }
 
-/// As `020-12345675`.
+/// Written like `020-12345675`.
 impl fmt::Display for Awb {
     ghost output = { λ number. Some (number_text number) };
 

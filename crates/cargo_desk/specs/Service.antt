@@ -1,4 +1,4 @@
--- How a call ends where its service does.
+-- The fault of a call from that of its service.
 use Rattle.stock_list.specs.declared.answer.RunFault.TheVariants as run
 use Rattle.desk_server.specs.declared.server.ServerFault.{ServerFault}
 use Rattle.desk_server.specs.declared.server.ServerFault.TheVariants as server

@@ -1,4 +1,4 @@
-//! A call that asks the service which runs on a port.
+//! A call to the service on a port.
 ghost use Rattle.std.specs.Io.{ReadsAtMost};
 
 use cli_run::{Feed, Turns};
@@ -11,11 +11,11 @@ use std::io::{ErrorKind, Read, Write};
 use std::net::{Ipv4Addr, SocketAddr, TcpStream};
 use std::time::Duration;
 
-/// How many seconds a read or a write of a connection may wait. The service gives up on a request
+/// The timeout of a connection's reads and writes, in seconds. The service gives up on a request
 /// after 30 seconds.
 const MOST_WAIT: u64 = 40;
 
-/// The connection that is open, if there is one, and whether its last read ran out of time.
+/// The open connection, if there is one, and whether its last read timed out.
 #[derive(Drop)]
 struct Link {
     open: RefCell<Option<TcpStream>>,
@@ -23,7 +23,7 @@ struct Link {
 }
 
 impl Link {
-    /// No connection is open.
+    /// Starts without a connection.
     fn new() -> Link {
         Link {
             open: RefCell::new(None),
@@ -31,7 +31,6 @@ impl Link {
         }
     }
 
-    /// Reads from the connection that is open.
     fn read_open(&self, buf: &mut [u8]) -> io::Result<usize>
         ensures { ReadsAtMost result buf.new }
     {
@@ -47,7 +46,7 @@ impl Link {
         }
     }
 
-    /// Notes whether a read ran out of time.
+    /// Records whether a read timed out.
     fn note(&self, read: &io::Result<usize>) {
         let is_late = match read {
             Ok(_) => false,
@@ -57,7 +56,7 @@ impl Link {
     }
 }
 
-/// The connections to a port of this machine, one after another.
+/// Connections to a port of this machine, one after another.
 #[derive(Drop)]
 struct Connections<'a> {
     rt: &'a HostRuntime,
@@ -67,7 +66,7 @@ struct Connections<'a> {
     opened: u64,
 }
 
-/// A connection to a port of this machine, whose reads and writes have their time.
+/// Opens a connection to a port of this machine, with timeouts.
 fn connected(rt: &HostRuntime, port: u16) -> io::Result<TcpStream> {
     let stream = TcpStream::connect(rt, SocketAddr::from((Ipv4Addr::LOCALHOST, port)))?;
     let wait = Some(Duration::from_secs(MOST_WAIT));
@@ -116,13 +115,13 @@ impl Connect for Connections<'_> {
     }
 }
 
-/// One end of the connection that is open.
+/// One end of the open connection.
 #[derive(Drop)]
 struct End<'a> {
     link: &'a Link,
 }
 
-/// The error of a connection that isn't there. It never occurs: a question opens one first.
+/// Returns the error of a missing connection. It never occurs: a question opens one first.
 fn not_open() -> io::Error {
     ErrorKind::NotConnected.into()
 }
@@ -154,8 +153,8 @@ impl Write for End<'_> {
     }
 }
 
-/// Asks the service on a port for what a command wants, over the inputs of a reader, and ends the
-/// call. Each line goes out when its answer came.
+/// Runs a command with the service on a port, on the inputs of a reader, and ends the call. Each
+/// line is written when its answer arrives.
 pub fn ask_port<R: Read + Drop>(
     rt: &HostRuntime,
     command: &LineCommand<'_>,

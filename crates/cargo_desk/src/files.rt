@@ -14,44 +14,44 @@ use std::io::{ErrorKind, Read};
 use std::{fs, io};
 use stock_list::RunFault;
 
-/// How many bytes a page of a new file has, where the library takes 4,096: a commit logs each page
-/// that it changed as a whole.
+/// The page size of a new file in bytes. The library's default is 4,096, but a commit logs each
+/// changed page in full.
 const PAGE_LEN: usize = 1024;
 
-/// The fewest pages of a file that are kept in memory, and the most.
+/// The smallest and the largest number of pages in the cache.
 const LEAST_CACHE: u64 = 2000;
 
 const MOST_CACHE: u64 = 65_536;
 
-/// What is said of a file whose tables aren't declared as `init` declares them.
+/// The warning about a file whose tables aren't declared as `init` declares them.
 const NOT_AS_INIT: &str =
     "init declares the tables otherwise, so the promises about a power failure aren't proved \
     for this file; copy its rows into a new one";
 
 /// A connection to a station's file.
 pub enum FileConnection {
-    /// It shows all that the file has, in the order in which the file lists it.
+    /// Shows the whole file, in the order of its list.
     Whole(Connection<FileStore<File>>),
-    /// It shows the tables and indexes that `init` makes, or the first of them, and can make the
-    /// rest. The file lists them in another order, or has trees of other programs beside them.
+    /// Shows the tables and indexes that `init` makes, or the first of them, and can make the rest.
+    /// The file lists them in another order, or has trees of other programs.
     Beside(Connection<OwnTrees<FileStore<File>>>),
 }
 
-/// Why a file isn't opened.
+/// The reason why a file isn't opened.
 #[derive(Clone, Copy, Debug, PartialEq, Eq)]
 pub enum FileFault {
-    /// It is missing or empty, or a database was only begun in it.
+    /// The file is missing or empty, or a database was only started in it.
     NoStation,
     /// Another program has it open.
     Busy,
     /// Memory ran out.
     Memory,
-    /// It can't be read or written, or it is no database.
+    /// The file can't be read or written, or isn't a database.
     Store(ErrorCode),
 }
 
 impl FileFault {
-    /// How the call ends.
+    /// Returns the fault of the call.
     pub fn ended(self) -> DeskFault {
         match self {
             FileFault::NoStation => DeskFault::Attach(AttachFault::NoStation),
@@ -61,7 +61,7 @@ impl FileFault {
     }
 }
 
-/// Why the two files of a path aren't opened.
+/// Returns the fault if the two files of a path aren't opened.
 fn unopened(error: &sqlite_std_file::OpenError) -> FileFault {
     match error {
         sqlite_std_file::OpenError::OutOfMemory => FileFault::Memory,
@@ -70,7 +70,7 @@ fn unopened(error: &sqlite_std_file::OpenError) -> FileFault {
     }
 }
 
-/// Why the library opens no database.
+/// Returns the fault if the library opens no database.
 fn refused(error: Error) -> FileFault {
     match error {
         Error::SqliteFailure(ErrorCode::OutOfMemory) => FileFault::Memory,
@@ -88,14 +88,16 @@ fn open_any(rt: &HostRuntime, path: &str) -> Result<Connection<FileStore<File>>,
     }
 }
 
-/// Whether the library opens no file of this name.
+/// Returns whether the library doesn't take the name as that of a file.
 fn is_no_file(path: &str) -> bool {
     path == ":memory:" || path.starts_with("file:")
 }
 
-/// Opens the two files of a path. Returns `None` if the library has to say why they can't be opened.
+/// Opens the two files of a path. Returns `None` if the library must report why they can't be
+/// opened.
 ///
-/// Returns [`FileFault::Busy`] if another program has them, and [`FileFault::Memory`].
+/// Returns [`FileFault::Busy`] if another program has them open, and [`FileFault::Memory`] if
+/// memory runs out.
 fn files_of(rt: &HostRuntime, path: &str) -> Result<Option<Files<File>>, FileFault> {
     match sqlite_std_file::open(rt, path, Unknown) {
         Ok(files) => Ok(Some(files)),
@@ -106,10 +108,10 @@ fn files_of(rt: &HostRuntime, path: &str) -> Result<Option<Files<File>>, FileFau
     }
 }
 
-/// Opens a file that has the trees that `init` makes, in their order, and no other, with one
-/// recovery of its log. Returns `None` for any other file.
+/// Opens a file with exactly the trees that `init` makes, in order, recovering its log once.
+/// Returns `None` for any other file.
 ///
-/// Returns the fault of a file that another program has, or if memory ran out.
+/// Fails if another program has the file open, or memory runs out.
 fn open_in_order(
     rt: &HostRuntime,
     path: &str,
@@ -127,10 +129,10 @@ fn open_in_order(
     }
 }
 
-/// Opens a file that has the first `made` of the trees that `init` makes, in any order, and may
-/// have trees of other programs beside them. Returns `None` for any other file.
+/// Opens a file with the first `made` trees that `init` makes, in any order, and perhaps trees of
+/// other programs. Returns `None` for any other file.
 ///
-/// Returns the fault of a file that another program has, or if memory ran out.
+/// Fails if another program has the file open, or memory runs out.
 fn open_among_others(
     rt: &HostRuntime,
     path: &str,
@@ -149,8 +151,8 @@ fn open_among_others(
     }
 }
 
-/// Opens a file by the first `made` of the trees that `init` makes, in any order and beside others,
-/// and any other file as the library does, with two recoveries of its log.
+/// Opens a file with the first `made` trees that `init` makes, in any order and with others, and
+/// any other file as the library does, recovering its log twice.
 fn open_or_any(rt: &HostRuntime, path: &str, made: usize) -> Result<FileConnection, FileFault> {
     match open_among_others(rt, path, made)? {
         Some(conn) => Ok(FileConnection::Beside(conn)),
@@ -158,9 +160,9 @@ fn open_or_any(rt: &HostRuntime, path: &str, made: usize) -> Result<FileConnecti
     }
 }
 
-/// Opens a file that has a database: by the list of trees that `init` makes, in their order, and
-/// then in any order and beside others, for `migrate` also by those of version 1; and one whose
-/// tables are declared otherwise as the library does.
+/// Opens a file with a database: first as one with the trees that `init` makes, in order, then in
+/// any order and with others, for `migrate` also those of version 1, and last, if its tables are
+/// declared differently, as the library does.
 fn open(rt: &HostRuntime, path: &str, is_migration: bool) -> Result<FileConnection, FileFault> {
     if is_no_file(path) {
         return Ok(FileConnection::Whole(open_any(rt, path)?));
@@ -177,15 +179,15 @@ fn open(rt: &HostRuntime, path: &str, is_migration: bool) -> Result<FileConnecti
     }
 }
 
-/// Whether a file begins with a byte 0.
+/// Returns whether the first byte of a file is 0.
 fn begins_with_zero(rt: &HostRuntime, path: &str) -> io::Result<bool> {
     let mut first = [1];
     fs::File::open(rt, path)?.read(&mut first)?;
     Ok(first[0] == 0)
 }
 
-/// Whether a path has no file, an empty one, or one in which a database was begun: its first byte
-/// is written last.
+/// Returns whether a path has no file, an empty one, or one in which a database was started: its
+/// first byte is written last.
 fn is_blank(rt: &HostRuntime, path: &str) -> io::Result<bool> {
     match fs::metadata(rt, path) {
         Ok(found) if !found.is_file() || found.len() > PAGE_LEN as u64 => Ok(false),
@@ -195,8 +197,8 @@ fn is_blank(rt: &HostRuntime, path: &str) -> io::Result<bool> {
     }
 }
 
-/// How many pages of a file are kept in memory: a quarter of those that it has. An opening looks
-/// each row up by its key, so the keys have to fit, or each look-up reads a page anew.
+/// Returns the number of pages in the cache: a quarter of the file's. An opening finds each row by
+/// its key, so the keys must fit, or each look-up reads a page again.
 fn cache_for(rt: &HostRuntime, path: &str) -> usize {
     let pages = match fs::metadata(rt, path) {
         Ok(found) => found.len() / PAGE_LEN as u64,
@@ -205,8 +207,8 @@ fn cache_for(rt: &HostRuntime, path: &str) -> usize {
     (pages / 4).max(LEAST_CACHE).min(MOST_CACHE) as usize
 }
 
-/// How a file is read and written: the pages kept in memory, and a random number, from which a
-/// log's salts are made.
+/// Returns the options of a file: the size of the cache, and a random number for the salts of its
+/// log.
 fn options(rt: &HostRuntime, path: &str) -> Result<Options, FileFault> {
     match RandomState::new(rt) {
         Ok(state) => {
@@ -222,8 +224,8 @@ fn options(rt: &HostRuntime, path: &str) -> Result<Options, FileFault> {
     }
 }
 
-/// Opens a file that a station is to be made in, or makes it where it is missing or empty. Whatever
-/// stops it, the file has no database or the whole one, and the next call goes on from there.
+/// Opens a file for a new station, or creates it if it is missing or empty. Whatever stops it, the
+/// file has no database or the whole one, and the next call continues from there.
 pub fn make_file(rt: &HostRuntime, path: &str) -> Result<FileConnection, FileFault> {
     if is_no_file(path) {
         return Ok(FileConnection::Whole(open_any(rt, path)?));
@@ -245,7 +247,7 @@ pub fn make_file(rt: &HostRuntime, path: &str) -> Result<FileConnection, FileFau
     }
 }
 
-/// Opens a file that is there. A file that is missing or empty has no station, and stays as it is.
+/// Opens an existing file. A missing or empty one has no station, and is left as it is.
 pub fn open_file(
     rt: &HostRuntime,
     path: &str,
@@ -258,8 +260,8 @@ pub fn open_file(
     }
 }
 
-/// Tells why a file isn't opened, behind the line of its fault. The library keeps no reason of the
-/// system's, so that the file is opened once more to have it.
+/// Writes the reason why a file isn't opened, after the line of its fault. The library doesn't keep
+/// the system's reason, so the file is opened again to get it.
 pub fn tell_unopened(rt: &HostRuntime, path: &str, fault: FileFault) {
     let _told = match fault {
         FileFault::Memory => Ok(()),
@@ -276,14 +278,14 @@ pub fn tell_unopened(rt: &HostRuntime, path: &str, fault: FileFault) {
     };
 }
 
-/// Whether a line runs over a file that was found and whose tables aren't declared as `init`
+/// Returns whether the file of a command line was found, and its tables aren't declared as `init`
 /// declares them: one of them has another text, or an index of another program. A station works in
-/// such a file, but what is proved of a power failure isn't proved of it.
+/// such a file, but crash safety isn't proved for it.
 pub fn is_undeclared<S: Alter>(line: &Line<'_>, conn: &Connection<S>) -> bool {
     line.db.is_some() && !is_opening(line) && !has_station(conn)
 }
 
-/// Tells that the tables of a line's file aren't declared as `init` declares them.
+/// Writes that the tables of the file aren't declared as `init` declares them.
 pub fn tell_undeclared(rt: &HostRuntime, line: &Line<'_>) {
     let path = line.db.unwrap_or("");
     let _told = eprint!(rt; "{path}: {NOT_AS_INIT}\n");

@@ -25,10 +25,10 @@ use stock_list::RunFault;
 use task::{Task, end_call, faulted, run_over};
 use telegram_files::{Telegrams, owned_paths, tell_unread};
 
-/// What is said of a text that is no zone's rule.
+/// The message for a text that isn't a zone's rule.
 const NO_ZONE: &str = "--zone takes a POSIX rule, as UTC0 or CET-1CEST,M3.5.0,M10.5.0/3";
 
-/// Ends a call by a text that was asked for, on standard output.
+/// Ends a call with a requested text on standard output.
 fn tell(rt: &HostRuntime, text: &str) -> u8 {
     match print!(rt; "{text}") {
         Ok(()) => 0,
@@ -36,8 +36,8 @@ fn tell(rt: &HostRuntime, text: &str) -> u8 {
     }
 }
 
-/// Ends a call by what is said of its words: a usage on standard error, or the help or the version
-/// on standard output.
+/// Ends a call whose words aren't a command: with the usage on standard error, or the help or the
+/// version on standard output.
 fn refuse_words(rt: &HostRuntime, fault: &WordsFault) -> u8 {
     match fault {
         WordsFault::Help(text) => tell(rt, text.as_str()),
@@ -53,16 +53,15 @@ fn refuse_words(rt: &HostRuntime, fault: &WordsFault) -> u8 {
     }
 }
 
-/// Where a command runs.
+/// The place where a command runs.
 #[derive(Clone, Copy)]
 enum Way {
-    /// Over the line's station, at a moment.
+    /// On the station of the command line, at a moment.
     Station(Moment),
-    /// In the service on a port.
+    /// On the service at a port.
     Service(u16),
 }
 
-/// Runs a line over the inputs of a reader.
 fn run_inputs<R: Read + Drop>(
     rt: &HostRuntime,
     line: &Line<'_>,
@@ -92,7 +91,7 @@ fn take_files<'a>(
     status
 }
 
-/// Runs a line over its telegrams' files or standard input.
+/// Runs a command line on its telegram files or standard input.
 fn run_way(rt: &HostRuntime, line: &Line<'_>, way: Way) -> u8 {
     let LineCommand::Take(paths) = &line.command else {
         return run_inputs(rt, line, way, rt.stdin(), &Turns::new());
@@ -112,7 +111,7 @@ fn run_way(rt: &HostRuntime, line: &Line<'_>, way: Way) -> u8 {
     }
 }
 
-/// Writes what the desk would read of the telegram in an open file.
+/// Writes the dry run of the telegram in an open file.
 fn read_open(rt: &HostRuntime, paths: &[String], file: File) -> u8 {
     let (turns, unread) = (Turns::new(), RefCell::new(None));
     let mut reader = Counted::new(Telegrams::new(rt, paths, &turns, &unread, file));
@@ -124,7 +123,7 @@ fn read_open(rt: &HostRuntime, paths: &[String], file: File) -> u8 {
     status
 }
 
-/// Writes what the desk would read of a telegram's file, without a station.
+/// Writes the dry run of a telegram's file, without a station.
 fn read_file(rt: &HostRuntime, path: &str) -> u8 {
     match File::open(rt, path) {
         Ok(file) => match owned_paths(rt.alloc(), &[path]) {
@@ -139,7 +138,7 @@ fn read_file(rt: &HostRuntime, path: &str) -> u8 {
     }
 }
 
-/// How a call ends whose command needed no station.
+/// Returns the end of a call that needed no station.
 fn ran(good: Result<bool, RunFault>) -> Result<bool, DeskFault> {
     match good {
         Ok(good) => Ok(good),
@@ -147,7 +146,7 @@ fn ran(good: Result<bool, RunFault>) -> Result<bool, DeskFault> {
     }
 }
 
-/// Serves a line's station on a port.
+/// Serves the station of a command line on a port.
 fn serve_at(rt: &HostRuntime, line: &Line<'_>, zone: &Zone, port: u16, count: Option<u32>) -> u8 {
     match listen(rt, port) {
         Ok(listener) => {
@@ -166,8 +165,8 @@ fn serve_at(rt: &HostRuntime, line: &Line<'_>, zone: &Zone, port: u16, count: Op
     }
 }
 
-/// Runs a line. The clock is read once, but by `serve`, which reads it once for each connection,
-/// and not where a running service is asked: the moment is the service's.
+/// Runs a command line. The clock is read once, by `serve` once for each connection, and not at all
+/// for a running service, which uses its own.
 fn run_now(rt: &HostRuntime, line: &Line<'_>) -> u8 {
     let Some(zone) = Zone::read(line.zone) else {
         return refuse_words(rt, &usage_fault(rt.alloc(), NO_ZONE));
@@ -187,7 +186,6 @@ fn run_now(rt: &HostRuntime, line: &Line<'_>) -> u8 {
     }
 }
 
-/// Runs a call by its words.
 fn run_words(rt: &HostRuntime, words: &[String]) -> u8 {
     match parse_words(rt.alloc(), words) {
         Ok(line) => run_now(rt, &line),
@@ -195,13 +193,12 @@ fn run_words(rt: &HostRuntime, words: &[String]) -> u8 {
     }
 }
 
-/// The words of the call.
 fn words_of(rt: &HostRuntime) -> Result<Vec<String>, io::Error> {
     let words = env::args(rt)?.collect(rt.alloc())?;
     Ok(words)
 }
 
-/// Ends a call whose words can't be read: one of them is no UTF-8, or memory ran out.
+/// Ends a call whose words can't be read: one of them isn't UTF-8, or memory ran out.
 fn refuse_call(rt: &HostRuntime, error: &io::Error) -> u8 {
     if error.kind() == ErrorKind::InvalidData {
         return refuse_words(rt, &usage_fault(rt.alloc(), "a word is no UTF-8"));
@@ -209,9 +206,9 @@ fn refuse_call(rt: &HostRuntime, error: &io::Error) -> u8 {
     faulted(rt, RunFault::Memory)
 }
 
-/// The status is 0; 1 where something was refused or is unknown, or a row or a body was bad; 2 for
-/// other words; 3 at a fault; 4 where the file has no station that the command can use, or `init`
-/// finds something in it.
+/// Returns exit status 0; 1 if something was refused or is unknown, or a row or a body was bad; 2
+/// for wrong usage; 3 for a fault; 4 if the file has no station for the command, or isn't empty for
+/// `init`.
 fn main(rt: HostRuntime) -> ExitCode {
     let status = match words_of(&rt) {
         Ok(words) => run_words(&rt, words.as_slice()),

@@ -13,7 +13,7 @@ use station_core::{Counted, Keeper};
 use std::net::TcpListener;
 use stock_list::RunFault;
 
-/// What is served: how many connections of a socket, with the moments of a zone.
+/// The service: how many connections of a socket to serve, and the zone of their moments.
 #[derive(Clone, Copy)]
 pub struct Service<'a> {
     pub listener: &'a TcpListener,
@@ -21,7 +21,6 @@ pub struct Service<'a> {
     pub count: Option<u32>,
 }
 
-/// Why a call ends where its service does.
 fn server_fault(fault: ServerFault) -> DeskFault
     ensures { result ≡ server_fault fault }
 {
@@ -33,7 +32,7 @@ fn server_fault(fault: ServerFault) -> DeskFault
     }
 }
 
-/// Tells that the service begins, and serves.
+/// Prints `listening` and serves.
 fn run_service<K: Keeper>(
     rt: &HostRuntime,
     keeper: &mut K,
@@ -58,14 +57,14 @@ fn run_service<K: Keeper>(
     }
 }
 
-/// Serves a station. It returns the exit status; a fault is reported on standard error.
+/// Serves a station, and returns the exit status. A fault is reported on standard error.
 pub fn serve_keeper<K: Keeper>(rt: &HostRuntime, keeper: &mut K, service: Service<'_>) -> u8 {
     let ended = run_service(rt, keeper, service);
     end(&mut Counted::new(rt.stderr()), ended)
 }
 
-/// Serves the station of a line over a connection. It returns the exit status and gives the
-/// connection back; a fault is reported on standard error.
+/// Serves the station of a command line over a connection, and returns the exit status and the
+/// connection. A fault is reported on standard error.
 pub fn serve_line<S: Alter>(
     rt: &HostRuntime,
     line: &Line<'_>,

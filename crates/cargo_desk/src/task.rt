@@ -1,4 +1,4 @@
-//! A line over its station: in memory, or in a file.
+//! Running a command line over its station, in memory or in a file.
 
 use crate::files::{FileConnection, make_file, open_file, tell_undeclared, tell_unopened};
 use crate::service::{Service, serve_keeper, serve_line};
@@ -17,16 +17,16 @@ use station_files::OwnTrees;
 use std::io::Read;
 use stock_list::RunFault;
 
-/// What a line does with its station.
+/// The task of a command line.
 #[derive(Drop)]
 pub enum Task<'a, R> {
-    /// Its command, over the inputs of a reader, at a moment.
+    /// Run its command on the inputs of a reader, at a moment.
     Run {
         reader: R,
         turns: &'a Turns,
         at: Moment,
     },
-    /// The service.
+    /// Run the service.
     Serve(Service<'a>),
 }
 
@@ -35,13 +35,13 @@ pub fn end_call(rt: &HostRuntime, ended: Result<bool, DeskFault>) -> u8 {
     end(&mut Counted::new(rt.stderr()), ended)
 }
 
-/// Ends a call by a run's fault.
+/// Ends a call with a run's fault.
 pub fn faulted(rt: &HostRuntime, fault: RunFault) -> u8 {
     end_call(rt, Err(DeskFault::Run(fault)))
 }
 
-/// Runs a line over a station in memory. Lines of a stock list are buffered while another row is at
-/// hand; all other output is written before the next input acts.
+/// Runs a command line over a station in memory. Lines of a stock list are buffered while another
+/// row is at hand; all other output is written before the next input acts.
 fn run_keeper<K: Keeper, R: Read + Drop>(
     rt: &HostRuntime,
     line: &Line<'_>,
@@ -64,7 +64,7 @@ fn run_keeper<K: Keeper, R: Read + Drop>(
     status
 }
 
-/// Does a line's task over a new station in memory.
+/// Does a command line's task over a new station in memory.
 fn run_in_memory<R: Read + Drop>(rt: &HostRuntime, line: &Line<'_>, task: Task<'_, R>) -> u8 {
     let alloc = rt.alloc();
     let state = MapState::new(alloc, airport_of_line(line));
@@ -75,8 +75,7 @@ fn run_in_memory<R: Read + Drop>(rt: &HostRuntime, line: &Line<'_>, task: Task<'
     }
 }
 
-/// Tells that the tables of a line's file are declared otherwise, where the line ran over such a
-/// file, and returns the exit status.
+/// Warns if the tables of the file are declared differently, and returns the exit status.
 fn end_file<D: Disk>(rt: &HostRuntime, line: &Line<'_>, ended: &FileEnd<D>) -> u8 {
     if ended.status <= 1 && !ended.is_declared && !is_opening(line) {
         tell_undeclared(rt, line);
@@ -84,7 +83,7 @@ fn end_file<D: Disk>(rt: &HostRuntime, line: &Line<'_>, ended: &FileEnd<D>) -> u
     ended.status
 }
 
-/// Does a line's task over a connection to a file, which is closed behind it. Each answer is
+/// Does a command line's task over a connection to a file, and closes the file. Each answer is
 /// written before the next input acts.
 fn run_whole<D: Disk + Drop, R: Read + Drop>(
     rt: &HostRuntime,
@@ -108,7 +107,7 @@ fn run_whole<D: Disk + Drop, R: Read + Drop>(
     }
 }
 
-/// As `run_whole`, over a connection that shows the tables and indexes that `init` makes.
+/// The same as `run_whole`, over a connection that shows the tables and indexes that `init` makes.
 fn run_beside<D: Disk + Drop, R: Read + Drop>(
     rt: &HostRuntime,
     line: &Line<'_>,
@@ -131,7 +130,7 @@ fn run_beside<D: Disk + Drop, R: Read + Drop>(
     }
 }
 
-/// Does a line's task over a file.
+/// Does a command line's task over a file.
 fn run_in_file<R: Read + Drop>(
     rt: &HostRuntime,
     line: &Line<'_>,
@@ -154,7 +153,7 @@ fn run_in_file<R: Read + Drop>(
     }
 }
 
-/// Does a line's task over its station.
+/// Does a command line's task over its station.
 pub fn run_over<R: Read + Drop>(rt: &HostRuntime, line: &Line<'_>, task: Task<'_, R>) -> u8 {
     match line.db {
         Some(path) => run_in_file(rt, line, path, task),

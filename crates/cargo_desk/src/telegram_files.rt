@@ -1,4 +1,4 @@
-//! The files of the telegrams that a call takes.
+//! The telegram files of a call.
 
 use cli_run::Turns;
 use std::alloc::{AllocError, Global};
@@ -7,7 +7,7 @@ use std::fs::File;
 use std::io;
 use std::io::Read;
 
-/// The paths of files, each a text of its own.
+/// Returns copies of paths.
 pub fn owned_paths(alloc: Global, paths: &[&str]) -> Result<Vec<String>, AllocError> {
     let mut owned = Vec::new(alloc);
     for path in paths {
@@ -16,27 +16,27 @@ pub fn owned_paths(alloc: Global, paths: &[&str]) -> Result<Vec<String>, AllocEr
     Ok(owned)
 }
 
-/// Why a file wasn't opened or read, and which one.
+/// The reason why a file wasn't opened or read, and its index.
 #[derive(Drop)]
 pub struct Unread {
     place: usize,
     error: io::Error,
 }
 
-/// The files of telegrams, each read in its turn. A file is opened when it is read first.
+/// The files of telegrams, read one after another. A file is opened at its first read.
 #[derive(Drop)]
 pub struct Telegrams<'a> {
     rt: &'a HostRuntime,
     paths: &'a [String],
     turns: &'a Turns,
     unread: &'a RefCell<Option<Unread>>,
-    /// How many files were opened; the last of them is open.
+    /// The number of files opened; the last of them is open.
     opened: usize,
     file: File,
 }
 
 impl<'a> Telegrams<'a> {
-    /// The files of these paths, of which the first is open.
+    /// Returns the files with these paths, of which the first is open.
     pub fn new(
         rt: &'a HostRuntime,
         paths: &'a [String],
@@ -54,7 +54,7 @@ impl<'a> Telegrams<'a> {
         }
     }
 
-    /// Remembers why the file at a place wasn't opened or read.
+    /// Records why the file at an index wasn't opened or read.
     fn fail(&self, place: usize, error: io::Error) -> io::Error {
         if let Ok(mut unread) = self.unread.try_borrow_mut() {
             *unread = Some(Unread { place, error });
@@ -62,7 +62,7 @@ impl<'a> Telegrams<'a> {
         io::ErrorKind::Other.into()
     }
 
-    /// Opens the next file, where its turn has come.
+    /// Opens the next file, if its turn has come.
     fn open_next(&mut self) -> io::Result<()> {
         let turn = self.turns.begun();
         if turn <= self.opened {
@@ -94,7 +94,7 @@ impl Read for Telegrams<'_> {
     }
 }
 
-/// Tells why a file wasn't opened or read, after the line of its fault.
+/// Writes the reason why a file wasn't opened or read, after the line of its fault.
 pub fn tell_unread(rt: &HostRuntime, paths: &[String], unread: &RefCell<Option<Unread>>) {
     let Ok(unread) = unread.try_borrow() else {
         return;

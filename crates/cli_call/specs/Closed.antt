@@ -21,15 +21,15 @@ use Rattle.station_core.specs.Keeping.{Keeping}
 use Rattle.cli_run.specs.Ends.{Ends, Reached}
 use Rattle.cli_call.specs.Ran.{HasCalled}
 
--- The last commit is in the database file, now and after a crash: as the library reads it, and as
--- the list of its trees does.
+-- The last commit is in the database file, now and after a crash, read by the library and by the
+-- list of its trees.
 abbrev pub IsCopiedTwice : {D : Type 0} {g : Ghosts D} → Held (FileStore D g) → Files D → Type 0
 IsCopiedTwice conn files = IsCopied conn files × IsCopiedByList conn files
 
--- A call that ended with this status closed its file. Behind a fault the log stays, and nothing is
--- reported again. Otherwise the files are as they are copied, if the disk returned what was
--- written, or the store's fault is reported. Where the files aren't copied, what a crash may leave
--- of their store is what it could leave before.
+-- A call with this status closed its file. After a fault the log stays, and nothing more is
+-- reported. Otherwise the log is copied into the database file, if the disk is clean, or the
+-- store's fault is reported. If it isn't copied, the crash states of the store are those from
+-- before.
 pub record HasClosed {D E : Type 0} (g : Ghosts D) (IsCopiedTo : Files D → Type 0)
     (IsLeft : FileStore D g → Type 0) (told : E → Given) (old new : ℕ × E)
     (files : Result (Files D) (FileStore D g)) : Type 0 where
@@ -40,7 +40,7 @@ pub record HasClosed {D E : Type 0} (g : Ghosts D) (IsCopiedTo : Files D → Typ
   pub failed : old.0 ≤ 1 → OnErr files
       ((new.0 ≡ 3) × HasTold (fault.Run run.Store) (told old.1) (told new.1))
 
--- A line's call over a file: it ran over the connection, whose file was closed behind it.
+-- The effect of a command line over a file: it ran over the connection, whose file was then closed.
 pub record HasCalledFile {D S I W E : Type 0} {disk : Ghosts D} {g : trees.Ghosts S}
     (Closes : Held S → ℕ × E → ℕ × E → Result (Files D) (FileStore D disk) → Type 0) (line : Line)
     (k : Keeping (Station S g)) (e : Ends I W E) (at : LocalMinute) (conn : Held S)

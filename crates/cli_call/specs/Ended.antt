@@ -1,4 +1,4 @@
--- How a call of the program ends.
+-- The exit status of a call, and its fault line.
 use Rattle.std.specs.Prelude.{◌≡◌, ℕ, Bool, true, false, List, ◌++◌, codes, Result, Ok, Err, IfErr, OnOk}
 use Rattle.std.specs.Fmt.{signed_decimal}
 use Rattle.table_audits.specs.Names.{name_text}
@@ -12,14 +12,13 @@ use Rattle.cli_call.specs.declared.ended.DeskFault.{DeskFault}
 use Rattle.cli_call.specs.declared.ended.DeskFault.TheVariants as fault
 use Rattle.cli_run.specs.Ends.{Reached}
 
--- the line on standard error, of a run
 abbrev pub run_line : RunFault → List ℕ
 run_line run.Read = codes "fault read\n"
 run_line run.Write = codes "fault write\n"
 run_line run.Memory = codes "fault memory\n"
 run_line run.Store = codes "fault store\n"
 
--- where there is no station
+-- the line if there is no station
 abbrev pub attach_line : AttachFault → List ℕ
 attach_line (attach.Unlawful table) = codes "fault 601 " ++ name_text table ++ codes "\n"
 attach_line attach.NoStation = codes "fault 602\n"
@@ -28,44 +27,42 @@ attach_line attach.Occupied = codes "fault 604\n"
 attach_line attach.Store = codes "fault store\n"
 attach_line attach.Memory = codes "fault memory\n"
 
--- the same, of any fault
 abbrev pub fault_line : DeskFault → List ℕ
 fault_line fault.Clock = codes "fault clock\n"
 fault_line (fault.Run e) = run_line e
 fault_line (fault.Attach e) = attach_line e
 
--- its line went out; or a beginning of it, where the writer failed or took no byte
+-- its line was written; or a prefix, and the writer failed or wrote 0 bytes
 abbrev pub HasTold : DeskFault → Given → Given → Type 0
 HasTold e old new = SendsLine (fault_line e) old new
 
--- how a call ends where its run does
 abbrev pub run_ended : Result Bool RunFault → Result Bool DeskFault
 run_ended (Ok good) = Ok good
 run_ended (Err e) = Err (fault.Run e)
 
--- the exit status where there is no station: the store failed or memory ran out, or the file has
+-- the exit status without a station: 3 if the store failed or memory ran out, 4 if the file has
 -- none
 abbrev pub attach_status : AttachFault → ℕ
 attach_status attach.Store = 3
 attach_status attach.Memory = 3
 attach_status _ = 4
 
--- the exit status: all was accepted, something wasn't, the call ended before its end, or there was
--- no station
+-- the exit status: everything was accepted, something wasn't, the call broke off, or there was no
+-- station
 abbrev pub status_of : Result Bool DeskFault → ℕ
 status_of (Ok true) = 0
 status_of (Ok false) = 1
 status_of (Err (fault.Attach e)) = attach_status e
 status_of (Err e) = 3
 
--- how a run that was reported has ended: its status, and the line of its fault where it stopped
+-- the reported end of a run: its status, and the line of its fault if it stopped
 pub record HasToldEnd {E : Type 0} (taken : E → Given) (ended : Result Bool RunFault) (errors_old errors_new : E) (status : ℕ) : Type 0 where
   pub status_is : status ≡ status_of (run_ended ended)
   pub told : IfErr ended (λ e. HasTold (fault.Run e) (taken errors_old) (taken errors_new))
   pub silent : OnOk ended (errors_new ≡ errors_old)
 
 -- There is no station, and the fault is reported. Nothing was read or printed, and the connection
--- comes back as it came with the fault.
+-- is returned as it came with the fault.
 pub record HasNoStation {C I W E : Type 0} (told : E → Given) (none : C × AttachFault) (old new : Reached I W E) (result : ℕ × C) : Type 0 where
   pub unread : new.reader ≡ old.reader
   pub unprinted : new.output ≡ old.output

@@ -1,4 +1,4 @@
--- Calls of the program over one file, one behind another.
+-- Calls of the program over one file, one after another.
 use Rattle.std.specs.Prelude.{◌≤◌, ◌≡◌, ℕ, zero, suc, Bool, true, false, IsTrue, Result, Ok, Err, Some, None, length, List, [], ◌∷◌, ◌++◌}
 use Rattle.std.specs.List.{AllByRecursion}
 use Rattle.sqlite.specs.Files.{file_state, image_of, over_files, Finds, IsClosed}
@@ -29,20 +29,19 @@ use Rattle.cli_call.specs.declared.closing.FileEnd.{FileEnd}
 use Rattle.cli_call.specs.Closed.{HasCalledFile, HasClosed, IsCopiedTwice}
 
 module _ {D : Type 0} {disk : Ghosts D} where
-  -- so far the disk has returned what was written; a store that wasn't copied was opened by the
-  -- list of its trees
+  -- the disk is clean; a store whose log wasn't copied was opened by the list of its trees
   abbrev pub was_true : Result (Files D) (FileStore D disk) → Type 0
   was_true (Ok files) = AreClean disk files.log files.db
   was_true (Err it) = IsClean (store.view it) × IsTrue (store.view it).is_numbered
 
-  -- what the files may hold behind a call, whether or not the power fails then
+  -- the possible contents of the files after a call, whether or not the power fails then
   abbrev pub may_hold : Result (Files D) (FileStore D disk) → Image → Type 0
   may_hold (Ok files) image = outcomes disk files.log files.db image
   may_hold (Err it) image = (store.state it).may_leave image
 
 module _ {D I W E : Type 0} {disk : Ghosts D} where
-  -- A call of the program: it opened two files, ran a line over them, and closed them. Any fault may
-  -- have ended it.
+  -- A call of the program: it opened two files, ran a command line over them, and closed them. Any
+  -- fault may have ended it.
   pub record CallOn (k : Keeping (Station (FileStore D disk) over_files)) (e : Ends I W E) : Type 0 where
     pub files : Files D
     pub conn : Held (FileStore D disk)
@@ -57,18 +56,18 @@ module _ {D I W E : Type 0} {disk : Ghosts D} where
     pub runs : is_migration line.command ≡ false
     pub old : is_new line.db line.command ≡ false
 
-  -- what its opening came to
+  -- the result of its opening
   abbrev pub opened_by : {k : Keeping (Station (FileStore D disk) over_files)} {e : Ends I W E} → CallOn k e
       → Result (Station (FileStore D disk) over_files) (Held (FileStore D disk) × AttachFault)
   opened_by call = (call.has.called.called call.runs).opened
 
-  -- one that found a station, and ran its command there
+  -- a call that found a station, and ran its command there
   pub record RunOn (k : Keeping (Station (FileStore D disk) over_files)) (e : Ends I W E) : Type 0 where
     pub call : CallOn k e
     pub station : Station (FileStore D disk) over_files
     pub found : opened_by call ≡ Ok station
 
-  -- one that found none, or whose opening was stopped by a fault
+  -- a vain call: it found no station, or a fault stopped its opening
   pub record VainOn (k : Keeping (Station (FileStore D disk) over_files)) (e : Ends I W E) : Type 0 where
     pub call : CallOn k e
     pub none : Held (FileStore D disk) × AttachFault
@@ -82,7 +81,7 @@ module _ {D I W E : Type 0} {disk : Ghosts D} where
     AreVain end (vain ∷ more) image =
         may_hold end (image_of disk vain.call.files) × was_true vain.call.end.files × AreVain vain.call.end.files more image
 
-    -- Calls over one file, each behind some vain ones. Each finds in the files what the one before
+    -- Calls over one file, each after some vain ones. Each finds in the files what the one before
     -- it may have left there: nobody else wrote to them.
     abbrev pub AreCallsOn : RunOn k e → List (List (VainOn k e) × RunOn k e) → Type 0
     AreCallsOn c [] = was_true c.call.end.files
@@ -92,19 +91,20 @@ module _ {D I W E : Type 0} {disk : Ghosts D} where
     last_of c [] = c
     last_of c (d ∷ ds) = last_of d.1 ds
 
-    -- What a life was given, its call's command asked. A call that ended well answered all of it.
+    -- The inputs of a life are those of its call's command. A call that succeeded answered all of
+    -- them.
     pub record IsLifeOf (c : RunOn k e) (life : Life) : Type 0 where
       pub asked : AllByRecursion (AsksAt c.call.line.command c.call.at) life.inputs
       pub whole : c.call.end.status ≤ 1 → (life.answered ≡ length life.inputs) × (life.ended ≡ None)
 
-    -- the lives of the calls but the last one
+    -- the lives of the calls except the last one
     abbrev pub AreLivesOf : RunOn k e → List (List (VainOn k e) × RunOn k e) → List Life → Type 0
     AreLivesOf c (d ∷ ds) (life ∷ lives) = IsLifeOf c life × AreLivesOf d.1 ds lives
     AreLivesOf c [] [] = Unit {0}
     AreLivesOf _ _ _ = ⊥
 
--- What a caller sees of a life that answered so many inputs, and of a next opening; `more` says
--- that one more was cut off behind its commit.
+-- The events of a life that answered this many inputs, and of the next opening; `more` means that
+-- one more was cut off after its commit.
 abbrev pub life_events : ℕ → Bool → List (Input × LocalMinute) → List RetryEvent
 life_events zero false inputs = reopened ∷ []
 life_events zero true [] = reopened ∷ []
@@ -112,15 +112,15 @@ life_events zero true (one ∷ more) = cut_after one.0 one.1 ∷ reopened ∷ []
 life_events (suc n) cut [] = reopened ∷ []
 life_events (suc n) cut (one ∷ more) = sent one.0 one.1 ∷ life_events n cut more
 
--- one is cut off only where the life ended by its store
+-- an input is cut off only if the life ended with a fault of its store
 abbrev pub AreEventsOf : List Life → List RetryEvent → Type 0
 AreEventsOf [] events = events ≡ []
 AreEventsOf (life ∷ lives) events =
     (cut : Bool) × ((rest : List RetryEvent) × (cut ≡ true → life.ended ≡ Some fault.Store)
     × (events ≡ life_events life.answered cut life.inputs ++ rest) × AreEventsOf lives rest)
 
--- The last opening of some calls found a state: after every input that was answered and, for each
--- call whose store failed, at most one more. It is lawful and conserves what was taken over, and
+-- The last opening after some calls found a state: after every input that was answered and, for
+-- each call whose store failed, at most one more. It is lawful and conserves what was received, and
 -- each accepted input acted once.
 pub record IsAfterCalls (first : State) (lives : List Life) (last : State) : Type 0 where
   pub after : IsAfterLives first lives last
@@ -129,7 +129,7 @@ pub record IsAfterCalls (first : State) (lives : List Life) (last : State) : Typ
   pub once : ActsOnce first events
   pub state : last ≡ after_all first (committed (started first) events)
 
--- the state that the station of the last call keeps, and the lives before it
+-- the state of the last call's station, and the lives before it
 pub record HaveLed {D I W E : Type 0} {disk : Ghosts D} {k : Keeping (Station (FileStore D disk) over_files)}
     {e : Ends I W E} (first : State) (c : RunOn k e) (calls : List (List (VainOn k e) × RunOn k e)) : Type 0 where
   pub last : State

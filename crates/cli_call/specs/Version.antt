@@ -1,10 +1,10 @@
--- What `--version` tells.
+-- The output of `--version`.
 use Rattle.std.specs.Prelude.{ℕ, List, [], ◌++◌, codes}
 use Rattle.std.specs.Fmt.{signed_decimal}
 use Rattle.station_schema.specs.Calls.{new_station}
 use Rattle.cli_words.specs.Version.{program_version}
 
--- the program, its version, and the version that a new station's file has
+-- the program, its version, and the version of a new station's file
 abbrev pub version_line : List ℕ
 version_line =
     codes "cargo_desk " ++ program_version ++ codes ", files of version "

@@ -1,4 +1,4 @@
-//! A call over a file, from its command to the end of its file.
+//! A call over a file, from its command to closing the file.
 ghost use Rattle.cli_call.specs.Closed.{HasCalledFile, HasClosed, IsCopiedTwice};
 ghost use Rattle.sqlite.specs.Files.{IsClosed};
 ghost use Rattle.station_core.specs.Keeping.{keeping};
@@ -19,21 +19,21 @@ use std::alloc::Global;
 use std::io::Read;
 use stock_list::RunFault;
 
-/// How a call over a file ended.
+/// The end of a call over a file.
 #[derive(Drop)]
 pub struct FileEnd<D: Disk> {
     /// The exit status.
     pub status: u8,
-    /// Whether the file's tables are declared as `init` declares them.
+    /// True if the file's tables are declared as `init` declares them.
     pub is_declared: bool,
-    /// The closed files, with the log copied into the database file; or their store, where a fault
-    /// stopped the call, or the log couldn't be copied.
+    /// The closed files, with the log copied into the database file; or their store, if a fault
+    /// stopped the call or the log couldn't be copied.
     pub files: Result<Files<D>, FileStore<D>>,
 }
 
-/// Ends a call over a file that ended with this status. Behind a run that no fault stopped, the
-/// log is copied into the database file, and the files are given back. Behind any other, the log
-/// stays: the store is given back, and the next opening reads the log.
+/// Ends a call over a file that has this exit status. After a run without a fault, the log is
+/// copied into the database file, and the files are returned. After any other run the log stays:
+/// the store is returned, and the next opening reads the log.
 ///
 /// Returns status 3 and the store, and reports the fault on `errors`, if the log can't be copied.
 pub fn close_file<D: Disk + Drop, E: ByteOut>(
@@ -56,8 +56,8 @@ pub fn close_file<D: Disk + Drop, E: ByteOut>(
     }
 }
 
-/// Runs a line over a connection to a file, at a moment, and closes the file: every command but
-/// `serve`. It is one `run_line` and one `close_file`.
+/// Runs a command line over a connection to a file, at a moment, and closes the file: every command
+/// except `serve`. It calls `run_line` and then `close_file`.
 pub fn run_file<D: Disk + Drop, I: Inputs + Read, W: ByteOut, E: ByteOut>(
     alloc: Global,
     line: &Line<'_>,

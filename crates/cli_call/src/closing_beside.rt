@@ -22,7 +22,7 @@ use std::alloc::Global;
 use std::io::Read;
 use stock_list::RunFault;
 
-/// As `close_file`, of a file of which only the trees of a list are shown.
+/// Closes like `close_file`, for a file of which only the trees of a list are shown.
 pub fn close_file_beside<D: Disk + Drop, E: ByteOut>(
     conn: Connection<OwnTrees<FileStore<D>>>,
     status: u8,
@@ -45,7 +45,7 @@ pub fn close_file_beside<D: Disk + Drop, E: ByteOut>(
     }
 }
 
-/// As `run_file`, over a file of which only the trees of a list are shown.
+/// Runs like `run_file`, over a file of which only the trees of a list are shown.
 pub fn run_file_beside<D: Disk + Drop, I: Inputs + Read, W: ByteOut, E: ByteOut>(
     alloc: Global,
     line: &Line<'_>,

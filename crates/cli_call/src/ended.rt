@@ -1,4 +1,4 @@
-//! How a call ends.
+//! The exit status of a call, and its fault line.
 ghost use Rattle.std.specs.Prelude.{◌≡◌, ◌++◌, ◌∷◌, [], IfErr, OnOk};
 ghost use Rattle.cli_call.specs.Ended.{attach_status, run_ended, run_line, status_of, HasNoStation, HasTold, HasToldEnd};
 ghost use Rattle.cli_run.specs.Ends.{reached};
@@ -11,18 +11,17 @@ use station_core::ByteOut;
 use station_tables::AttachFault;
 use stock_list::RunFault;
 
-/// Why a call ends before its end.
+/// The reason why a call broke off.
 #[derive(Clone, Copy, Debug, PartialEq, Eq)]
 pub enum DeskFault {
     /// The clock can't be read, or shows a day before 2000-01-01 or after 2099-12-31.
     Clock,
-    /// The run's.
+    /// The fault of the run.
     Run(RunFault),
     /// There is no station to run on.
     Attach(AttachFault),
 }
 
-/// How a call ends where its run does.
 fn run_ended(ended: Result<bool, RunFault>) -> Result<bool, DeskFault>
     ensures { result ≡ run_ended ended }
 {
@@ -32,7 +31,6 @@ fn run_ended(ended: Result<bool, RunFault>) -> Result<bool, DeskFault>
     }
 }
 
-/// The line of a run's fault.
 fn run_line(fault: RunFault) -> &'static str
     ensures { result.now ≡ run_line fault }
 {
@@ -44,8 +42,7 @@ fn run_line(fault: RunFault) -> &'static str
     }
 }
 
-/// Writes a line: all of it, or as much as the writer takes before it fails. There is nowhere left
-/// to report that failure.
+/// Writes a line, or as much of it as the writer takes. A failure can't be reported anywhere.
 fn tell_line<E: ByteOut>(errors: &mut E, line: &str)
     ensures { SendsLine line.now (E.taken errors.old) (E.taken errors.new) }
 {
@@ -55,7 +52,7 @@ fn tell_line<E: ByteOut>(errors: &mut E, line: &str)
     }
 }
 
-/// Writes a line of a head and a word: all of it, or as much as the writer takes before it fails.
+/// Writes a line of a head and a word in the same way.
 fn tell_word<E: ByteOut>(errors: &mut E, head: &str, word: &str)
     ensures { SendsLine (head.now ++ word.now ++ 10 ∷ []) (E.taken errors.old)
         (E.taken errors.new) }
@@ -66,7 +63,7 @@ fn tell_word<E: ByteOut>(errors: &mut E, head: &str, word: &str)
     }
 }
 
-/// Tells why there is no station.
+/// Writes the reason why there is no station.
 fn tell_attach<E: ByteOut>(errors: &mut E, fault: AttachFault)
     ensures { HasTold (DeskFault.Attach fault) (E.taken errors.old) (E.taken errors.new) }
 {
@@ -82,7 +79,7 @@ fn tell_attach<E: ByteOut>(errors: &mut E, fault: AttachFault)
     }
 }
 
-/// Tells a fault: its line goes out, or a beginning of it.
+/// Writes the line of a fault, or a prefix.
 fn tell<E: ByteOut>(errors: &mut E, fault: DeskFault)
     ensures { HasTold fault (E.taken errors.old) (E.taken errors.new) }
 {
@@ -93,8 +90,6 @@ fn tell<E: ByteOut>(errors: &mut E, fault: DeskFault)
     }
 }
 
-/// The exit status where there is no station. 3: the store failed, or memory ran out; 4: the file
-/// has none.
 fn attach_status(fault: AttachFault) -> u8
     ensures { result ≡ attach_status fault }
 {
@@ -104,8 +99,6 @@ fn attach_status(fault: AttachFault) -> u8
     }
 }
 
-/// The exit status of a call. 0: all was accepted; 1: something wasn't; 3: it ended before its end;
-/// 4: the file has no station for it.
 fn status_of(ended: Result<bool, DeskFault>) -> u8
     ensures { result ≡ status_of ended }
 {
@@ -117,7 +110,7 @@ fn status_of(ended: Result<bool, DeskFault>) -> u8
     }
 }
 
-/// Ends a call: its fault is reported, and the status is returned.
+/// Ends a call: reports its fault, and returns the exit status.
 pub fn end<E: ByteOut>(errors: &mut E, ended: Result<bool, DeskFault>) -> u8
     ensures status { result ≡ status_of ended }
     ensures told { IfErr ended (λ fault. HasTold fault (E.taken errors.old) (E.taken errors.new)) }
@@ -136,7 +129,7 @@ pub(crate) fn end_run<E: ByteOut>(errors: &mut E, ended: Result<bool, RunFault>)
     end(errors, run_ended(ended))
 }
 
-/// Tells why there is no station, and gives the connection back.
+/// Writes the reason why there is no station, and returns the connection.
 pub(crate) fn refuse_line<S: Alter, I, W, E: ByteOut>(
     _reader: &mut I,
     _output: &mut W,

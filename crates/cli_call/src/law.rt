@@ -1,4 +1,4 @@
-//! What holds of the calls of the program over one file.
+//! Laws about the calls of the program over one file.
 ghost use Rattle.std.specs.Prelude.{List};
 ghost use Rattle.station_core.specs.Keeping.{keeping};
 ghost use Rattle.station_core.specs.Step.{State, IsLawfulState};
@@ -13,10 +13,10 @@ use station_core::{ByteOut, Keeper};
 use station_tables::{Station, next_call_law};
 use std::io::Read;
 
-/// Any number of calls over one file, vain ones among them, each of which finds in the files what
-/// the one before it may have left there: the last one's station goes on from the state after every input that was
-/// answered and, for each call whose store failed, at most one more. There the pieces and the
-/// tenths are conserved, and each accepted input acted once.
+/// After any number of calls over one file, including vain ones, each of which finds in the files
+/// what the one before it may have left there, the last call's station has the state after every
+/// input that was answered and, for each call whose store failed, perhaps one more. There the
+/// pieces and the tenths are conserved, and each accepted input acted once.
 pub fn calls_over_file_law<D: Disk + Drop, I: Inputs + Read, W: ByteOut, E: ByteOut>()
     ensures { (first : State) (run : RunOn (keeping ⟦<Station<FileStore<D>> as Keeper>⟧.keeps
         ⟦<Station<FileStore<D>> as Keeper>⟧.is_clean

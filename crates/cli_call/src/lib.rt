@@ -1,5 +1,5 @@
-//! A call of the program: its station is opened over a connection, its command runs, its end is
-//! reported, and the file is closed.
+//! A call of the program: it opens a station over a connection, runs its command, reports its end,
+//! and closes the file.
 #![tactic(auto)]
 
 mod closing;

@@ -1,4 +1,4 @@
-//! The migration of a file.
+//! The upgrade of a file.
 ghost use Rattle.cli_run.specs.Ends.{reached};
 ghost use Rattle.cli_call.specs.Migrated.{HasEndedMigration, HasMigrated, HasToldMoved, HasToldVersion};
 
@@ -20,7 +20,7 @@ fn tell_version<W: ByteOut>(output: &mut W) -> Result<bool, RunFault>
     }
 }
 
-/// Tells that the tables are those of version 2, and gives the connection back.
+/// Writes that the tables are of version 2, and returns the connection.
 fn tell_moved<S: Alter, I, W: ByteOut, E: ByteOut>(
     conn: Connection<S>,
     _reader: &mut I,
@@ -35,7 +35,7 @@ fn tell_moved<S: Alter, I, W: ByteOut, E: ByteOut>(
     (status, conn)
 }
 
-/// Tells what the migration of a connection came to, and gives the connection back.
+/// Writes the outcome of an upgrade, and returns the connection.
 fn end_migration<S: Alter, I, W: ByteOut, E: ByteOut>(
     migrated: Result<Connection<S>, (Connection<S>, AttachFault)>,
     reader: &mut I,
@@ -51,9 +51,8 @@ fn end_migration<S: Alter, I, W: ByteOut, E: ByteOut>(
     }
 }
 
-/// `migrate`: makes the tables of version 1 that a connection has those of version 2, and prints
-/// `ok 2` behind that, or reports why it didn't. It returns the exit status and the connection;
-/// nothing is read.
+/// Runs `migrate`: upgrades the tables of a connection from version 1 to version 2, and then prints
+/// `ok 2`, or reports the fault. Returns the exit status and the connection. Nothing is read.
 pub(crate) fn run_migrate<S: Alter, I, W: ByteOut, E: ByteOut>(
     alloc: Global,
     conn: Connection<S>,

@@ -1,4 +1,4 @@
-//! A line over a connection, or over a keeper that has none.
+//! Running a command line over a connection, or over a keeper without one.
 ghost use Rattle.station_core.specs.Keeping.{keeping};
 ghost use Rattle.cli_run.specs.Ends.{ends, reached};
 ghost use Rattle.station_core.specs.Gathered.{taken_of};
@@ -17,10 +17,10 @@ use std::alloc::Global;
 use std::io::Read;
 use stock_list::{RunFault, Watched};
 
-/// Runs a line's command over a keeper, at a moment: every command but `migrate` and `serve`. It
-/// returns the exit status.
+/// Runs the command of a command line over a keeper, at a moment: every command except `migrate`
+/// and `serve`. Returns the exit status.
 ///
-/// A fault is reported on `errors`, behind why a row, a telegram or a body can't be read: status 3.
+/// A fault is reported on `errors`, after the reasons why inputs can't be read, with status 3.
 pub fn run_kept<K: Keeper, I: Inputs + Read, W: ByteOut, E: ByteOut>(
     alloc: Global,
     line: &Line<'_>,
@@ -40,9 +40,8 @@ pub fn run_kept<K: Keeper, I: Inputs + Read, W: ByteOut, E: ByteOut>(
     end_run(errors, ended)
 }
 
-/// Flushes the output of a run that has ended, if the output hasn't failed in it, and returns the
-/// output and how the call ends: by [`RunFault::Write`] if the rest can't be written, and otherwise
-/// as the run did.
+/// Flushes the output after a run, unless the output failed in it. Returns the output and the
+/// result of the call: [`RunFault::Write`] if the rest can't be written, otherwise the run's.
 fn flush_output<W: ByteOut>(
     gathered: Gathered<W>,
     ran: Result<bool, RunFault>,
@@ -59,8 +58,8 @@ fn flush_output<W: ByteOut>(
     }
 }
 
-/// Runs a line's command over a keeper, as [`run_kept`] does, but buffers what the command writes
-/// while more of its input is at hand. The buffer is flushed before a fault is reported. It returns
+/// Runs the command of a command line over a keeper, like [`run_kept`], but buffers its output
+/// while more of its input is at hand. The buffer is flushed before a fault is reported. Returns
 /// the exit status and the output.
 pub fn run_gathered<K: Keeper, I: Inputs + Read, W: ByteOut, E: ByteOut>(
     alloc: Global,
@@ -83,8 +82,8 @@ pub fn run_gathered<K: Keeper, I: Inputs + Read, W: ByteOut, E: ByteOut>(
     (end_run(errors, ended), output)
 }
 
-/// Runs a line's command over its station, which tells why an input can't be read; reports how it
-/// ended, and gives the connection back.
+/// Runs the command of a command line over its station, reports its end, and returns the
+/// connection.
 fn run_station<S: Alter, I: Inputs + Read, W: ByteOut, E: ByteOut>(
     alloc: Global,
     line: &Line<'_>,
@@ -106,7 +105,7 @@ fn run_station<S: Alter, I: Inputs + Read, W: ByteOut, E: ByteOut>(
     (status, station.release())
 }
 
-/// Runs a line over its station, or reports why there is none.
+/// Runs a command line over its station, or reports why there is none.
 fn run_opened<S: Alter, I: Inputs + Read, W: ByteOut, E: ByteOut>(
     alloc: Global,
     line: &Line<'_>,
@@ -130,7 +129,8 @@ fn run_opened<S: Alter, I: Inputs + Read, W: ByteOut, E: ByteOut>(
     }
 }
 
-/// Runs a line's command over the station of a connection, or reports why there is none.
+/// Runs the command of a command line over the station of a connection, or reports why there is
+/// none.
 fn call_station<S: Alter, I: Inputs + Read, W: ByteOut, E: ByteOut>(
     alloc: Global,
     line: &Line<'_>,
@@ -152,12 +152,12 @@ fn call_station<S: Alter, I: Inputs + Read, W: ByteOut, E: ByteOut>(
     run_opened(alloc, line, opened, reader, output, errors, at)
 }
 
-/// Runs a line over a connection, at a moment: every command but `serve`. It returns the exit
-/// status and the connection.
+/// Runs a command line over a connection, at a moment: every command except `serve`. Returns the
+/// exit status and the connection.
 ///
-/// `migrate` makes the tables of version 1 that the connection has those of version 2, and prints
-/// `ok 2`. A fault is reported on `errors`, behind why a row, a telegram or a body can't be read:
-/// status 3, or 4 where the connection has no station for the line.
+/// `migrate` upgrades the tables from version 1 to version 2, and prints `ok 2`. A fault is
+/// reported on `errors`, after the reasons why inputs can't be read, with status 3, or 4 if the
+/// connection has no station for the line.
 pub fn run_line<S: Alter, I: Inputs + Read, W: ByteOut, E: ByteOut>(
     alloc: Global,
     line: &Line<'_>,

@@ -1,4 +1,4 @@
-//! What `--version` tells.
+//! The output of `--version`.
 ghost use Rattle.std.specs.Prelude.{◌≡◌, [], IfOk, pos, string_bytes};
 ghost use Rattle.station_schema.specs.Calls.{new_station};
 ghost use Rattle.cli_call.specs.Version.{version_line};
@@ -6,16 +6,14 @@ ghost use Rattle.cli_call.specs.Version.{version_line};
 use cli_words::program_version;
 use std::alloc::{AllocError, Global};
 
-/// The version of the files that the program makes and opens.
+/// Returns the version of the files that the program makes and opens.
 fn file_version() -> u32
     ensures { pos result ≡ (new_station []).version }
 {
     2
 }
 
-/// The line of `--version`: the program, its version, and the version of its files.
-///
-/// Returns [`AllocError`] when out of memory.
+/// Returns the line of `--version`: the program, its version, and the version of its files.
 pub fn version_line(alloc: Global) -> Result<String, AllocError>
     ensures { IfOk result (λ line. string_bytes line ≡ version_line) }
 {

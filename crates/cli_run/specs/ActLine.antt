@@ -1,4 +1,4 @@
--- What a line of `acts` asks.
+-- Requests in lines of `acts`.
 use Rattle.std.specs.Prelude.{◌≡◌, ◌≤◌, ℕ, ◌+◌, List, length, codes, Some, IsTrue, IsUtf8}
 use Rattle.serde_json.specs.Data.{Data, string}
 use Rattle.serde_json.specs.Find.{get}
@@ -28,7 +28,7 @@ pub record IsWired (d : Data) (text : List ℕ) : Type 0 where
   pub members : member_count d ≡ Some 1
   pub text_is : get (codes "telegram") d ≡ Some (string text)
 
--- the value of a line asks this: a command under its key, a telegram, or neither
+-- the request in the value of a line: a command under its key, a telegram, or neither
 abbrev pub Asks : List ℕ → Data → Asked → Type 0
 Asks line d (asked.Input (Keyed key command)) =
     (verb : Verb) × ((body : Data) × IsFrame d verb key body × IsBodyOf verb body command)
@@ -42,15 +42,15 @@ Asks line d (asked.BadLine same) =
     × ((text : List ℕ) → ¬ (IsWired d text))
 Asks line d (asked.Bad verb body) = ⊥
 
--- the most bytes of a line and its end: a body or a telegram, and 4,096 around it
+-- the largest length of a line and its end: a body or a telegram, and 4,096 bytes around it
 abbrev pub most_line : ℕ
 most_line = most_bytes + 4_096
 
--- a line of JSON writes this value, and isn't too long
+-- a line of JSON has this value, and isn't too long
 abbrev pub IsWritten : List ℕ → Data → Type 0
 IsWritten line d = (length line ≤ most_line) × IsUtf8 line × (read line ≡ Some d)
 
--- what a line asks, by the value that it writes
+-- the request in a line, from its value
 abbrev pub IsActAsked : List ℕ → Asked → Type 0
 IsActAsked line (asked.BadLine same) =
     (same.now ≡ line) × ((d : Data) → IsWritten line d → Asks line d (asked.BadLine same))

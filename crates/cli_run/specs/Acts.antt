@@ -1,4 +1,4 @@
--- What a line of `acts` leaves.
+-- The effect of a line of `acts`.
 use Rattle.std.specs.Prelude.{◌≡◌, ◌⊎◌, ◌||◌, ◌==◌, ℕ, Bool, true, false, Option, Some, Result, Ok, Err, OnOk, IfOk, IfErr, List}
 use Rattle.std.specs.List.{list_all}
 use Rattle.station_days.specs.Date.{LocalMinute}
@@ -16,7 +16,7 @@ use Rattle.cli_run.specs.Explained.{HasExplained}
 use Rattle.cli_run.specs.Shut.{IsAnsweredShut}
 use Rattle.cli_run.specs.InTurn.{Come}
 
--- it has no byte but those of a line's end
+-- the line has only the bytes of its end
 abbrev pub is_blank : List ℕ → Bool
 is_blank line = list_all (λ b. (b == 10) || (b == 13)) line
 
@@ -27,15 +27,15 @@ pub record HasSkipped {K E : Type 0} (line : List ℕ) (old new : Come K E)
   pub same : new ≡ old
   pub good : result ≡ Ok true
 
--- memory ran out before the line was understood: nothing was done or written
+-- memory ran out before the line was read: nothing was done or written
 pub record HasNotHeard {K E : Type 0} (old new : Come K E) (result : Result Bool RunFault) : Type 0 where
   pub same : new ≡ old
   pub why : result ≡ Err fault.Memory
 
--- What is asked was done and answered by a line of this number, or the run stopped there. The
--- writer is named exactly where it failed or took no byte, and the store exactly where the station
--- has to be opened again. At any fault but the writer's nothing was written. A station that has to
--- be opened again is asked nothing. Why it can't be read went to the errors.
+-- The request was done and answered by the line with this number, or the run stopped there. It
+-- returns the writer's fault exactly if the writer failed or wrote 0 bytes, and the store's exactly
+-- if the station must be opened again. After any fault except the writer's nothing was written. A
+-- broken station isn't called. If the line can't be read, the reason was written to the errors.
 pub record HasAnswered {K E : Type 0} (k : Keeping K) (at : LocalMinute) (taken : E → Given)
     (number : Option ℕ) (asks : Asked) (old new : Come K E) (result : Result Bool RunFault) : Type 0 where
   pub answered : (s : State) → k.keeps old.keeper s → k.is_broken old.keeper ≡ false
@@ -57,7 +57,7 @@ pub record HasAnswered {K E : Type 0} (k : Keeping K) (at : LocalMinute) (taken 
   pub reopen : k.is_broken old.keeper ≡ true → IsAnsweredShut number asks old.sent new.sent result
   pub explained : HasExplained number k asks at taken old new result
 
--- the line asks this, and it was answered
+-- the line has this request, which was answered
 pub record HasHeard {K E : Type 0} (k : Keeping K) (at : LocalMinute) (taken : E → Given) (number : ℕ)
     (line : List ℕ) (old new : Come K E) (result : Result Bool RunFault) : Type 0 where
   pub asks : Asked
@@ -65,7 +65,7 @@ pub record HasHeard {K E : Type 0} (k : Keeping K) (at : LocalMinute) (taken : E
   pub asked : IsActAsked line asks
   pub answer : HasAnswered k at taken (Some number) asks old new result
 
--- A line of this number was answered. An empty line is skipped.
+-- The line with this number was answered. An empty line is skipped.
 abbrev pub HasAnsweredLine : {K E : Type 0} → Keeping K → LocalMinute → (E → Given) → ℕ → List ℕ
     → Come K E → Come K E → Result Bool RunFault → Type 0
 HasAnsweredLine k at taken number line old new result =

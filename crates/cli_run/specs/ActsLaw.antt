@@ -1,4 +1,4 @@
--- What the answered lines of `acts` make together: a run of the station over what they ask.
+-- The answered lines of `acts` together: a run of the station over their requests.
 use Rattle.std.specs.Prelude.{◌≡◌, ◌⊎◌, ℕ, ◌+◌, Bool, true, false, ◌&&◌, Some, List, [], ◌∷◌, ◌++◌}
 use Rattle.station_days.specs.Date.{LocalMinute}
 use Rattle.station_core.specs.Step.{State}
@@ -7,8 +7,8 @@ use Rattle.cli_run.specs.Acts.{is_blank}
 use Rattle.cli_run.specs.Asked.{asked_after, asked_good, asked_line}
 use Rattle.cli_run.specs.declared.asked.Asked.{Asked}
 
--- What lines ask, each with the line's number; the first line has this number. An empty line asks
--- nothing.
+-- The requests of lines, each with the line's number; the first line has `number`. An empty line
+-- has no request.
 abbrev pub AreAsked : ℕ → List (List ℕ) → List (ℕ × Asked) → Type 0
 AreAsked number [] asked = asked ≡ []
 AreAsked number (line ∷ lines) asked =
@@ -16,23 +16,20 @@ AreAsked number (line ∷ lines) asked =
     ⊎ ((is_blank line ≡ false) × ((asks : Asked) × ((rest : List (ℕ × Asked)) × IsActAsked line asks
     × (asked ≡ (number, asks) ∷ rest) × AreAsked (number + 1) lines rest)))
 
--- the state after all of it was done, in order
 abbrev pub acts_after : State → List (ℕ × Asked) → LocalMinute → State
 acts_after s [] at = s
 acts_after s (one ∷ more) at = acts_after (asked_after s one.1 at) more at
 
--- the lines of the answers
 abbrev pub acts_lines : State → List (ℕ × Asked) → LocalMinute → List ℕ
 acts_lines s [] at = []
 acts_lines s (one ∷ more) at =
     asked_line (Some one.0) s one.1 at ++ acts_lines (asked_after s one.1 at) more at
 
--- whether each of them is good
 abbrev pub acts_good : State → List (ℕ × Asked) → LocalMinute → Bool
 acts_good s [] at = true
 acts_good s (one ∷ more) at = asked_good s one.1 at && acts_good (asked_after s one.1 at) more at
 
--- What the lines ask was done, in order, and answered.
+-- The requests of the lines were done in order, and answered.
 pub record HasRunActs (number : ℕ) (s : State) (at : LocalMinute) (lines : List (List ℕ))
     (before after : List ℕ) (keeps : State → Type 0) (good : Bool) : Type 0 where
   pub asked : List (ℕ × Asked)

@@ -1,4 +1,4 @@
--- What a command leaves that reads one input.
+-- The effect of a command that reads one input.
 use Rattle.std.specs.Prelude.{◌≡◌, ◌⊎◌, Bool, true, false, Result, Err, OnOk, IfErr, List, ℕ}
 use Rattle.station_days.specs.Date.{LocalMinute}
 use Rattle.station_core.specs.Given.{Given}
@@ -13,10 +13,10 @@ use Rattle.station_core.specs.Keeping.{Keeping}
 use Rattle.cli_run.specs.InTurn.{Come}
 use Rattle.cli_run.specs.Shut.{HasRunShut}
 
--- What the input asks was done and answered, or the run stopped there or before. A reader or a
--- writer is named exactly where it failed, and the store exactly where the station has to be opened
--- again. At any fault but the writer's nothing was written, and of an input that is too long only a
--- beginning is read. A station that has to be opened again is asked nothing.
+-- The request in the input was done and answered, or the run stopped there or before. It returns
+-- the fault of a reader or a writer exactly if that failed, and the store's exactly if the station
+-- must be opened again. After any fault except the writer's nothing was written, and only a prefix
+-- of an input that is too long is read. A broken station isn't called.
 pub record HasAnsweredAsked {K E : Type 0} (IsAsked : List ℕ → Asked → Type 0) (k : Keeping K)
     (at : LocalMinute) (old new : Come K E × Given) (result : Result Bool RunFault) : Type 0 where
   pub ran : (s : State) → k.keeps old.0.keeper s → k.is_broken old.0.keeper ≡ false

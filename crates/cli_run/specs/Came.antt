@@ -1,21 +1,20 @@
--- What has come of a command's input.
+-- The bytes received of a command's input.
 use Rattle.std.specs.Prelude.{◌≡◌, ◌⊎◌, ℕ, ◌+◌, ◌<◌, ◌≤◌, List, ◌++◌, length}
 use Rattle.imp_fields.specs.TextSize.{most_bytes}
 use Rattle.station_core.specs.Given.{Given}
 
--- the most bytes of one read
 abbrev pub most_read : ℕ
 most_read = 4_096
 
--- the most bytes of an input: one read more than a telegram or a body has
+-- the largest size of an input: one read more than a telegram or a body
 abbrev pub most_come : ℕ
 most_come = most_bytes + most_read
 
--- not more than so many bytes more have come
+-- at most `most` more bytes were received
 abbrev pub IsWithin : ℕ → Given → Given → Type 0
 IsWithin most old new = length new.bytes ≤ length old.bytes + most
 
--- some reads more, whose bytes stand behind those that had come; no read failed
+-- further reads appended their bytes, and no read failed
 pub record HasGrown (old new : Given) (before after : List ℕ) : Type 0 where
   pub part : List ℕ
   pub bytes : after ≡ before ++ part
@@ -23,17 +22,16 @@ pub record HasGrown (old new : Given) (before after : List ℕ) : Type 0 where
   pub failures : new.failures ≡ old.failures
   pub idle : old.idle ≤ new.idle
 
--- These bytes have come, and no read failed. The input has ended: a read that had room brought
+-- These bytes were received, and no read failed. The input ended, as a read with room returned
 -- nothing; or it is too long.
 pub record HasCome (old new : Given) (bytes : List ℕ) : Type 0 where
   pub given : new.bytes ≡ old.bytes ++ bytes
   pub failures : new.failures ≡ old.failures
   pub whole : (old.idle < new.idle) ⊎ (most_bytes < length bytes)
 
--- the most reads of an input
 abbrev pub most_reads : ℕ
 most_reads = 18_446_744_073_709_551_615
 
--- a read failed, or so many reads didn't come to the end
+-- a read failed, or the limit of reads was reached before the end
 abbrev pub HasFailed : Given → Given → Type 0
 HasFailed old new = (old.failures < new.failures) ⊎ (old.calls + most_reads ≤ new.calls)

@@ -1,4 +1,4 @@
--- What a run of a command leaves, by the command.
+-- The effect of each command.
 use Rattle.std.specs.Prelude.{◌≡◌, ◌<◌, ◌⊎◌, ℕ, Bool, true, false, Option, Result, Ok, Err, OnOk, OnErr, IfOk, IfErr, IfSome, List, length, ◌++◌, codes}
 use Rattle.station_days.specs.Date.{LocalMinute}
 use Rattle.station_core.specs.Ends.{HasCause, HasSent}
@@ -26,12 +26,12 @@ use Rattle.cli_words.specs.declared.line.LineCommand.{LineCommand}
 use Rattle.cli_words.specs.declared.line.LineCommand.TheVariants as command
 use Rattle.cli_run.specs.Looked.{holder_found, waybill_found, HasLookedUp}
 
--- what `init` prints
+-- the output of `init`
 abbrev pub made_line : List ℕ → List ℕ
 made_line here = codes "ok " ++ here ++ codes "\n"
 
--- The line of the new station went out; or a beginning of it, where the writer failed or took no
--- byte. The station stays as it was made.
+-- The line of the new station was written; or a prefix, and the writer failed or wrote 0 bytes. The
+-- station stays as it was created.
 pub record HasToldMade {K : Type 0} (here : List ℕ) (old new : Told K) (result : Result Bool RunFault) : Type 0 where
   pub same : new.0 ≡ old.0
   pub good : IfOk result (λ good. good ≡ true)
@@ -40,10 +40,10 @@ pub record HasToldMade {K : Type 0} (here : List ℕ) (old new : Told K) (result
   pub why : IfErr result (λ e. e ≡ fault.Write)
   pub cause : OnErr result (HasCause old.1 new.1)
 
--- The rows of a stock list were answered, all of them or up to a fault. A reader is named only
--- where it failed, and the end of the list taken only where no read has. A writer is named exactly
--- where it failed or took no byte, and the store exactly where the station has to be opened again.
--- A station that has to be opened again is asked nothing. `left` is the list, where it is known.
+-- The rows of a stock list were answered, all of them or up to a fault. The reader's fault is
+-- returned only if it failed, and the end of the list is reached only if no read failed. The
+-- writer's fault is returned exactly if it failed or wrote 0 bytes, and the store's exactly if the
+-- station must be opened again. A broken station isn't called. `left` is the list, if it is known.
 pub record HasAnsweredRows {K E : Type 0} (k : Keeping K) (at : LocalMinute) (left : Option (List ℕ)) (read_new : Given)
     (old new : Come K E) (result : Result Bool RunFault) : Type 0 where
   pub ran : (s : State) → k.keeps old.keeper s → k.is_broken old.keeper ≡ false → k.is_sound new.keeper
@@ -68,16 +68,16 @@ pub record HasIdled {K : Type 0} (old new : Told K) (result : Result Bool RunFau
   pub nothing : new.1 ≡ old.1
   pub good : result ≡ Ok true
 
--- The lines of the input were answered, all of them or up to a fault. A reader is named only where
--- it failed, and the end of the lines taken only where no read has.
+-- The lines of the input were answered, all of them or up to a fault. The reader's fault is
+-- returned only if it failed, and the end of the lines is reached only if no read failed.
 pub record HasAnsweredActs {K E : Type 0} (k : Keeping K) (at : LocalMinute) (taken : E → Given)
     (left : Option (List ℕ)) (read_new : Given) (old new : Come K E) (result : Result Bool RunFault) : Type 0 where
   pub answered : HaveBeenAnswered (HasAnsweredLine k at taken) left old new result
   pub read_cause : result ≡ Err fault.Read → 0 < read_new.failures
   pub no_failure : OnOk result (read_new.failures ≡ 0)
 
--- What a run of each command leaves of its keeper, its reader and its writers, and what it returns.
--- The service, the migration of a file and the look at a telegram don't run here.
+-- The effect of each command on its keeper, its reader and its writers, and its result. The
+-- service, the upgrade of a file and the dry run don't run here.
 abbrev pub HasDone : {K I W E : Type 0} → LineCommand → List ℕ → Keeping K → Ends I W E → LocalMinute
     → K × Reached I W E → K × Reached I W E → Result Bool RunFault → Type 0
 HasDone command.Init here k e at old new r =

@@ -1,4 +1,4 @@
--- What a command leaves behind it, whether it ran to its end or not.
+-- The outcome of a command, whether it ran to its end or not.
 use Rattle.std.specs.Prelude.{◌≡◌, ◌⊎◌, ℕ, Bool, Option, Some, None, Result, Ok, Err, List, ◌++◌, take}
 use Rattle.station_days.specs.Date.{LocalMinute}
 use Rattle.station_core.specs.Given.{Given}
@@ -14,29 +14,29 @@ use Rattle.station_core.specs.Keeping.{Keeping}
 use Rattle.cli_run.specs.Ends.{kept_by}
 use Rattle.cli_run.specs.InTurn.{Come}
 
--- A beginning of a line went out: the writer failed or took no byte. Or memory for the line ran
--- out, and nothing of it did.
+-- A prefix of a line was written, as the writer failed or wrote 0 bytes. Or memory ran out for the
+-- line, and nothing was written.
 pub record HasToldPart (line : List ℕ) (old new : Given) (e : RunFault) : Type 0 where
   pub why : (e ≡ fault.Write) ⊎ ((e ≡ fault.Memory) × (new.bytes ≡ old.bytes))
   pub sent : ℕ
   pub part : new.bytes ≡ old.bytes ++ take sent line
   pub cause : e ≡ fault.Write → HasCause old new
 
--- its line was written, and the state is the one after it, at this moment
+-- the line was written, and the state is the one after the request, at this moment
 pub record IsAnswered (number : Option ℕ) (s : State) (asks : Asked) (at : LocalMinute) (good : Bool) (before after : List ℕ) (keeps : State → Type 0) : Type 0 where
   pub line : after ≡ before ++ asked_line number s asks at
   pub good_is : good ≡ asked_good s asks at
   pub state : keeps (asked_after s asks at)
 
--- What was asked was done, and a beginning of its line was written: the writer failed, or memory
--- for the line ran out.
+-- The request was done, and a prefix of its line was written: the writer failed, or memory ran out
+-- for the line.
 pub record HasActed (number : Option ℕ) (s : State) (asks : Asked) (at : LocalMinute) (e : RunFault) (before after : List ℕ) (keeps : State → Type 0) : Type 0 where
   pub why : (e ≡ fault.Write) ⊎ (e ≡ fault.Memory)
   pub sent : ℕ
   pub line : after ≡ before ++ take sent (asked_line number s asks at)
   pub state : keeps (asked_after s asks at)
 
--- It was not done, or where the store failed nobody knows, and nothing was written.
+-- The request wasn't done or, if the store failed, may have been done; and nothing was written.
 pub record HasNotActed (s : State) (asks : Asked) (at : LocalMinute) (e : RunFault) (before after : List ℕ)
     (left : Kept) : Type 0 where
   pub why : (e ≡ fault.Memory) ⊎ (e ≡ fault.Store)
@@ -45,21 +45,21 @@ pub record HasNotActed (s : State) (asks : Asked) (at : LocalMinute) (e : RunFau
   pub states : (found : Option State) → left.may_find found → (found ≡ Some s)
       ⊎ ((e ≡ fault.Store) × (found ≡ Some (asked_after s asks at)))
 
--- it stopped the command, whether it was done or not
+-- it stopped the command, whether the request was done or not
 abbrev pub IsStopped : Option ℕ → State → Asked → LocalMinute → RunFault → List ℕ → List ℕ → Kept
     → Type 0
 IsStopped number s asks at e before after left =
     HasActed number s asks at e before after left.keeps ⊎ HasNotActed s asks at e before after left
 
--- the input didn't come whole, and nothing was asked or written
+-- the input wasn't received in full, and nothing was called or written
 pub record HasNotBegun (s : State) (e : RunFault) (before after : List ℕ) (keeps : State → Type 0) : Type 0 where
   pub why : IsReadersFault e
   pub nothing : after ≡ before
   pub state : keeps s
 
--- A command over an input has run. Each end of it is where the call has come, and what the input
--- has given by then. At Ok the line of what its bytes ask was written, and the state is the one
--- after it; at Err the command stopped there, or before.
+-- A command over an input has run. Each state of the call has the bytes received by then. At Ok the
+-- line for the request in the bytes was written, and the state is the one after it; at Err the
+-- command stopped there, or before.
 abbrev pub HasRun : {K E : Type 0} → (List ℕ → Asked → Type 0) → Keeping K → State → LocalMinute
     → Come K E × Given → Come K E × Given → Result Bool RunFault → Type 0
 HasRun IsAsked k s at old new (Ok good) =

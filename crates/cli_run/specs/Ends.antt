@@ -1,4 +1,4 @@
--- What contracts see of a call: what its keeper keeps, and the ends that it reads and writes.
+-- The parts of a call that contracts see: its keeper's state, and what it reads and writes.
 use Rattle.std.specs.Prelude.{Option, List, ℕ}
 use Rattle.station_core.specs.Given.{Given}
 use Rattle.station_core.specs.Keeping.{Keeping}
@@ -6,16 +6,16 @@ use Rattle.station_core.specs.Step.{State}
 use Rattle.stock_list.specs.Ended.{Kept, kept}
 use Rattle.cli_run.specs.InTurn.{Come, come}
 
--- what is kept where the keeper is this one
+-- the state kept by this keeper
 abbrev pub kept_by : {K : Type 0} → Keeping K → K → Kept
 kept_by k keeper = kept (k.keeps keeper) (k.may_find keeper)
 
--- a keeper, and what has gone out
+-- a keeper, and what was written
 abbrev pub Told : Type 0 → Type 0
 Told K = K × Given
 
--- What is said of the ends: what is left of the input where that is known, what it gave, how it
--- goes on to its next input, and what the output and the errors took.
+-- The ghost members of the reader and the writers: the rest of the input if known, the bytes it
+-- gave, its relation to the next input, and the bytes that the output and the errors took.
 pub record Ends (I W E : Type 0) : Type 1 where
   pub remaining : I → Option (List ℕ)
   pub given : I → Given
@@ -28,7 +28,7 @@ abbrev pub ends : {I W E : Type 0} → (I → Option (List ℕ)) → (I → Give
 ends remaining given turned printed told =
     record { remaining = remaining; given = given; turned = turned; printed = printed; told = told }
 
--- where the ends have come
+-- the reader and the writers at some moment
 pub record Reached (I W E : Type 0) : Type 0 where
   pub reader : I
   pub output : W
@@ -37,10 +37,10 @@ pub record Reached (I W E : Type 0) : Type 0 where
 abbrev pub reached : {I W E : Type 0} → I → W → E → Reached I W E
 reached reader output errors = record { reader = reader; output = output; errors = errors }
 
--- where a call has come, by its keeper and its ends
+-- the state of a call, from its keeper, its reader and its writers
 abbrev pub come_to : {K I W E : Type 0} → Ends I W E → K × Reached I W E → Come K E
 come_to e at = come at.0 (e.printed at.1.output) at.1.errors
 
--- the same of a command that reads nothing, and has no reasons to give
+-- the same for a command that reads nothing, and gives no reasons
 abbrev pub told_to : {K I W E : Type 0} → Ends I W E → K × Reached I W E → Told K
 told_to e at = (at.0, e.printed at.1.output)

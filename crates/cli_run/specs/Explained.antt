@@ -1,4 +1,4 @@
--- What goes to standard error behind the line of a command.
+-- Standard error after the line of a command.
 use Rattle.std.specs.Prelude.{◌≡◌, ℕ, Bool, true, false, Option, Some, None, Result, Ok, Err, OnOk, List, codes}
 use Rattle.station_days.specs.Date.{LocalMinute}
 use Rattle.station_core.specs.declared.answer.Answer.{Answer}
@@ -15,25 +15,25 @@ use Rattle.cli_run.specs.Came.{HasCome}
 use Rattle.station_core.specs.Keeping.{Keeping}
 use Rattle.cli_run.specs.InTurn.{Come}
 
--- whether an answer says that a telegram can't be read
+-- true if an answer says that a telegram can't be read
 abbrev pub is_unread_answer : Answer → Bool
 is_unread_answer (Done reply) = false
 is_unread_answer (Refused refusal) = is_unread refusal
 
--- whether an input can't be read, by its answer; a command that was read is none, however answered
+-- true if an input can't be read, by its answer; false for commands, however answered
 abbrev pub answered_unread : Input → Answer → Bool
 answered_unread (Keyed key command) answer = false
 answered_unread (Wire telegram) answer = is_unread_answer answer
 
--- whether what is asked at a moment can't be read
+-- true if a request at a moment can't be read
 abbrev pub asked_unread : State → Asked → LocalMinute → Bool
 asked_unread s (asked.Input i) at = answered_unread i (step s i at).answer
 asked_unread s (asked.Refused refusal) at = is_unread refusal
 asked_unread s (asked.Bad verb body) at = true
 asked_unread s (asked.BadLine line) at = true
 
--- how the reason of a telegram begins, which may be a line of `acts`, with its number; and that of
--- anything that is asked
+-- the start of a telegram's reason, with the number if it is a line of `acts`; and that of any
+-- request
 abbrev pub telegram_head : Option ℕ → List ℕ
 telegram_head None = codes "telegram: "
 telegram_head (Some number) = codes "line "
@@ -45,12 +45,12 @@ reason_head number (asked.Refused refusal) = telegram_head number
 reason_head number (asked.Bad verb body) = codes "body: "
 reason_head number (asked.BadLine line) = codes "line "
 
--- The reason of what can't be read was written, or a beginning of it; of anything else nothing was.
+-- The reason why something can't be read was written, or a prefix of it; otherwise nothing was.
 abbrev pub HasToldWhy : {E : Type 0} → (E → Given) → Bool → List ℕ → E → E → Type 0
 HasToldWhy taken true head old new = HasReason head (taken old).bytes (taken new).bytes
 HasToldWhy taken false head old new = new ≡ old
 
--- The same of a command that may have stopped, which writes nothing. What can't be read isn't
+-- The same for a command that may have stopped, which writes nothing. What can't be read isn't
 -- accepted.
 abbrev pub HasGivenReason : {E : Type 0} → (E → Given) → Bool → List ℕ → E → E
     → Result Bool RunFault → Type 0
@@ -58,7 +58,7 @@ HasGivenReason taken unread head old new (Ok good) =
     HasToldWhy taken unread head old new × (unread ≡ true → good ≡ false)
 HasGivenReason taken unread head old new (Err e) = new ≡ old
 
--- what is asked was answered, and its reason given where it can't be read
+-- the request was answered, and its reason given if it can't be read
 pub record HasExplained {K E : Type 0} (number : Option ℕ) (k : Keeping K) (asks : Asked)
     (at : LocalMinute) (taken : E → Given) (old new : Come K E) (result : Result Bool RunFault) : Type 0 where
   pub unread : Bool
@@ -66,8 +66,8 @@ pub record HasExplained {K E : Type 0} (number : Option ℕ) (k : Keeping K) (as
   pub why : (s : State) → k.keeps old.keeper s → k.is_broken old.keeper ≡ false
       → k.is_sound new.keeper → OnOk result (unread ≡ asked_unread s asks at)
 
--- The input came, and of what its bytes ask the reason was given so; or the command stopped, and
--- nothing was written.
+-- The input was received, and the reason for the request in its bytes was given; or the command
+-- stopped, and nothing was written.
 abbrev pub HasExplainedRun : {K E : Type 0} → (List ℕ → Asked → Type 0) → Keeping K → LocalMinute
     → (E → Given) → Come K E × Given → Come K E × Given → Result Bool RunFault → Type 0
 HasExplainedRun IsAsked k at taken old new (Ok good) =
@@ -75,8 +75,8 @@ HasExplainedRun IsAsked k at taken old new (Ok good) =
     × HasExplained None k asks at taken old.0 new.0 (Ok good))
 HasExplainedRun IsAsked k at taken old new (Err e) = new.0.errors ≡ old.0.errors
 
--- Of a telegram or a body the reason why it can't be read, or a beginning of it; nothing is written
--- where it was accepted.
+-- The reason why a telegram or a body can't be read, or a prefix of it; nothing is written if it
+-- was accepted.
 pub record HasExplainedAsked {K E : Type 0} (IsAsked : List ℕ → Asked → Type 0) (k : Keeping K)
     (at : LocalMinute) (taken : E → Given) (old new : Come K E × Given) (result : Result Bool RunFault) : Type 0 where
   pub quiet : result ≡ Ok true → new.0.errors ≡ old.0.errors

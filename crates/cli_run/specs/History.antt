@@ -1,4 +1,4 @@
--- What the history of a waybill leaves.
+-- The output of a waybill's history.
 use Rattle.std.specs.Prelude.{◌≡◌, ℕ, Bool, true, false, Result, Ok, Err}
 use Rattle.reports.specs.Listings.{IsListing}
 use Rattle.reports.specs.declared.form.Form.TheVariants as form
@@ -15,8 +15,8 @@ abbrev pub by_listing : {K : Type 0} → Keeping K → Listing → Told K → To
     → Type 0
 by_listing k l old new r = HasReportedGood (λ s. IsListing form.Text s l) k old new r
 
--- A call was made where the one before it ended well; else nothing was done behind that, and it
--- ended so.
+-- The next call was made if the one before it succeeded; otherwise nothing more was done, and its
+-- result was returned.
 abbrev pub GoesOnWith : {K : Type 0} → Result Bool RunFault → (Told K → Result Bool RunFault → Type 0)
     → Told K → Told K → Result Bool RunFault → Type 0
 GoesOnWith (Ok true) Next mid new r = Next new r
@@ -30,7 +30,7 @@ pub record HasToldRows {K : Type 0} (Lists : Listing → Told K → Told K → R
   pub moves : Lists (listing.Movements w) old mid moved
   pub trail : GoesOnWith moved (λ new r. Lists (listing.Trail w) mid new r) mid new r
 
--- what is known of a waybill was written, and where something is known, its moves and its trail
+-- the record of a waybill was written and, if it is known, its moves and its trail
 pub record HasToldHistory {K : Type 0} (k : Keeping K) (w : ℕ) (old new : Told K) (r : Result Bool RunFault) : Type 0 where
   pub mid : Told K
   pub found : Result Bool RunFault

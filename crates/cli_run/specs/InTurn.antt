@@ -1,11 +1,11 @@
--- Several inputs of one call, each answered after the one before it.
+-- Several inputs of one call, answered one after another.
 use Rattle.std.specs.Prelude.{◌≡◌, ◌<◌, ℕ, zero, suc, ◌+◌, ◌==◌, Bool, true, ◌&&◌, if◌then◌else◌, Option, Some, None, Result, Ok, Err, IfSome}
 use Rattle.std.specs.Prelude.{List, [], ◌∷◌, ◌++◌, length}
 use Rattle.station_core.specs.Given.{Given}
 use Rattle.stock_list.specs.declared.answer.RunFault.{RunFault}
 use Rattle.stock_list.specs.Ended.{IsReadersFault}
 
--- where a call has come: its station, what was written, and its errors
+-- the state of a call: its station, its output, and its errors
 pub record Come (K E : Type 0) : Type 0 where
   pub keeper : K
   pub sent : Given
@@ -14,7 +14,7 @@ pub record Come (K E : Type 0) : Type 0 where
 abbrev pub come : {K E : Type 0} → K → Given → E → Come K E
 come keeper sent errors = record { keeper = keeper; sent = sent; errors = errors }
 
--- So many steps were made, each from where the one before it has come. It is good where each is.
+-- `n` steps were made, each from where the one before it ended. They are good if each is.
 abbrev pub AreMade : {C : Type 0} → (C → C → Result Bool RunFault → Type 0) → ℕ → C → C → Bool
     → Type 0
 AreMade {C} Step zero old new good = (new ≡ old) × (good ≡ true)
@@ -30,8 +30,8 @@ HaveBeenMade {C} Step count old new (Err e) =
     (n : ℕ) × (n < count)
     × ((mid : C) × ((before : Bool) × AreMade Step n old mid before × Step mid new (Err e)))
 
--- Lines were answered, each from where the one before it has come; the first has this number. All
--- is good where each line is.
+-- Lines were answered, each from where the one before it ended; the first has this number. They are
+-- good if each line is.
 abbrev pub AreAnswered : {C : Type 0} → (ℕ → List ℕ → C → C → Result Bool RunFault → Type 0) → ℕ
     → List (List ℕ) → C → C → Bool → Type 0
 AreAnswered {C} Step number [] old new good = (new ≡ old) × (good ≡ true)
@@ -39,8 +39,8 @@ AreAnswered {C} Step number (line ∷ lines) old new good =
     (mid : C) × ((one rest : Bool) × Step number line old mid (Ok one)
     × AreAnswered Step (number + 1) lines mid new rest × (good ≡ (one && rest)))
 
--- these lines were answered, and then no line came for want of a reader or of memory, or the next
--- one ended the call
+-- these lines were answered, and then no further line could be read as the reader failed or memory
+-- ran out, or the next one ended the call
 abbrev pub HasEndedAt : {C : Type 0} → (ℕ → List ℕ → C → C → Result Bool RunFault → Type 0)
     → List (List ℕ) → Option (List ℕ) → C → C → RunFault → Type 0
 HasEndedAt Step lines None old new e =
@@ -49,26 +49,23 @@ HasEndedAt {C} Step lines (Some line) old new e =
     (mid : C) × ((good : Bool) × AreAnswered Step 1 lines old mid good
     × Step (length lines + 1) line mid new (Err e))
 
--- the lines that were read
 abbrev pub lines_read : List (List ℕ) → Option (List ℕ) → List (List ℕ)
 lines_read lines None = lines
 lines_read lines (Some line) = lines ++ line ∷ []
 
--- a byte in front of the first line
+-- puts a byte before the first line
 abbrev pub in_front : ℕ → List (List ℕ) → List (List ℕ)
 in_front b [] = (b ∷ []) ∷ []
 in_front b (line ∷ lines) = (b ∷ line) ∷ lines
 
--- the lines of a text, each with its end
 abbrev pub lines_of : List ℕ → List (List ℕ)
 lines_of [] = []
 lines_of (b ∷ bs) = if b == 10 then (b ∷ []) ∷ lines_of bs else in_front b (lines_of bs)
 
--- they are the first lines of a text
 abbrev pub AreFirstLines : List (List ℕ) → List ℕ → Type 0
 AreFirstLines lines bytes = (more : List (List ℕ)) × (lines_of bytes ≡ lines ++ more)
 
--- Every line was answered, or those up to a fault. `left` is the text, where it is known.
+-- Every line was answered, or those up to a fault. `left` is the text, if it is known.
 abbrev pub HaveBeenAnswered : {C : Type 0}
     → (ℕ → List ℕ → C → C → Result Bool RunFault → Type 0) → Option (List ℕ) → C → C
     → Result Bool RunFault → Type 0

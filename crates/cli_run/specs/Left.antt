@@ -1,4 +1,4 @@
--- What a run of a command makes of its station, whatever it returns: which inputs acted.
+-- The inputs that acted in a run of a command, whatever it returns.
 use Rattle.std.specs.Prelude.{◌≡◌, ℕ, Bool, Option, Some, None, Result, Err, OnOk, List, length}
 use Rattle.std.specs.List.{AllByRecursion}
 use Rattle.station_days.specs.Date.{LocalMinute}
@@ -18,8 +18,8 @@ use Rattle.cli_run.specs.declared.asked.Asked.TheVariants as asked
 use Rattle.cli_run.specs.ActLine.{IsActAsked}
 use Rattle.cli_run.specs.Asked.{IsCommandAsked, IsTelegramAsked}
 
--- some row, body, telegram or line of a command asks this of the station; the other commands ask
--- nothing of it
+-- some row, body, telegram or line of a command has this input for the station; other commands have
+-- none
 abbrev pub Asks : LineCommand → Input → Type 0
 Asks command.Stock i = (row : Row) × ((order : List ℕ × Order) × (row_asks row ≡ Some order) × (i ≡ input_of order))
 Asks (command.Take paths) i = (bytes : List ℕ) × IsTelegramAsked bytes (asked.Input i)
@@ -31,13 +31,13 @@ Asks _ i = ⊥
 abbrev pub AsksAt : LineCommand → LocalMinute → Input × LocalMinute → Type 0
 AsksAt c at one = (one.1 ≡ at) × Asks c one.0
 
--- the fault of the station that ended a run: its store failed
+-- the station's fault that ended a run: its store failed
 abbrev pub station_fault : Result Bool RunFault → Option ActFault
 station_fault (Err fault.Store) = Some act.Store
 station_fault _ = None
 
--- So many of the inputs that a command asks were answered, all of them where it ran to its end. A
--- reopening finds the state after these and, where the store failed, at most one more.
+-- Some inputs of the command were answered, all of them if it ran to its end. Reopening finds the
+-- state after them and, if the store failed, perhaps after one more.
 pub record HasLeft (Asked : Input × LocalMinute → Type 0) (s : State) (may_find : Option State → Type 0)
     (result : Result Bool RunFault) : Type 0 where
   pub inputs : List (Input × LocalMinute)

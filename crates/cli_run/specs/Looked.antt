@@ -1,4 +1,4 @@
--- What a look-up of a number leaves.
+-- The output of a look-up.
 use Rattle.std.specs.Prelude.{◌≡◌, ℕ, Bool, true, false, Option, Some, None, Result, Ok, Err, List, [], ◌∷◌, ◌++◌, take, codes, is_some, option_map}
 use Rattle.serde_json.specs.Data.{Data}
 use Rattle.serde_json.specs.Written.{compact_text}
@@ -12,22 +12,21 @@ use Rattle.stock_list.specs.declared.answer.RunFault.{RunFault}
 use Rattle.stock_list.specs.declared.answer.RunFault.TheVariants as fault
 use Rattle.cli_run.specs.Ends.{Told}
 
--- the object that GET /v1/waybills/AWB is answered by: nothing of a waybill that isn't declared
+-- the object in the answer to GET /v1/waybills/AWB, None if the waybill isn't declared
 abbrev pub waybill_found : ℕ → State → Option Data
 waybill_found w s = option_map (waybill_data w) (waybill_of s.cargo w)
 
--- the object that GET /v1/stock/AWB is answered by: nothing of a number that isn't in stock
+-- the object in the answer to GET /v1/stock/AWB, None if the number isn't in stock
 abbrev pub holder_found : ℕ → State → Option Data
 holder_found w s = option_map (holder_data w) (s.cargo.holders w)
 
--- the line that tells it
 abbrev pub found_line : Option Data → List ℕ
 found_line (Some d) = compact_text d ++ 10 ∷ []
 found_line None = codes "unknown\n"
 
--- The line went out, and nothing is refused where there is an object; or a beginning of the line,
--- where the writer failed or took no byte. Where the keeper failed or memory ran out, nothing was
--- written.
+-- The line was written, and the result is good if there is an object; or a prefix of the line was
+-- written, and the writer failed or wrote 0 bytes. If the keeper failed or memory ran out, nothing
+-- was written.
 abbrev pub HasToldFound : Option Data → Given → Given → Result Bool RunFault → Type 0
 HasToldFound found old new (Ok good) =
     (good ≡ is_some found) × (new.bytes ≡ old.bytes ++ found_line found)
@@ -37,8 +36,8 @@ HasToldFound found old new (Err fault.Read) = ⊥
 HasToldFound found old new (Err fault.Memory) = new ≡ old
 HasToldFound found old new (Err fault.Store) = new ≡ old
 
--- The line of what the station has went out, or a beginning of it, and nothing changed. A station
--- that has to be opened again returns nothing; else it ends by Store only where one may fail.
+-- The line of the station's object was written, or a prefix, and nothing changed. A broken station
+-- returns nothing; any other returns Store only if its store may fail.
 pub record HasLookedUp {K : Type 0} (found : State → Option Data) (k : Keeping K) (old new : Told K)
     (result : Result Bool RunFault) : Type 0 where
   pub reads : OnlyReads k old.0 new.0

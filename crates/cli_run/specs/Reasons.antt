@@ -1,4 +1,4 @@
--- What a run of a command leaves on standard error, by the command.
+-- The reasons on standard error, by command.
 use Rattle.std.specs.Prelude.{◌≡◌, Bool, true, Option, Result, Ok, List, ℕ}
 use Rattle.station_days.specs.Date.{LocalMinute}
 use Rattle.station_core.specs.Given.{Given}
@@ -11,15 +11,15 @@ use Rattle.cli_run.specs.Explained.{HasExplainedAsked}
 use Rattle.cli_words.specs.declared.line.LineCommand.{LineCommand}
 use Rattle.cli_words.specs.declared.line.LineCommand.TheVariants as command
 
--- Of a stock list each row that asks nothing has its reason, or a beginning of it; nothing is
--- written where all was accepted.
+-- Each row of a stock list that can't be read gets its reason, or a prefix of it; nothing is
+-- written if all were accepted.
 pub record HasExplainedRows {E : Type 0} (left : Option (List ℕ)) (taken : E → Given) (old new : E)
     (result : Result Bool RunFault) : Type 0 where
   pub quiet : result ≡ Ok true → new ≡ old
   pub reasons : HasToldRows left (taken old).bytes (taken new).bytes result
 
--- The same, by the command; of any other nothing is written. `take` and `acts` have each reason
--- with what its input left.
+-- The same, by command; the other commands write nothing. For `take` and `acts` the reasons are
+-- described with each input.
 abbrev pub HasGivenReasons : {K I W E : Type 0} → LineCommand → Keeping K → Ends I W E → LocalMinute
     → K × Reached I W E → K × Reached I W E → Result Bool RunFault → Type 0
 HasGivenReasons command.Stock k e at old new r =

@@ -1,4 +1,4 @@
--- What a run of a report leaves.
+-- The output of a report.
 use Rattle.std.specs.Prelude.{◌≡◌, ℕ, Result, Ok, Err, List, ◌++◌, take}
 use Rattle.station_core.specs.Given.{Given}
 use Rattle.station_core.specs.Ends.{HasCause, NoneFailed, OneFailed}
@@ -9,7 +9,7 @@ use Rattle.stock_list.specs.declared.answer.RunFault.{RunFault}
 use Rattle.stock_list.specs.declared.answer.RunFault.TheVariants as fault
 use Rattle.stock_list.specs.Ended.{run_fault}
 
--- why a run ends where a report does
+-- the fault of a run whose report broke off
 abbrev pub cause_fault : ReportCause → RunFault
 cause_fault cause.Write = fault.Write
 cause_fault (cause.Act e) = run_fault e
@@ -18,13 +18,13 @@ abbrev pub run_ended : Result (Unit {0}) ReportFault → Result (Unit {0}) RunFa
 run_ended (Ok x) = Ok x
 run_ended (Err e) = Err (cause_fault e.cause)
 
--- The text went out; or a beginning of it, where the writer failed or took no byte, or the keeper
--- failed, or memory ran out.
+-- The text was written; or a prefix, and the writer failed or wrote 0 bytes, the keeper failed, or
+-- memory ran out.
 abbrev pub HasReported : List ℕ → Given → Given → Result (Unit {0}) RunFault → Type 0
 HasReported text old new (Ok x) = new.bytes ≡ old.bytes ++ text
 HasReported text old new (Err e) = ((sent : ℕ) × (new.bytes ≡ old.bytes ++ take sent text)) × (e ≡ fault.Write → HasCause old new) × (e ≡ fault.Read → ⊥)
 
--- No write failed or took no byte; where the run ended by Write one did, and no second one.
+-- No write failed or wrote 0 bytes; if the run ended with Write, exactly one did.
 abbrev pub StopsReport : Given → Given → Result (Unit {0}) RunFault → Type 0
 StopsReport old new (Ok x) = NoneFailed old new
 StopsReport old new (Err fault.Write) = OneFailed old new

@@ -1,4 +1,4 @@
--- What a report leaves, where the run returns whether all was accepted.
+-- The output of a report, as the result of a command.
 use Rattle.std.specs.Prelude.{◌≡◌, Bool, true, false, Result, Ok, Err, OnOk, List, ℕ}
 use Rattle.station_core.specs.Keeping.{OnlyReads, Keeping}
 use Rattle.station_core.specs.Step.{State}
@@ -7,13 +7,13 @@ use Rattle.stock_list.specs.declared.answer.RunFault.TheVariants as fault
 use Rattle.cli_run.specs.Ends.{Told}
 use Rattle.cli_run.specs.Report.{HasReported, StopsReport}
 
--- what went out is no refusal
+-- a report refuses nothing
 abbrev pub good_of : Result (Unit {0}) RunFault → Result Bool RunFault
 good_of (Ok x) = Ok true
 good_of (Err e) = Err e
 
--- The report went out, or a beginning of it, and nothing changed. A station that has to be opened
--- again returns nothing; else it ends by Store only where one may fail.
+-- The report was written, or a prefix, and nothing changed. A broken station returns nothing; any
+-- other returns Store only if its store may fail.
 pub record HasToldReport {K : Type 0} (IsText : State → List ℕ → Type 0) (k : Keeping K) (old new : Told K)
     (ended : Result (Unit {0}) RunFault) : Type 0 where
   pub reads : OnlyReads k old.0 new.0
@@ -22,14 +22,14 @@ pub record HasToldReport {K : Type 0} (IsText : State → List ℕ → Type 0) (
   pub fault : (s : State) → k.keeps old.0 s → k.is_sound new.0 → k.is_broken old.0 ≡ false
       → ended ≡ Err fault.Store → k.may_fail
   pub writes : StopsReport old.1 new.1 ended
-  -- one text is the report that went out
+  -- one text is the report that was written
   pub told : (s : State) → k.keeps old.0 s → k.is_sound new.0
       → OnOk ended ((text : List ℕ) × IsText s text × HasReported text old.1 new.1 ended)
-  -- of each text that is the report, it went out, or a beginning of it
+  -- each text of the report was written, or a prefix
   pub each : (s : State) → k.keeps old.0 s → k.is_sound new.0 → (text : List ℕ) → IsText s text
       → HasReported text old.1 new.1 ended
 
--- the same, where the run returns whether all was accepted: a report refuses nothing
+-- the same as the result of a command: a report refuses nothing
 pub record HasReportedGood {K : Type 0} (IsText : State → List ℕ → Type 0) (k : Keeping K) (old new : Told K)
     (result : Result Bool RunFault) : Type 0 where
   pub ended : Result (Unit {0}) RunFault

@@ -1,4 +1,4 @@
--- What a look at a telegram writes.
+-- The output of a dry run.
 use Rattle.std.specs.Prelude.{◌≡◌, ◌⊎◌, ℕ, Bool, false, not, Option, Some, None, List, [], ◌∷◌, ◌++◌}
 use Rattle.imp_fields.specs.declared.fault.TextFault.{TextFault}
 use Rattle.shipment_machine.specs.declared.plans.Refusal.{Refusal}
@@ -16,7 +16,7 @@ use Rattle.cli_run.specs.Came.{HasCome}
 use Rattle.cli_run.specs.Ended.{HasToldPart}
 use Rattle.cli_run.specs.Explained.{telegram_head, HasToldWhy}
 
--- what is seen of a telegram that was read; it is good if nothing of it is doubtful
+-- the dry run of a telegram; it is good if nothing is doubtful
 pub record HasLook (bytes text : List ℕ) (good unread : Bool) : Type 0 where
   pub look : Look
   pub is_look : IsLook bytes look
@@ -32,16 +32,16 @@ pub record HasRefusal (bytes text : List ℕ) (good unread : Bool) : Type 0 wher
   pub good_is : good ≡ false
   pub unread_is : unread ≡ is_unread (refusal_of told)
 
--- the text of these bytes, whether it is good, and whether they have a reason on the errors
+-- the text for these bytes, whether it is good, and whether there is a reason on the errors
 abbrev pub IsSeen : List ℕ → List ℕ → Bool → Bool → Type 0
 IsSeen bytes text good unread = HasLook bytes text good unread ⊎ HasRefusal bytes text good unread
 
--- whether a refusal has a reason why a telegram can't be read; a telegram that was read has none
+-- true if a refusal says why a telegram can't be read
 abbrev pub has_reason : Option Refusal → Bool
 has_reason None = false
 has_reason (Some refusal) = is_unread refusal
 
--- the bytes came, and what is seen of them was written; then the reason why they can't be read
+-- the bytes were received, and their dry run was written; then the reason why they can't be read
 pub record HasSeen {E : Type 0} (read_old read_new sent_old sent_new : Given) (taken : E → Given)
     (errors_old errors_new : E) (good : Bool) : Type 0 where
   pub bytes : List ℕ
@@ -52,7 +52,7 @@ pub record HasSeen {E : Type 0} (read_old read_new sent_old sent_new : Given) (t
   pub written : sent_new.bytes ≡ sent_old.bytes ++ text
   pub reason : HasToldWhy taken unread (telegram_head None) errors_old errors_new
 
--- the bytes came, and the writer stopped after a beginning of what is seen of them
+-- the bytes were received, and the writer stopped after a prefix of their dry run
 pub record HasSeenPart (read_old read_new sent_old sent_new : Given) (e : RunFault) : Type 0 where
   pub bytes : List ℕ
   pub come : HasCome read_old read_new bytes
@@ -63,8 +63,8 @@ pub record HasSeenPart (read_old read_new sent_old sent_new : Given) (e : RunFau
   pub why : e ≡ run_fault.Write
   pub part : HasToldPart text sent_old sent_new e
 
--- A look that a fault ended: the reader failed or memory ran out, and nothing was written; or the
--- writer failed or took no byte, and a beginning of what is seen was written.
+-- A dry run that a fault ended: the reader failed or memory ran out, and nothing was written; or
+-- the writer failed or wrote 0 bytes, and a prefix of the dry run was written.
 abbrev pub HasStoppedLook : Given → Given → Given → Given → RunFault → Type 0
 HasStoppedLook read_old read_new sent_old sent_new e =
     (IsReadersFault e × (sent_new ≡ sent_old)) ⊎ HasSeenPart read_old read_new sent_old sent_new e

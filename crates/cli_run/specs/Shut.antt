@@ -1,4 +1,4 @@
--- A command on a station that has to be opened again: nothing is asked of it.
+-- A command on a broken station, which isn't called.
 use Rattle.std.specs.Prelude.{◌≡◌, ◌⊎◌, ℕ, Bool, false, Option, None, Result, Ok, Err, List, [], ◌∷◌, ◌++◌, codes}
 use Rattle.station_core.specs.Given.{Given}
 use Rattle.station_core.specs.Texts.{refusal_text}
@@ -11,12 +11,12 @@ use Rattle.cli_run.specs.Asked.{numbered}
 use Rattle.cli_run.specs.Came.{HasCome}
 use Rattle.cli_run.specs.Ended.{HasToldPart}
 
--- a line that tells of no acceptance went out, or a beginning of it
+-- a line that isn't an acceptance was written, or a prefix
 abbrev pub HasToldLine : List ℕ → Given → Given → Result Bool RunFault → Type 0
 HasToldLine line old new (Ok good) = (good ≡ false) × (new.bytes ≡ old.bytes ++ line)
 HasToldLine line old new (Err e) = HasToldPart line old new e
 
--- What asks nothing of the station has its line; an input is answered Store, and nothing is
+-- A request that doesn't need the station gets its line; an input is answered Store, and nothing is
 -- written.
 abbrev pub IsAnsweredShut : Option ℕ → Asked → Given → Given → Result Bool RunFault → Type 0
 IsAnsweredShut number (asked.Refused refusal) old new r = HasToldLine (numbered number (refusal_text refusal ++ 10 ∷ [])) old new r
@@ -25,13 +25,13 @@ IsAnsweredShut number (asked.BadLine line) old new r = HasToldLine (numbered num
 IsAnsweredShut number (asked.Input i) old new (Ok good) = ⊥
 IsAnsweredShut number (asked.Input i) old new (Err e) = (e ≡ fault.Store) × (new ≡ old)
 
--- the input has come, and what it asks is answered so
+-- the input was received, and its request is answered in this way
 abbrev pub HasAnsweredShut : (List ℕ → Asked → Type 0) → Given → Given → Given → Given
     → Result Bool RunFault → Type 0
 HasAnsweredShut IsAsked read_old read_new old new r =
     (bytes : List ℕ) × (HasCome read_old read_new bytes × ((asks : Asked) × (IsAsked bytes asks × IsAnsweredShut None asks old new r)))
 
--- a command has run; or its input didn't come whole, and nothing was written
+-- a command has run; or its input wasn't received in full, and nothing was written
 abbrev pub HasRunShut : (List ℕ → Asked → Type 0) → Given → Given → Given → Given
     → Result Bool RunFault → Type 0
 HasRunShut IsAsked read_old read_new old new (Ok good) = HasAnsweredShut IsAsked read_old read_new old new (Ok good)

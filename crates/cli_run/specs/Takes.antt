@@ -1,4 +1,4 @@
--- What telegrams leave that are taken one after another.
+-- The effect of several telegrams.
 use Rattle.std.specs.Prelude.{◌≡◌, Bool, false, Result, OnOk}
 use Rattle.station_days.specs.Date.{LocalMinute}
 use Rattle.station_core.specs.Given.{Given}
@@ -9,7 +9,7 @@ use Rattle.station_core.specs.Keeping.{Keeping}
 use Rattle.cli_run.specs.Explained.{HasExplainedAsked}
 use Rattle.cli_run.specs.InTurn.{Come}
 
--- the reader went on to its next input, and that telegram was answered
+-- the reader began its next input, and that telegram was answered
 pub record HasTakenNext {K I E : Type 0} (k : Keeping K) (at : LocalMinute) (given : I → Given)
     (turned : I → I → Type 0) (taken : E → Given) (old new : Come K E × I) (result : Result Bool RunFault) : Type 0 where
   pub next : I

@@ -18,17 +18,20 @@ use station_days::Moment;
 use std::alloc::Global;
 use stock_list::RunFault;
 
-/// Reads the body of one command, hands it to the station under a key at a moment, and writes the
-/// line of its answer: `ok 3`, `refused 102 020-12345723`, or `body bad` where the body is no JSON
-/// that says a command of the verb, or has more than 65,536 bytes. Why a body is bad is written on
-/// `errors`, behind the line. `Ok` says whether the command was accepted.
+/// Reads the body of one command, passes it to the station under a key at a moment, and writes the
+/// line of its answer: `ok 3`, `refused 102 020-12345723`, or `body bad` if the body isn't JSON of
+/// a command of the verb or has more than 65,536 bytes. After that line, the reason for a bad body
+/// is written to `errors`. `Ok` says whether the command was accepted.
 ///
-/// Returns [`RunFault::Read`] where the reader fails, and [`RunFault::Memory`] where memory runs
-/// out before the station is asked: nothing was done or written. Returns [`RunFault::Store`] where
-/// the store fails, or failed before: nothing was written, and the command was done wholly or not
-/// at all. Returns [`RunFault::Write`] where the writer fails: the command was answered, and a
-/// beginning of the line was written. Returns [`RunFault::Memory`] too where memory for the line
-/// runs out: the command was answered, and nothing was written.
+/// # Errors
+///
+/// - [`RunFault::Read`]: the reader fails. Nothing is done or written.
+/// - [`RunFault::Memory`]: memory runs out before the station is called, and nothing is done or
+///   written; or it runs out for the line, after the command was answered, and nothing is written.
+/// - [`RunFault::Store`]: the store fails, or failed before. Nothing is written, and the command is
+///   done wholly or not at all.
+/// - [`RunFault::Write`]: the writer fails. The command was answered, and a prefix of the line is
+///   written.
 pub fn run_act<K: Keeper, I: ByteIn, O: ByteOut, E: ByteOut>(
     alloc: Global,
     keeper: &mut K,
@@ -60,21 +63,22 @@ pub fn run_act<K: Keeper, I: ByteIn, O: ByteOut, E: ByteOut>(
         (O.taken writer.new)) }
     ensures untroubled { OnOk result (IsUntroubled (O.taken writer.old) (O.taken writer.new)) }
 
-    // At any fault but the writer's nothing was written.
+    // After any fault except the writer's, nothing was written.
     ensures unwritten { IfErr result (λ e. (e ≡ RunFault.Write)
         ⊎ (O.taken writer.new ≡ O.taken writer.old)) }
 
-    // Of an input that is too long only a beginning is read.
+    // Only a prefix of an input that is too long is read.
     ensures most { IsWithin most_come (I.given reader.old) (I.given reader.new) }
 
-    // Behind its line a bad body has its reason, or a beginning of it, and nothing else goes there.
+    // After its line a bad body gets its reason, or a prefix of it. Nothing else is written to
+    // `errors`.
     ensures quiet { result ≡ Ok true → errors.new ≡ errors.old }
     ensures reasons { HasExplainedRun (IsCommandAsked verb key)
         (keeping K.keeps K.is_clean K.is_sound K.is_broken K.may_find K.may_fail) at E.taken
         (come keeper.old (O.taken writer.old) errors.old, I.given reader.old)
         (come keeper.new (O.taken writer.new) errors.new, I.given reader.new) result }
 
-    // A station that has to be opened again stays as it is, and nothing is asked of it.
+    // A broken station stays as it is, and isn't called.
     ensures same { StaysIfBroken (K.is_broken keeper.old) keeper.old keeper.new }
     ensures reopen { K.is_broken keeper.old ≡ true
         → HasRunShut (IsCommandAsked verb key) (I.given reader.old) (I.given reader.new)

@@ -1,4 +1,4 @@
-//! What a line of `acts` asks.
+//! Reading a line of `acts`.
 ghost use Rattle.std.specs.Prelude.{◌≡◌, List, ℕ, IfOk, IfSome, None, option_map};
 ghost use Rattle.std.specs.Option.{option_and_then};
 ghost use Rattle.desk_commands.specs.Body.{member_count};
@@ -16,7 +16,6 @@ use station_core::{Input, Key};
 use std::alloc::{AllocError, Global};
 use telegrams::{TelegramFault, read_telegram};
 
-/// How many members an object has.
 fn member_count(value: &Value) -> Option<usize>
     ensures { result ≡ member_count (view value.now) }
 {
@@ -24,7 +23,7 @@ fn member_count(value: &Value) -> Option<usize>
     Some(members.len())
 }
 
-/// The text that a member of an object is.
+/// Returns the member of an object, if it is a text.
 fn text_at<'a>(value: &'a Value, name: &str) -> Option<&'a str>
     ensures { option_map (λ text. text.now) result
         ≡ option_and_then as_str (get name.now (view value.entry.now)) }
@@ -32,7 +31,7 @@ fn text_at<'a>(value: &'a Value, name: &str) -> Option<&'a str>
     value.get(name)?.as_str()
 }
 
-/// The verb, the key and the body of a command's line; `None` for any other line.
+/// Returns verb, key and body of a command's line, and `None` for any other line.
 pub fn frame(value: &Value) -> Option<(Verb, Key, &Value)>
     ensures some { IfSome result (λ f. IsFrame (view value.now) f.0 f.1 (view f.2.now)) }
     ensures none { result ≡ None → (verb : AnyVerb) (key : List ℕ) (body : Data)
@@ -47,7 +46,7 @@ pub fn frame(value: &Value) -> Option<(Verb, Key, &Value)>
     Some((verb, key, body))
 }
 
-/// The telegram of a telegram's line; `None` for any other line.
+/// Returns the telegram of a telegram's line, and `None` for any other line.
 pub fn wired<'a>(value: &'a Value) -> Option<&'a str>
     ensures some { IfSome result (λ text. IsWired (view value.entry.now) text.now) }
     ensures none { result ≡ None → (text : List ℕ) → ¬ (IsWired (view value.entry.now) text) }
@@ -58,9 +57,7 @@ pub fn wired<'a>(value: &'a Value) -> Option<&'a str>
     text_at(value, "telegram")
 }
 
-/// The value that a line writes, where it isn't too long.
-///
-/// Returns [`AllocError`] when out of memory.
+/// Returns the JSON value of a line that isn't too long.
 pub fn line_value(alloc: Global, line: &[u8]) -> Result<Option<Value>, AllocError>
     ensures some { IfOk result (λ v. IfSome v (λ value. IsWritten line.now (view value))) }
     ensures none { IfOk result (λ v. v ≡ None → (d : Data) → ¬ (IsWritten line.now d)) }
@@ -80,7 +77,7 @@ pub fn line_value(alloc: Global, line: &[u8]) -> Result<Option<Value>, AllocErro
     }
 }
 
-/// What a value that a line writes asks.
+/// Returns the request in the value of a line.
 fn value_asked<'a>(alloc: Global, value: &'a Value, line: &'a [u8]) -> Result<Asked<'a>, AllocError>
     ensures { IfOk result (Asks line.entry.now (view value.entry.now)) }
 {
@@ -100,9 +97,7 @@ fn value_asked<'a>(alloc: Global, value: &'a Value, line: &'a [u8]) -> Result<As
     }
 }
 
-/// What a line asks, by the value that it writes.
-///
-/// Returns [`AllocError`] when out of memory.
+/// Returns the request in a line, from its value.
 pub fn line_asked<'a>(
     alloc: Global,
     value: &'a Option<Value>,

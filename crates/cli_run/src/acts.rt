@@ -15,15 +15,14 @@ use std::io;
 use std::io::{BufRead, BufReader, ErrorKind, Read};
 use stock_list::{RunFault, Watched, told_by};
 
-/// Whether a line has no byte but those of its end.
+/// Returns whether a line has only the bytes of its end.
 pub fn is_blank(line: &[u8]) -> bool
     ensures { result ≡ is_blank line.now }
 {
     line.iter().all(|b| *b == b'\n' || *b == b'\r')
 }
 
-/// Does what a line asks, after the lines before it, then writes its line, and why it can't be read
-/// where it can't.
+/// Answers a line, and writes the reason if it can't be read.
 fn answer_line<K: Keeper, W: ByteOut, E: ByteOut>(
     alloc: Global,
     keeper: &mut K,
@@ -52,7 +51,7 @@ fn answer_line<K: Keeper, W: ByteOut, E: ByteOut>(
     }
 }
 
-/// Why a run ends where no line was read.
+/// Returns the fault of a run that couldn't read a line.
 pub fn line_fault(error: &io::Error) -> RunFault
     ensures { IsReadersFault result }
 {
@@ -62,9 +61,7 @@ pub fn line_fault(error: &io::Error) -> RunFault
     }
 }
 
-/// Lines of a reader that is read ahead.
-///
-/// Returns [`AllocError`] when out of memory.
+/// Buffers a reader.
 pub fn buffered<R: Read + Drop>(alloc: Global, reader: R) -> Result<BufReader<R>, AllocError>
     ensures { IfOk result (λ lines. reader_remaining R.remaining lines ≡ R.remaining reader) }
 {
@@ -74,7 +71,7 @@ pub fn buffered<R: Read + Drop>(alloc: Global, reader: R) -> Result<BufReader<R>
     }
 }
 
-/// Answers the lines that a reader gives up to its end, or up to an error.
+/// Answers the lines of a reader up to its end or an error.
 fn run_lines<K: Keeper, R: BufRead + Drop, W: ByteOut, E: ByteOut>(
     alloc: Global,
     keeper: &mut K,
@@ -106,15 +103,19 @@ fn run_lines<K: Keeper, R: BufRead + Drop, W: ByteOut, E: ByteOut>(
     Err(RunFault::Memory)
 }
 
-/// Reads lines, each a command under its key or a telegram as JSON, gives each to the station after
-/// the one before it, all at one moment, and writes the line of its answer: `r1 ok 3`, `line 2
-/// refused 301 4 ending`, or `line 3 bad` for any other line. An empty line is skipped. Why a line
-/// can't be read is written on `errors`, after its answer. `Ok` says whether all were accepted.
+/// Reads lines, each a command under its key or a telegram as JSON, passes them to the station one
+/// after another, all at one moment, and writes the line of each answer: `r1 ok 3`, `line 2 refused
+/// 301 4 ending`, or `line 3 bad` for any other line. Empty lines are skipped. If a line can't be
+/// read, the reason is written to `errors` after its answer. `Ok` says whether all were accepted.
 ///
-/// Returns [`RunFault::Read`] where the reader fails, [`RunFault::Write`] where the writer fails or
-/// takes no byte, [`RunFault::Memory`] when out of memory, and [`RunFault::Store`] where the store
-/// fails, or failed before. The lines before it are answered; of the line itself the same holds as
-/// of a command's input.
+/// # Errors
+///
+/// The lines before the fault are answered. To the line itself applies what `run_act` says.
+///
+/// - [`RunFault::Read`]: the reader fails.
+/// - [`RunFault::Write`]: the writer fails or writes 0 bytes.
+/// - [`RunFault::Memory`]: memory runs out.
+/// - [`RunFault::Store`]: the store fails, or failed before.
 pub fn run_acts<K: Keeper, R: Watched + Read, W: ByteOut, E: ByteOut>(
     alloc: Global,
     keeper: &mut K,
@@ -126,15 +127,15 @@ pub fn run_acts<K: Keeper, R: Watched + Read, W: ByteOut, E: ByteOut>(
     ensures premise { KeepsPremise K.is_clean K.is_sound keeper.old keeper.new }
     ensures works { KeepsWorking (K.is_broken keeper.old) (K.is_broken keeper.new) result }
 
-    // Every line that was read, and of a known reader that is every line of its text, was answered,
-    // in their order; at a fault every line before the last that was read.
+    // All lines that were read were answered in order; for a known reader these are all lines of
+    // its text. After a fault, all but the last were.
     ensures answered { HaveBeenAnswered
         (HasAnsweredLine (keeping K.keeps K.is_clean K.is_sound K.is_broken K.may_find K.may_fail)
         at E.taken) (R.remaining reader.old) (come keeper.old (W.taken writer.old) errors.old)
         (come keeper.new (W.taken writer.new) errors.new) result }
 
-    // `Read` comes only where the reader has failed, and lines that were read to their end only
-    // where it has not.
+    // `Read` is returned only if the reader failed, and the end of the lines is reached only if it
+    // didn't.
     ensures read_cause { result ≡ Err RunFault.Read → 0 < (R.given reader.new).failures }
     ensures no_failure { OnOk result ((R.given reader.new).failures ≡ 0) }
 {

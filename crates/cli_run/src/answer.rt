@@ -1,4 +1,4 @@
-//! Answering what the input of a command asks.
+//! Answers to the input of a command.
 ghost use Rattle.std.specs.Prelude.{◌≡◌, ◌⊎◌, ◌++◌, ◌∷◌, [], true, false, Err, IfOk, IfErr, OnOk, codes, decimal, string_bytes};
 ghost use Rattle.station_core.specs.Step.{State};
 ghost use Rattle.station_core.specs.Texts.{refusal_text};
@@ -21,17 +21,15 @@ use station_days::Moment;
 use std::alloc::{AllocError, Global};
 use stock_list::{RunFault, answer_text, keeper_fault, send_line};
 
-/// The line for a body that says no command of the verb.
+/// The line for a body that isn't a command of the verb.
 const BAD_BODY: &str = "body bad\n";
 
-/// An answer by itself.
 fn plain_line(alloc: Global, text: &str) -> Result<String, AllocError>
     ensures { IfOk result (λ line. string_bytes line ≡ text.now ++ 10 ∷ []) }
 {
     format!(in alloc; "{text}\n")
 }
 
-/// An answer behind a number.
 fn line_of_number(alloc: Global, number: u64, text: &str) -> Result<String, AllocError>
     ensures { IfOk result (λ line. string_bytes line
         ≡ codes "line " ++ (decimal number ++ (32 ∷ (text.now ++ 10 ∷ [])))) }
@@ -39,7 +37,6 @@ fn line_of_number(alloc: Global, number: u64, text: &str) -> Result<String, Allo
     format!(in alloc; "line {number} {text}\n")
 }
 
-/// An answer behind a key.
 fn line_of_key(alloc: Global, key: &Key, text: &str) -> Result<String, AllocError>
     ensures { IfOk result
         (λ line. string_bytes line ≡ key.now ++ (32 ∷ (text.now ++ 10 ∷ []))) }
@@ -47,7 +44,7 @@ fn line_of_key(alloc: Global, key: &Key, text: &str) -> Result<String, AllocErro
     format!(in alloc; "{key} {text}\n")
 }
 
-/// The line of an answer that is named by its number, where it has one.
+/// Returns the line of an answer after its number, if it has one.
 fn numbered_line(alloc: Global, number: Option<u64>, text: &str) -> Result<String, AllocError>
     ensures { IfOk result (λ line. string_bytes line ≡ numbered number (text.now ++ 10 ∷ [])) }
 {
@@ -57,7 +54,7 @@ fn numbered_line(alloc: Global, number: Option<u64>, text: &str) -> Result<Strin
     }
 }
 
-/// The line of an answer that is named by its key, where it has a number.
+/// Returns the line of an answer after its key, if it has a number.
 fn keyed_line(
     alloc: Global,
     number: Option<u64>,
@@ -73,10 +70,8 @@ fn keyed_line(
     }
 }
 
-/// The line of the text that an input is answered by. `number` is the line's of `acts`: it begins
-/// with the key of a command, or with the number of a telegram.
-///
-/// Returns [`AllocError`] when out of memory.
+/// Returns the line with the answer to an input. With a `number`, that of the line of `acts`, it
+/// begins with the key of a command or with the number of a telegram.
 pub fn named_line(
     alloc: Global,
     number: Option<u64>,
@@ -92,7 +87,6 @@ pub fn named_line(
     }
 }
 
-/// The line of an answer.
 fn answer_line(
     alloc: Global,
     number: Option<u64>,
@@ -106,7 +100,6 @@ fn answer_line(
     named_line(alloc, number, input, text.as_str())
 }
 
-/// The line of a refusal.
 pub(crate) fn refusal_line(
     alloc: Global,
     number: Option<u64>,
@@ -119,8 +112,8 @@ pub(crate) fn refusal_line(
     numbered_line(alloc, number, text.as_str())
 }
 
-/// Hands an input to the station, then writes the line of its answer, and why a telegram can't be
-/// read.
+/// Passes an input to the station, writes the line of its answer, and the reason if a telegram
+/// can't be read.
 fn answer_input<K: Keeper, O: ByteOut, E: ByteOut>(
     alloc: Global,
     keeper: &mut K,
@@ -171,10 +164,10 @@ fn answer_input<K: Keeper, O: ByteOut, E: ByteOut>(
     Ok(matches!(answer, Answer::Done(_)))
 }
 
-/// Writes the line of a telegram that is refused unread, and why.
+/// Writes the line of a telegram that can't be read, and the reason.
 ///
-/// Returns [`RunFault::Write`] where the writer fails, and [`RunFault::Memory`] when out of memory:
-/// a beginning of the line was written, or nothing.
+/// Returns [`RunFault::Write`] if the writer fails, and [`RunFault::Memory`] if memory runs out. A
+/// prefix of the line is written, perhaps empty.
 pub fn answer_refusal<O: ByteOut, E: ByteOut>(
     alloc: Global,
     writer: &mut O,
@@ -206,9 +199,9 @@ pub fn answer_refusal<O: ByteOut, E: ByteOut>(
     Ok(false)
 }
 
-/// Writes the line of a body that is none of a verb, and why.
+/// Writes the line of a body that isn't a command of the verb, and the reason.
 ///
-/// Returns [`RunFault::Write`] where the writer fails: a beginning of the line was written.
+/// Returns [`RunFault::Write`] if the writer fails. A prefix of the line is written.
 pub fn answer_bad<O: ByteOut, E: ByteOut>(
     alloc: Global,
     writer: &mut O,
@@ -234,10 +227,10 @@ pub fn answer_bad<O: ByteOut, E: ByteOut>(
     Ok(false)
 }
 
-/// Writes the line of a line of `acts` that is neither a command nor a telegram, and why.
+/// Writes the answer to a line of `acts` that is neither a command nor a telegram, and the reason.
 ///
-/// Returns [`RunFault::Write`] where the writer fails, and [`RunFault::Memory`] when out of memory:
-/// a beginning of the line was written, or nothing.
+/// Returns [`RunFault::Write`] if the writer fails, and [`RunFault::Memory`] if memory runs out. A
+/// prefix of the line is written, perhaps empty.
 pub fn answer_bad_line<O: ByteOut, E: ByteOut>(
     alloc: Global,
     writer: &mut O,
@@ -266,8 +259,8 @@ pub fn answer_bad_line<O: ByteOut, E: ByteOut>(
     Ok(false)
 }
 
-/// Does what is asked, then writes its line, and why it can't be read where it can't. `number` is
-/// the line's of `acts`, whose answer begins with the key, or with this number.
+/// Does what is requested, writes the line of the answer, and the reason if it can't be read. With
+/// a `number`, that of the line of `acts`, the answer begins with the key or with the number.
 pub(crate) fn answer_asked<K: Keeper, O: ByteOut, E: ByteOut>(
     alloc: Global,
     keeper: &mut K,

@@ -1,4 +1,4 @@
-//! What the input of a command asks.
+//! Reading the input of a command.
 ghost use Rattle.std.specs.Prelude.{IfOk};
 ghost use Rattle.cli_run.specs.Asked.{IsTelegramAsked, IsCommandAsked};
 
@@ -10,22 +10,20 @@ use station_core::{Input, Key};
 use std::alloc::{AllocError, Global};
 use telegrams::{TelegramFault, read_telegram};
 
-/// What the input of a command asks.
+/// A request in the input of a command.
 #[derive(Drop)]
 pub enum Asked<'a> {
-    /// It is no telegram, and is refused.
+    /// The input isn't a telegram, and is refused.
     Refused(Refusal),
-    /// It is no body of this verb.
+    /// The input isn't a body of this verb.
     Bad { verb: Verb, body: &'a [u8] },
-    /// It is a line of `acts` that is neither a command nor a telegram.
+    /// A line of `acts` that is neither a command nor a telegram.
     BadLine(&'a [u8]),
-    /// It is for the station.
+    /// An input for the station.
     Input(Input<'a>),
 }
 
-/// What a telegram asks.
-///
-/// Returns [`AllocError`] when out of memory.
+/// Returns the request in a telegram.
 pub fn telegram_asked<'a>(alloc: Global, bytes: &'a [u8]) -> Result<Asked<'a>, AllocError>
     ensures { IfOk result (IsTelegramAsked bytes.entry.now) }
 {
@@ -36,9 +34,7 @@ pub fn telegram_asked<'a>(alloc: Global, bytes: &'a [u8]) -> Result<Asked<'a>, A
     }
 }
 
-/// What a body of JSON asks under a key.
-///
-/// Returns [`AllocError`] when out of memory.
+/// Returns the request in a JSON body under a key.
 pub fn command_asked<'a>(
     alloc: Global,
     verb: Verb,

@@ -13,8 +13,8 @@ use std::io::{ErrorKind, Read};
 use std::marker::Model;
 use stock_list::Watched;
 
-/// What feeds a command: a reader of std, with a count of what it gave that contracts alone see. It
-/// knows whether a read has failed, and counts the inputs that were begun.
+/// The input of a command: a reader of std, with a count of its calls that only contracts see. It
+/// remembers whether a read failed, and counts the inputs that were begun.
 #[derive(Drop)]
 pub struct Feed<'a, R> {
     counted: Counted<R>,
@@ -31,7 +31,7 @@ impl<'a, R> Model for Feed<'a, R> {
 }
 
 impl<'a, R> Feed<'a, R> {
-    /// Nothing was read yet. A reader of several inputs reads the one that the turns say.
+    /// Wraps a reader. A reader of several inputs reads the one at which `turns` is.
     pub fn new(reader: R, turns: &'a Turns) -> Feed<'a, R>
         ensures reader { reader_of result ≡ reader }
         ensures nothing { fed_of result ≡ nothing_given }
@@ -49,7 +49,7 @@ impl<R: Read> ByteIn for Feed<'_, R> {
 
     fn read(&mut self, buf: &mut [u8]) -> Result<usize, ReadFault>
         ensures step { ReadStep (fed_of self.old) (fed_of self.new) result buf.new }
-        // What is known to be left of the reader loses these bytes, and no others.
+        // If the reader's remaining bytes are known, exactly these bytes were removed.
         ensures inner { ReadConsumes (R.remaining (reader_of self.old))
             (R.remaining (reader_of self.new)) result buf.new }
     {
@@ -81,7 +81,7 @@ impl<R: Read> Inputs for Feed<'_, R> {
 impl<R: Read> Read for Feed<'_, R> {
     ghost remaining = { λ f. R.remaining (reader_of f) };
 
-    /// One read, made again where it is interrupted.
+    /// Reads once, and again if interrupted.
     fn read(&mut self, buf: &mut [u8]) -> io::Result<usize> {
         for _ in 0..u64::MAX {
             match ByteIn::read(self, buf) {

@@ -1,4 +1,4 @@
-//! The history of a waybill.
+//! Histories of waybills.
 ghost use Rattle.std.specs.Prelude.{◌≡◌, false, OnOk};
 ghost use Rattle.station_core.specs.Keeping.{KeepsWorking, KeepsPremise, keeping};
 ghost use Rattle.cli_run.specs.History.{HasToldHistory, HasToldRows, by_listing};
@@ -11,7 +11,7 @@ use station_core::{ByteOut, Keeper};
 use std::alloc::Global;
 use stock_list::RunFault;
 
-/// The moves and the trail of a waybill.
+/// Writes the moves and the trail of a waybill.
 fn tell_rows<K: Keeper, W: ByteOut>(
     alloc: Global,
     keeper: &mut K,
@@ -37,7 +37,7 @@ fn tell_rows<K: Keeper, W: ByteOut>(
     }
 }
 
-/// `history AWB`: what is known of a waybill, its moves and its trail.
+/// Runs `history AWB`: writes the record of a waybill, its moves and its trail.
 pub(crate) fn do_history<K: Keeper, W: ByteOut>(
     alloc: Global,
     keeper: &mut K,

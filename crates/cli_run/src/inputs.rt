@@ -4,37 +4,36 @@ ghost use Rattle.std.specs.Prelude.{◌≡◌};
 use std::cell::Cell;
 use stock_list::Watched;
 
-/// A reader of one input after another.
+/// A reader of several inputs, one after another.
 pub trait Inputs: Watched {
-    /// It went on to its next input: what it reads from then on is of that input.
+    /// The relation of the reader to itself at the next input.
     ghost turned: { Self → Self → Type 0 };
 
-    /// Goes on to the next input; the first one too is reached so. Nothing is read.
+    /// Begins the next input, also the first one. Nothing is read.
     fn next_input(&mut self)
         ensures turned { turned self.old self.new }
         ensures unread { Self.given self.new ≡ Self.given self.old };
 }
 
-/// How many inputs were begun: a feed counts them, and its reader sees by it which one is read.
+/// The number of inputs that were begun. A feed counts them, and its reader reads the current one.
 #[derive(Drop)]
 pub struct Turns {
     begun: Cell<usize>,
 }
 
 impl Turns {
-    /// No input was begun yet.
+    /// Starts before the first input.
     pub fn new() -> Turns {
         Turns {
             begun: Cell::new(0),
         }
     }
 
-    /// How many inputs were begun.
+    /// Returns the number of inputs that were begun.
     pub fn begun(&self) -> usize {
         self.begun.get()
     }
 
-    /// Begins the next input.
     pub(crate) fn begin_next(&self) {
         self.begun.set(self.begun.get().saturating_add(1));
     }

@@ -1,4 +1,4 @@
-//! What the lines of `acts` make together, and what each command leaves.
+//! Laws about the lines of `acts` together, and about the inputs of each command.
 ghost use Rattle.std.specs.Prelude.{◌≡◌, ℕ, Bool, false, List, Result};
 ghost use Rattle.station_days.specs.Date.{LocalMinute};
 ghost use Rattle.station_core.specs.Step.{State};
@@ -16,9 +16,9 @@ use crate::inputs::Inputs;
 use station_core::{ByteOut, Keeper};
 use std::io::Read;
 
-/// The answered lines of `acts` are a run of the station over what they ask: they leave the state
-/// after all of it, what is written is the lines of the answers, and the run is good exactly if
-/// each answer is.
+/// The answered lines of `acts` are a run of the station over their requests: they leave the state
+/// after all of them, the output is the lines of the answers, and the run is good exactly if each
+/// answer is.
 pub fn acts_law<K: Keeper, E: ByteOut>()
     ensures { (lines : List (List ℕ)) (at : LocalMinute) (old new : Come K E) (good : Bool)
         → AreAnswered
@@ -29,8 +29,8 @@ pub fn acts_law<K: Keeper, E: ByteOut>()
         → HasRunActs 1 s at lines old.sent.bytes new.sent.bytes (K.keeps new.keeper) good }
 {}
 
-/// Whatever a command returns, a reopening behind it finds the state after the inputs that it
-/// answered and, where the store failed, at most one more.
+/// Whatever a command returns, reopening afterwards finds the state after the inputs that it
+/// answered and, if the store failed, perhaps one more.
 pub fn left_law<K: Keeper, I: Inputs + Read, W: ByteOut, E: ByteOut>()
     ensures { (command : Command) (here : List ℕ) (at : LocalMinute) (s : State)
         (old new : K × Reached I W E) (result : Result Bool RunFault)

@@ -1,5 +1,4 @@
-//! The run of a line's command, over any keeper, reader and writer: what each command does, and
-//! which one a line asks for.
+//! The commands of the command line, over any keeper, reader and writer.
 #![tactic(auto)]
 
 mod act;

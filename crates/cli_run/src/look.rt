@@ -1,4 +1,4 @@
-//! The commands that look a number up.
+//! Look-ups of numbers.
 ghost use Rattle.std.specs.Prelude.{◌≡◌, ◌++◌, ◌∷◌, [], false, Err, IfOk, OnOk, Some, None};
 ghost use Rattle.std.specs.Prelude.{option_map, string_bytes};
 ghost use Rattle.serde_json.specs.Data.{Data};
@@ -14,17 +14,15 @@ use station_core::{ByteOut, Keeper, Waybill};
 use std::alloc::{AllocError, Global};
 use stock_list::{RunFault, keeper_fault, send_line};
 
-/// The line of a number of which nothing is known.
 const UNKNOWN: &str = "unknown\n";
 
-/// The line of an object.
 fn object_line(alloc: Global, object: &str) -> Result<String, AllocError>
     ensures { IfOk result (λ line. string_bytes line ≡ object.now ++ 10 ∷ []) }
 {
     format!(in alloc; "{object}\n")
 }
 
-/// Writes the line of an object, where memory allowed it.
+/// Writes the line of an object, unless memory ran out for it.
 fn tell_object<W: ByteOut>(
     alloc: Global,
     object: Result<String, AllocError>,
@@ -44,7 +42,6 @@ fn tell_object<W: ByteOut>(
     Ok(true)
 }
 
-/// Tells that nothing is known.
 fn tell_unknown<W: ByteOut>(output: &mut W) -> Result<bool, RunFault>
     ensures told { HasToldFound None (W.taken output.old) (W.taken output.new) result }
     ensures store { result ≡ Err RunFault.Store → ⊥ }
@@ -53,7 +50,6 @@ fn tell_unknown<W: ByteOut>(output: &mut W) -> Result<bool, RunFault>
     Ok(false)
 }
 
-/// Tells what is known of a waybill.
 fn tell_waybill<W: ByteOut>(
     alloc: Global,
     number: &Awb,
@@ -70,7 +66,6 @@ fn tell_waybill<W: ByteOut>(
     }
 }
 
-/// Tells who holds a number.
 fn tell_holder<W: ByteOut>(
     alloc: Global,
     number: &Awb,
@@ -87,7 +82,7 @@ fn tell_holder<W: ByteOut>(
     }
 }
 
-/// `waybill AWB`: what is known of a waybill.
+/// Runs `waybill AWB`: writes the record of a waybill.
 pub(crate) fn do_waybill<K: Keeper, W: ByteOut>(
     alloc: Global,
     keeper: &mut K,
@@ -106,7 +101,7 @@ pub(crate) fn do_waybill<K: Keeper, W: ByteOut>(
     }
 }
 
-/// `holder AWB`: who holds a number.
+/// Runs `holder AWB`: writes the holder of a number.
 pub(crate) fn do_holder<K: Keeper, W: ByteOut>(
     alloc: Global,
     keeper: &mut K,

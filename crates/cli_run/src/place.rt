@@ -1,11 +1,11 @@
-//! The station of a line.
+//! The station of a command line.
 ghost use Rattle.std.specs.Prelude.{◌≡◌};
 ghost use Rattle.cli_run.specs.Place.{here_of, is_migration, is_new};
 
 use cli_words::{Line, LineCommand};
 use imp_fields::Airport;
 
-/// The airport of a line's station: `XXX` where it names none.
+/// Returns the airport of a command line's station, or `XXX` if the line names none.
 pub fn airport_of_line(line: &Line<'_>) -> Airport
     ensures { result ≡ here_of line.now.station }
 {
@@ -15,7 +15,8 @@ pub fn airport_of_line(line: &Line<'_>) -> Airport
     }
 }
 
-/// Whether a line has a new station: `init` makes one, and without a file each line does.
+/// Returns whether the command line starts with a new station: `init` creates one, and so does each
+/// line without a file.
 pub fn is_opening(line: &Line<'_>) -> bool
     ensures { result ≡ is_new line.now.db line.now.command }
 {
@@ -25,7 +26,7 @@ pub fn is_opening(line: &Line<'_>) -> bool
     }
 }
 
-/// Whether a line's file is to have the tables of version 2 in place of those of version 1.
+/// Returns whether the command line upgrades a file from version 1 to version 2.
 pub fn is_migration(line: &Line<'_>) -> bool
     ensures { result ≡ is_migration line.now.command }
 {

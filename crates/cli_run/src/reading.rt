@@ -8,11 +8,11 @@ use station_core::{ByteIn, ReadFault};
 use std::alloc::Global;
 use stock_list::RunFault;
 
-/// The most bytes of one read.
+/// The size of one read.
 const CHUNK: usize = 4096;
 
-/// One read behind the bytes that have come. `true`: the input has ended. An interrupted read
-/// brings nothing.
+/// Reads once and appends the bytes. Returns true at the end of the input. An interrupted read
+/// appends nothing.
 #[tactic(auto, using(crate::proofs::Grown::read_within))]
 fn read_more<I: ByteIn>(reader: &mut I, bytes: &mut Vec<u8>) -> Result<bool, RunFault>
     ensures come { OnOk result
@@ -39,9 +39,9 @@ fn read_more<I: ByteIn>(reader: &mut I, bytes: &mut Vec<u8>) -> Result<bool, Run
     }
 }
 
-/// Reads an input to its end, or until more bytes have come than a telegram or a body has.
+/// Reads an input to its end, or until it is longer than any telegram or body.
 ///
-/// Returns [`RunFault::Read`] where the reader fails, and [`RunFault::Memory`] when out of memory.
+/// Returns [`RunFault::Read`] if the reader fails, and [`RunFault::Memory`] if memory runs out.
 #[tactic(auto, using(crate::proofs::Grown::more_within, crate::proofs::Grown::still_within))]
 pub fn read_input<I: ByteIn>(alloc: Global, reader: &mut I) -> Result<Vec<u8>, RunFault>
     ensures come { IfOk result

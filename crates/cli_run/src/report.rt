@@ -1,4 +1,4 @@
-//! The commands that report what a station keeps.
+//! Reports.
 ghost use Rattle.std.specs.Prelude.{◌≡◌, true, false, Err, OnOk, List, ℕ};
 ghost use Rattle.station_core.specs.Keeping.{KeepsWorking, KeepsPremise, OnlyReads, keeping};
 ghost use Rattle.station_core.specs.Step.{State};
@@ -11,7 +11,6 @@ use station_core::{ByteOut, Keeper};
 use std::alloc::Global;
 use stock_list::{RunFault, keeper_fault};
 
-/// Why a run ends where a report does.
 fn cause_fault(cause: ReportCause) -> RunFault
     ensures { result ≡ cause_fault cause }
 {
@@ -21,7 +20,7 @@ fn cause_fault(cause: ReportCause) -> RunFault
     }
 }
 
-/// What a run returns where a report has ended.
+/// Returns the result of a run from that of its report.
 fn run_ended(ended: Result<(), ReportFault>) -> Result<(), RunFault>
     ensures { result ≡ run_ended ended }
 {
@@ -33,9 +32,9 @@ fn run_ended(ended: Result<(), ReportFault>) -> Result<(), RunFault>
 
 /// Writes a report.
 ///
-/// Returns [`RunFault::Write`] where the writer fails or takes no byte, [`RunFault::Memory`] when
-/// out of memory, and [`RunFault::Store`] where the store fails, or failed before. A beginning of
-/// the report was written, and nothing has changed.
+/// Returns [`RunFault::Write`] if the writer fails or writes 0 bytes, [`RunFault::Memory`] if
+/// memory runs out, and [`RunFault::Store`] if the store fails, or failed before. A prefix of the
+/// report is written, and nothing has changed.
 fn run_report<K: Keeper, W: ByteOut>(
     alloc: Global,
     keeper: &mut K,
@@ -51,11 +50,11 @@ fn run_report<K: Keeper, W: ByteOut>(
         → K.is_broken keeper.old ≡ false → result ≡ Err RunFault.Store → K.may_fail }
     ensures writes { StopsReport (W.taken writer.old) (W.taken writer.new) result }
 
-    // A text is the report that went out.
+    // One text is the report that was written.
     ensures told { (s : State) → K.keeps keeper.old s → K.is_sound keeper.new
         → OnOk result ((text : List ℕ) × IsListing form s listing.now text
         × HasReported text (W.taken writer.old) (W.taken writer.new) result) }
-    // Of each text that is the report, it went out, or a beginning of it.
+    // Each text of the report was written, or a prefix.
     ensures each { (s : State) → K.keeps keeper.old s → K.is_sound keeper.new → (text : List ℕ)
         → IsListing form s listing.now text
         → HasReported text (W.taken writer.old) (W.taken writer.new) result }
@@ -63,7 +62,6 @@ fn run_report<K: Keeper, W: ByteOut>(
     run_ended(write_listing(alloc, keeper, listing, form, writer, &[]))
 }
 
-/// What went out is no refusal.
 pub(crate) fn good_of(ended: Result<(), RunFault>) -> Result<bool, RunFault>
     ensures { result ≡ good_of ended }
 {
@@ -73,7 +71,6 @@ pub(crate) fn good_of(ended: Result<(), RunFault>) -> Result<bool, RunFault>
     }
 }
 
-/// Writes a report.
 fn send_report<K: Keeper, W: ByteOut>(
     alloc: Global,
     keeper: &mut K,
@@ -88,7 +85,7 @@ fn send_report<K: Keeper, W: ByteOut>(
     run_report(alloc, keeper, listing, form, output)
 }
 
-/// `report NAME`, or `outbox`: a report, or a part of one.
+/// Runs `report NAME` or `outbox`: writes a report, or a part of one.
 pub(crate) fn do_report<K: Keeper, W: ByteOut>(
     alloc: Global,
     keeper: &mut K,

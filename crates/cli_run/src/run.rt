@@ -1,4 +1,4 @@
-//! A command over its station.
+//! Running a command over its station.
 ghost use Rattle.std.specs.Prelude.{◌≡◌, false, length, OnOk};
 ghost use Rattle.cli_run.specs.Answered.{HasAnsweredAsked};
 ghost use Rattle.cli_run.specs.Asked.{IsCommandAsked};
@@ -28,7 +28,7 @@ use std::alloc::Global;
 use std::io::Read;
 use stock_list::{RunFault, Watched, run_stock};
 
-/// `init`: the line of a station that was made.
+/// Runs `init`: writes the line of the new station.
 fn do_init<K: Keeper, W: ByteOut>(
     _keeper: &mut K,
     here: Airport,
@@ -43,7 +43,7 @@ fn do_init<K: Keeper, W: ByteOut>(
     }
 }
 
-/// `stock`: the answers of a stock list.
+/// Runs `stock`: writes the answers to a stock list.
 fn do_stock<K: Keeper, I: Watched + Read, W: ByteOut, E: ByteOut>(
     alloc: Global,
     keeper: &mut K,
@@ -65,7 +65,7 @@ fn do_stock<K: Keeper, I: Watched + Read, W: ByteOut, E: ByteOut>(
     run_stock(alloc, keeper, reader, output, errors, at)
 }
 
-/// `take FILE ..`: the answers of telegrams.
+/// Runs `take FILE ..`: writes the answers to telegrams.
 fn do_take<K: Keeper, I: Inputs, W: ByteOut, E: ByteOut>(
     alloc: Global,
     keeper: &mut K,
@@ -86,7 +86,7 @@ fn do_take<K: Keeper, I: Inputs, W: ByteOut, E: ByteOut>(
     run_takes(alloc, keeper, paths.len(), reader, output, errors, at)
 }
 
-/// `acts`: the answers of commands and telegrams.
+/// Runs `acts`: writes the answers to commands and telegrams.
 fn do_acts<K: Keeper, I: Watched + Read, W: ByteOut, E: ByteOut>(
     alloc: Global,
     keeper: &mut K,
@@ -106,7 +106,7 @@ fn do_acts<K: Keeper, I: Watched + Read, W: ByteOut, E: ByteOut>(
     run_acts(alloc, keeper, reader, output, errors, at)
 }
 
-/// `act VERB KEY`: the answer of a command under its key.
+/// Runs `act VERB KEY`: writes the answer to a command under its key.
 fn do_act<K: Keeper, I: ByteIn, W: ByteOut, E: ByteOut>(
     alloc: Global,
     keeper: &mut K,
@@ -131,13 +131,13 @@ fn do_act<K: Keeper, I: ByteIn, W: ByteOut, E: ByteOut>(
     run_act(alloc, keeper, verb, key, reader, output, errors, at)
 }
 
-/// Runs the command of a line over its station, at a moment. `serve`, `migrate` and `read` aren't
-/// run here: nothing is done or written. Why a row, a telegram or a body can't be read is written
-/// on `errors`.
+/// Runs the command of a command line over its station, at a moment. For `serve`, `migrate` and
+/// `read` it does nothing. If a row, a telegram or a body can't be read, the reason is written to
+/// `errors`.
 ///
-/// `Ok` says whether all was accepted. Returns [`RunFault::Read`], [`RunFault::Write`],
-/// [`RunFault::Memory`] or [`RunFault::Store`] where the run stopped, as its command's own call
-/// says.
+/// `Ok` says whether everything was accepted. If the run stops, it returns [`RunFault::Read`],
+/// [`RunFault::Write`], [`RunFault::Memory`] or [`RunFault::Store`], as described at the command's
+/// own function.
 pub fn run_over<K: Keeper, I: Inputs + Read, W: ByteOut, E: ByteOut>(
     alloc: Global,
     keeper: &mut K,

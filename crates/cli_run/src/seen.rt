@@ -1,4 +1,4 @@
-//! A look at a telegram before it is taken.
+//! Dry runs of telegrams.
 ghost use Rattle.std.specs.Prelude.{◌≡◌, ◌⊎◌, ◌++◌, ◌∷◌, [], None, Some, false, not, Err, IfOk, IfErr, OnOk, OnErr, string_bytes};
 ghost use Rattle.station_core.specs.Texts.{refusal_text};
 ghost use Rattle.stock_list.specs.Ended.{IsUntroubled, IsWriteOrUntroubled, WriteHasCause};
@@ -19,7 +19,7 @@ use stock_list::{RunFault, send_line};
 use telegram_look::{Look, look_at, look_text};
 use telegrams::TelegramFault;
 
-/// What is written of a telegram, whether nothing of it is doubtful, and its refusal if it can't be
+/// The text of a dry run, whether nothing is doubtful, and the refusal if the telegram can't be
 /// read.
 #[derive(Drop)]
 struct Seen {
@@ -28,7 +28,7 @@ struct Seen {
     refusal: Option<Refusal>,
 }
 
-/// What is seen of a telegram.
+/// Returns the dry run of a telegram.
 fn seen_look(alloc: Global, look: &Look<'_>) -> Result<Seen, AllocError>
     ensures { IfOk result (λ seen. (string_bytes seen.text ≡ look_text look.now)
         × (seen.good ≡ not (has_doubt look.now)) × (seen.refusal ≡ None)) }
@@ -41,7 +41,7 @@ fn seen_look(alloc: Global, look: &Look<'_>) -> Result<Seen, AllocError>
     })
 }
 
-/// The refusal of what is no telegram.
+/// Returns the dry run of bytes that aren't a telegram.
 fn seen_refusal(alloc: Global, refusal: Refusal) -> Result<Seen, AllocError>
     ensures { IfOk result (λ seen. (string_bytes seen.text ≡ refusal_text refusal ++ 10 ∷ [])
         × (seen.good ≡ false) × (seen.refusal ≡ Some refusal)) }
@@ -54,7 +54,6 @@ fn seen_refusal(alloc: Global, refusal: Refusal) -> Result<Seen, AllocError>
     })
 }
 
-/// What is seen of bytes.
 fn seen_of(alloc: Global, bytes: &[u8]) -> Result<Seen, AllocError>
     ensures { IfOk result (λ seen. IsSeen bytes.now (string_bytes seen.text) seen.good
         (has_reason seen.refusal)) }
@@ -66,7 +65,7 @@ fn seen_of(alloc: Global, bytes: &[u8]) -> Result<Seen, AllocError>
     }
 }
 
-/// Writes why a telegram can't be read, if it was refused.
+/// Writes the reason if the telegram was refused.
 fn tell_seen<E: ByteOut>(alloc: Global, errors: &mut E, refusal: &Option<Refusal>)
     ensures { HasToldWhy E.taken (has_reason refusal.now) (telegram_head None) errors.old
         errors.new }
@@ -77,7 +76,7 @@ fn tell_seen<E: ByteOut>(alloc: Global, errors: &mut E, refusal: &Option<Refusal
     }
 }
 
-/// Writes what is seen, and why a telegram can't be read.
+/// Writes a dry run, and the reason if the telegram can't be read.
 fn write_seen<O: ByteOut, E: ByteOut>(
     alloc: Global,
     writer: &mut O,
@@ -101,26 +100,31 @@ fn write_seen<O: ByteOut, E: ByteOut>(
     Ok(seen.good)
 }
 
-/// Reads one telegram and writes what the desk would read of it, in lines for people; or the
-/// refusal with which it would be refused. Then its reason is written on `errors`, after the line.
-/// No station is asked. `Ok` says whether it is a telegram of which nothing is doubtful.
+/// Reads one telegram and writes a dry run, in lines for people, or the refusal that the telegram
+/// would get, with its reason on `errors` after the line. The station isn't called. `Ok` says
+/// whether it is a telegram in which nothing is doubtful.
 ///
-/// Returns [`RunFault::Read`] if the reader fails, and [`RunFault::Memory`] when out of memory:
-/// nothing was written. Returns [`RunFault::Write`] if the writer fails: a beginning of the text or
-/// of the refusal's line was written. At each of them nothing was written on `errors`.
+/// # Errors
+///
+/// Nothing is written to `errors`.
+///
+/// - [`RunFault::Read`]: the reader fails. Nothing is written.
+/// - [`RunFault::Memory`]: memory runs out. Nothing is written.
+/// - [`RunFault::Write`]: the writer fails. A prefix of the text or of the refusal's line is
+///   written.
 pub fn run_read<I: ByteIn, O: ByteOut, E: ByteOut>(
     alloc: Global,
     reader: &mut I,
     writer: &mut O,
     errors: &mut E,
 ) -> Result<bool, RunFault>
-    // The text of the bytes that came was written, and the reason of a refusal that has one, or a
-    // beginning of that reason.
+    // The text of the bytes was written, and the reason of a refusal that has one, or a prefix of
+    // the reason.
     ensures seen { IfOk result (HasSeen (I.given reader.old) (I.given reader.new)
         (O.taken writer.old) (O.taken writer.new) E.taken errors.old errors.new) }
     ensures untroubled { OnOk result (IsUntroubled (O.taken writer.old) (O.taken writer.new)) }
 
-    // At a fault nothing was written, or a beginning of that text, and nothing goes to the errors.
+    // After a fault nothing was written, or a prefix of that text, and nothing to `errors`.
     ensures stopped { IfErr result (HasStoppedLook (I.given reader.old) (I.given reader.new)
         (O.taken writer.old) (O.taken writer.new)) }
     ensures quiet { OnErr result (errors.new ≡ errors.old) }
@@ -132,11 +136,11 @@ pub fn run_read<I: ByteIn, O: ByteOut, E: ByteOut>(
     ensures write_told { IfErr result (λ e. IsWriteOrUntroubled e (O.taken writer.old)
         (O.taken writer.new)) }
 
-    // At any fault but the writer's nothing was written.
+    // After any fault except the writer's, nothing was written.
     ensures unwritten { IfErr result (λ e. (e ≡ RunFault.Write)
         ⊎ (O.taken writer.new ≡ O.taken writer.old)) }
 
-    // Of an input that is too long only a beginning is read.
+    // Only a prefix of an input that is too long is read.
     ensures most { IsWithin most_come (I.given reader.old) (I.given reader.new) }
 {
     let bytes = read_input(alloc, reader)?;

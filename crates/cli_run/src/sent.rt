@@ -1,4 +1,4 @@
-//! Lines that go out in parts.
+//! Lines written in parts.
 ghost use Rattle.std.specs.Prelude.{◌≡◌, ◌++◌, ◌∷◌, [], IfErr, OnErr, OnOk};
 ghost use Rattle.station_core.specs.Ends.{HasCause, HasSent};
 ghost use Rattle.stock_list.specs.Ended.{IsUntroubled};
@@ -8,7 +8,7 @@ use stock_list::RunFault;
 
 /// Writes a part of a line.
 ///
-/// Returns [`RunFault::Write`] where the writer fails or takes no byte: a beginning of it went out.
+/// Returns [`RunFault::Write`] if the writer fails or writes 0 bytes. A prefix is written.
 pub fn send_part<W: ByteOut>(writer: &mut W, part: &[u8]) -> Result<(), RunFault>
     ensures all { OnOk result
         ((W.taken writer.new).bytes ≡ (W.taken writer.old).bytes ++ part.now) }
@@ -25,7 +25,7 @@ pub fn send_part<W: ByteOut>(writer: &mut W, part: &[u8]) -> Result<(), RunFault
 
 /// Writes a line of a head and a word.
 ///
-/// Returns [`RunFault::Write`] where the writer fails or takes no byte: a beginning of it went out.
+/// Returns [`RunFault::Write`] if the writer fails or writes 0 bytes. A prefix is written.
 #[tactic(auto, using(crate::proofs::Parts::cause_behind, crate::proofs::Parts::cause_behind_two))]
 pub fn send_word<W: ByteOut>(writer: &mut W, head: &str, word: &[u8]) -> Result<(), RunFault>
     ensures all { OnOk result

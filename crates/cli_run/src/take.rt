@@ -17,18 +17,21 @@ use station_days::Moment;
 use std::alloc::Global;
 use stock_list::RunFault;
 
-/// Reads one telegram, hands it to the station at a moment, and writes the line of its answer: `ok
-/// 10`, `refused 213 LH400/2026-01-12/FRA/1`, or `refused 301 4 ending` where it can't be read. Of
-/// an input with more than 65,536 bytes, which is refused, only a beginning is read. Why a telegram
-/// can't be read (301, 302) is written on `errors`, behind the line. `Ok` says whether it was
-/// accepted.
+/// Reads one telegram, passes it to the station at a moment, and writes the line of its answer: `ok
+/// 10`, `refused 213 LH400/2026-01-12/FRA/1`, or `refused 301 4 ending` if it can't be read. An
+/// input of more than 65,536 bytes is refused, and only a prefix of it is read. After that line,
+/// the reason why a telegram can't be read (301, 302) is written to `errors`. `Ok` says whether the
+/// telegram was accepted.
 ///
-/// Returns [`RunFault::Read`] where the reader fails, and [`RunFault::Memory`] where memory runs
-/// out before the station is asked: nothing was done or written. Returns [`RunFault::Store`] where
-/// the store fails, or failed before: nothing was written, and the telegram was taken wholly or not
-/// at all. Returns [`RunFault::Write`] where the writer fails: the telegram was answered, and a
-/// beginning of the line was written. Returns [`RunFault::Memory`] too where memory for the line
-/// runs out: the telegram was answered, and nothing was written.
+/// # Errors
+///
+/// - [`RunFault::Read`]: the reader fails. Nothing is done or written.
+/// - [`RunFault::Memory`]: memory runs out before the station is called, and nothing is done or
+///   written; or it runs out for the line, after the telegram was answered, and nothing is written.
+/// - [`RunFault::Store`]: the store fails, or failed before. Nothing is written, and the telegram
+///   is taken wholly or not at all.
+/// - [`RunFault::Write`]: the writer fails. The telegram was answered, and a prefix of the line is
+///   written.
 pub fn run_take<K: Keeper, I: ByteIn, O: ByteOut, E: ByteOut>(
     alloc: Global,
     keeper: &mut K,
@@ -57,22 +60,22 @@ pub fn run_take<K: Keeper, I: ByteIn, O: ByteOut, E: ByteOut>(
         (O.taken writer.new)) }
     ensures untroubled { OnOk result (IsUntroubled (O.taken writer.old) (O.taken writer.new)) }
 
-    // At any fault but the writer's nothing was written.
+    // After any fault except the writer's, nothing was written.
     ensures unwritten { IfErr result (λ e. (e ≡ RunFault.Write)
         ⊎ (O.taken writer.new ≡ O.taken writer.old)) }
 
-    // Of an input that is too long only a beginning is read.
+    // Only a prefix of an input that is too long is read.
     ensures most { IsWithin most_come (I.given reader.old) (I.given reader.new) }
 
-    // Behind its line a telegram that can't be read has its reason, or a beginning of it, and
-    // nothing else goes there.
+    // After its line a telegram that can't be read gets its reason, or a prefix of it. Nothing else
+    // is written to `errors`.
     ensures quiet { result ≡ Ok true → errors.new ≡ errors.old }
     ensures reasons { HasExplainedRun IsTelegramAsked
         (keeping K.keeps K.is_clean K.is_sound K.is_broken K.may_find K.may_fail) at E.taken
         (come keeper.old (O.taken writer.old) errors.old, I.given reader.old)
         (come keeper.new (O.taken writer.new) errors.new, I.given reader.new) result }
 
-    // A station that has to be opened again stays as it is, and nothing is asked of it.
+    // A broken station stays as it is, and isn't called.
     ensures same { StaysIfBroken (K.is_broken keeper.old) keeper.old keeper.new }
     ensures reopen { K.is_broken keeper.old ≡ true
         → HasRunShut IsTelegramAsked (I.given reader.old) (I.given reader.new) (O.taken writer.old)

@@ -1,4 +1,4 @@
-//! Telegrams that are taken one after another.
+//! Taking several telegrams.
 ghost use Rattle.std.specs.Prelude.{◌≡◌, false, OnOk};
 ghost use Rattle.station_core.specs.Keeping.{KeepsWorking, KeepsPremise, keeping};
 ghost use Rattle.cli_run.specs.Takes.{HasTakenNext};
@@ -11,7 +11,7 @@ use station_days::Moment;
 use std::alloc::Global;
 use stock_list::{RunFault, Watched};
 
-/// Goes on to the next input, and takes its telegram.
+/// Begins the next input, and takes its telegram.
 fn take_next<K: Keeper, I: Inputs, W: ByteOut, E: ByteOut>(
     alloc: Global,
     keeper: &mut K,
@@ -31,11 +31,11 @@ fn take_next<K: Keeper, I: Inputs, W: ByteOut, E: ByteOut>(
     run_take(alloc, keeper, reader, writer, errors, at)
 }
 
-/// Takes the telegrams of so many inputs, each after the one before it, all at one moment, and
-/// writes the line of each. `Ok` says whether all were accepted.
+/// Takes the telegrams of `count` inputs one after another, all at one moment, and writes the line
+/// of each answer. `Ok` says whether all were accepted.
 ///
-/// A fault ends the run, as that of [`run_take`] does: the telegrams before it are answered, those
-/// after it are not read.
+/// A fault ends the run, as described at [`run_take`]. The telegrams before it are answered, and
+/// those after it aren't read.
 pub fn run_takes<K: Keeper, I: Inputs, W: ByteOut, E: ByteOut>(
     alloc: Global,
     keeper: &mut K,

@@ -1,4 +1,4 @@
-//! Why an input can't be read, on standard error.
+//! Reasons on standard error why an input can't be read.
 ghost use Rattle.std.specs.Prelude.{codes};
 ghost use Rattle.input_reasons.specs.Reason.{HasReason, is_unread};
 ghost use Rattle.cli_run.specs.Explained.{answered_unread, reason_head, HasToldWhy};
@@ -12,14 +12,14 @@ use shipment_machine::Refusal;
 use station_core::{Answer, ByteOut, Input};
 use std::alloc::Global;
 
-/// Writes why a body is bad.
+/// Writes the reason why a body is bad.
 pub(crate) fn tell_body<E: ByteOut>(alloc: Global, errors: &mut E, verb: Verb, body: &[u8])
     ensures { HasReason (codes "body: ") (E.taken errors.old).bytes (E.taken errors.new).bytes }
 {
     tell_reason(errors, body_reason(alloc, verb, body));
 }
 
-/// Writes why a line of `acts` is neither a command nor a telegram.
+/// Writes the reason why a line of `acts` is neither a command nor a telegram.
 pub(crate) fn tell_bad_line<E: ByteOut>(
     alloc: Global,
     errors: &mut E,
@@ -31,7 +31,7 @@ pub(crate) fn tell_bad_line<E: ByteOut>(
     tell_reason(errors, act_line_reason(alloc, text, number.unwrap_or(0)));
 }
 
-/// Writes why a telegram can't be read.
+/// Writes the reason why a telegram can't be read.
 fn tell_unread<E: ByteOut>(alloc: Global, errors: &mut E, number: Option<u64>, refusal: &Refusal)
     ensures { HasReason (reason_head number (Asked.Refused refusal.now)) (E.taken errors.old).bytes
         (E.taken errors.new).bytes }
@@ -42,7 +42,8 @@ fn tell_unread<E: ByteOut>(alloc: Global, errors: &mut E, number: Option<u64>, r
     }
 }
 
-/// Writes why a telegram can't be read, where its refusal says that, as far as the writer takes it.
+/// Writes the reason why a telegram can't be read, if that is its refusal, as far as the writer
+/// takes it.
 pub fn tell_refusal<E: ByteOut>(
     alloc: Global,
     errors: &mut E,
@@ -58,8 +59,8 @@ pub fn tell_refusal<E: ByteOut>(
     tell_unread(alloc, errors, number, refusal);
 }
 
-/// Writes why a telegram can't be read, where its answer says that. Of a command nothing is
-/// written.
+/// Writes the reason why a telegram can't be read, if that is its answer. For a command it writes
+/// nothing.
 pub(crate) fn tell_answer<E: ByteOut>(
     alloc: Global,
     errors: &mut E,

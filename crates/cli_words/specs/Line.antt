@@ -1,4 +1,4 @@
--- What the words of a call ask.
+-- The meaning of the words of a call.
 use Rattle.std.specs.Prelude.{◌≡◌, ◌≤◌, ◌||◌, ℕ, Bool, true, false, is_some, List, map, Option, Some, None, Ok, IsSome, IfSome, IsTrue, codes, option_map, if◌then◌else◌}
 use Rattle.awb_number.specs.Number.{number_of}
 use Rattle.imp_fields.specs.Airport.{airport_of}
@@ -13,22 +13,22 @@ use Rattle.cli_words.specs.declared.words.Request.TheVariants as request
 use Rattle.cli_words.specs.Listed.{form_of, IsListed}
 use Rattle.cli_words.specs.Number.{IsNumber}
 
--- A new file needs its path and its airport, and one that is migrated its path. A port and a count
--- are at least 1.
+-- A new file needs its path and its airport, and an upgrade the path. A port and a count are at
+-- least 1.
 abbrev pub IsCalled : LineCommand → Type 0 → Type 0 → Type 0
 IsCalled command.Init HasFile HasAirport = HasFile × HasAirport
 IsCalled command.Migrate HasFile HasAirport = HasFile
 IsCalled (command.Serve port count) HasFile HasAirport = (1 ≤ port) × IfSome count (λ k. 1 ≤ k)
 IsCalled _ HasFile HasAirport = Unit {0}
 
--- a running service is asked anything but to make, to upgrade or to serve a station
+-- a running service can do anything except create, upgrade or serve a station
 abbrev pub is_asked : LineCommand → Bool
 is_asked command.Init = false
 is_asked command.Migrate = false
 is_asked (command.Serve port count) = false
 is_asked _ = true
 
--- a line that asks a running service names no file and no airport of its own
+-- a command line for a running service names no file and no airport of its own
 pub record AsksService (line : Line) : Type 0 where
   pub no_file : line.db ≡ None
   pub no_airport : line.station ≡ None
@@ -60,27 +60,27 @@ Means (request.Serve port count) (command.Serve p None) = IsNumber 16 port.now p
 Means (request.Serve port (Some count)) (command.Serve p (Some k)) = IsNumber 16 port.now p × IsNumber 32 count.now k
 Means _ _ = ⊥
 
--- the airport that is named, if one is
+-- the airport, if one is named
 abbrev pub IsStation : Option (List ℕ) → Option (List ℕ) → Type 0
 IsStation None airport = airport ≡ None
 IsStation (Some text) airport = IsSome airport × (airport ≡ airport_of text)
 
--- the port of the service that is asked, if one is named
+-- the port of the service, if one is named
 abbrev pub IsAt : Option (List ℕ) → Option ℕ → Type 0
 IsAt None port = port ≡ None
 IsAt (Some text) (Some port) = IsNumber 16 text port × (1 ≤ port)
 IsAt (Some text) None = ⊥
 
--- the words name what a running service has itself: a file, an airport or a zone
+-- the words name a file, an airport or a zone, which a running service has itself
 abbrev pub has_own : Words → Bool
 has_own words = is_some words.db || is_some words.station || is_some words.zone
 
--- the zone of the rule that is named, or of UTC0
+-- the rule of the zone, UTC0 by default
 abbrev pub rule_of : Option (List ℕ) → List ℕ
 rule_of None = codes "UTC0"
 rule_of (Some rule) = rule
 
--- the line says what the words say
+-- the command line has the meaning of the words
 pub record IsMeant (words : Words) (line : Line) : Type 0 where
   pub db : line.db ≡ words.db
   pub at : IsAt (option_map (λ text. text.now) words.at) line.at

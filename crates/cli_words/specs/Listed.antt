@@ -1,4 +1,4 @@
--- Which listing the words of `report` ask for.
+-- The listing that the words of `report` request.
 use Rattle.std.specs.Prelude.{◌≡◌, ◌⊎◌, ℕ, Bool, true, false, List, ◌∷◌, ◌++◌, Option, Some, None, Ok, IsTrue, codes, option_map, if◌then◌else◌}
 use Rattle.agent_stock.specs.Code.{is_agent_code}
 use Rattle.awb_number.specs.Number.{number_of}
@@ -15,17 +15,15 @@ use Rattle.reports.specs.declared.report.Report.TheVariants as report
 use Rattle.cli_words.specs.Number.{IsNumber}
 use Rattle.cli_words.specs.declared.words.ReportWords.{ReportWords}
 
--- the form of a report
 abbrev pub form_of : Bool → Form
 form_of json = if json then form.Json else form.Text
 
--- what is open: flights that haven't departed, and what isn't checked in
+-- open rows: flights that haven't departed, and expectations that aren't checked in
 abbrev pub IsOpen : Report → Listing → Type 0
 IsOpen report.Flights l = l ≡ listing.OpenFlights
 IsOpen report.Expected l = l ≡ listing.OpenExpected
 IsOpen _ l = ⊥
 
--- the numbers of an agent
 abbrev pub HasAgent : Report → List ℕ → Listing → Type 0
 HasAgent report.Stock code l = IsTrue (is_agent_code code) × (l ≡ listing.AgentStock code)
 HasAgent _ code l = ⊥
@@ -42,13 +40,13 @@ IsAfter report.Movements text l = (n : ℕ) × IsNumber 32 text n × (l ≡ list
 IsAfter report.Trail text l = (n : ℕ) × IsNumber 32 text n × (l ≡ listing.TrailAfter n)
 IsAfter _ text l = ⊥
 
--- the last moves, or the last lines of the trail, so many of them
+-- the last moves, or the last lines of the trail
 abbrev pub IsLast : Report → List ℕ → Listing → Type 0
 IsLast report.Movements text l = (n : ℕ) × IsNumber 32 text n × (l ≡ listing.MovementsLast n)
 IsLast report.Trail text l = (n : ℕ) × IsNumber 32 text n × (l ≡ listing.TrailLast n)
 IsLast _ text l = ⊥
 
--- the whole report, or the part that one of the words after its name asks for: its flight, --open,
+-- the whole report, or the part that one of the words after its name requests: its flight, --open,
 -- --agent, --awb, --after and --last
 abbrev pub IsPart : Report → Option (List ℕ) → Bool → Option (List ℕ) → Option (List ℕ)
     → Option (List ℕ) → Option (List ℕ) → Listing → Type 0
@@ -72,7 +70,7 @@ IsFlightDay text f =
     (flight day : List ℕ) × (text ≡ flight ++ 47 ∷ day) × (flight_of flight ≡ Some f.flight)
     × (day_of day ≡ Some f.day)
 
--- the manifest of a flight takes no word but the flight
+-- the manifest of a flight allows no word except the flight
 abbrev pub IsManifest : Option (List ℕ) → Bool → Option (List ℕ) → Option (List ℕ)
     → Option (List ℕ) → Option (List ℕ) → Listing → Type 0
 IsManifest (Some text) false None None None None l =

@@ -1,25 +1,24 @@
-//! The commands of the program, and the words that each takes.
+//! The commands of the program, and the words of each.
 
 use crate::help;
 
-/// How a word is given.
+/// The kind of a word.
 #[derive(Clone, Copy)]
 pub(crate) enum Given {
-    /// By its place, and it must be there.
+    /// Positional and required.
     Always,
-    /// By its place, once or more.
+    /// Positional, once or more.
     Repeatedly,
-    /// By its place, if at all.
+    /// Positional and optional.
     Optionally,
-    /// As an option with a value, at most once; the help names the value so.
+    /// An option with a value, at most once. The help uses this name for the value.
     Option(&'static str),
-    /// As such an option that must be there.
+    /// The same, but required.
     NeededOption(&'static str),
-    /// As an option without a value.
+    /// An option without a value.
     Flag,
 }
 
-/// A word of a command.
 #[derive(Clone, Copy)]
 pub(crate) struct Word {
     pub(crate) name: &'static str,
@@ -27,16 +26,15 @@ pub(crate) struct Word {
     pub(crate) help: &'static str,
 }
 
-/// What stands behind a command.
+/// The arguments of a command.
 #[derive(Clone, Copy)]
 pub(crate) enum Takes {
-    /// These words.
+    /// Words.
     Words(&'static [Word]),
     /// A verb and a key.
     Verb,
 }
 
-/// A command, with what the help says of it.
 #[derive(Clone, Copy)]
 pub(crate) struct CommandWords {
     pub(crate) name: &'static str,
@@ -45,7 +43,6 @@ pub(crate) struct CommandWords {
     pub(crate) takes: Takes,
 }
 
-/// The options before a command.
 pub(crate) const OPTIONS: [Word; 4] = [
     Word {
         name: "db",
@@ -69,14 +66,12 @@ pub(crate) const OPTIONS: [Word; 4] = [
     },
 ];
 
-/// The word behind a verb.
 pub(crate) const KEY: [Word; 1] = [Word {
     name: "KEY",
     given: Given::Always,
     help: help::KEY,
 }];
 
-/// The word of a command that looks a number up.
 const LOOK_UP: [Word; 1] = [Word {
     name: "AWB",
     given: Given::Always,

@@ -1,19 +1,19 @@
 use std::alloc::{AllocError, Global};
 
-/// Why words aren't a line.
+/// The reason why words aren't a command line.
 #[derive(Debug, Drop)]
 pub enum WordsFault {
-    /// The help was asked for: this is its text.
+    /// The help was requested: its text.
     Help(String),
-    /// The program's version was asked for.
+    /// The program's version was requested.
     Version,
-    /// The words are others: this says which, and how to call the program.
+    /// Wrong usage: the fault, and how to call the program.
     Usage(String),
     /// Memory ran out.
     Memory,
 }
 
-/// A word that `clap` let pass, and that is none of its place.
+/// A word that `clap` accepted, and that isn't valid in its place.
 #[derive(Clone, Copy, Debug, PartialEq, Eq)]
 pub(crate) enum BadValue<'a> {
     Station(&'a str),
@@ -21,16 +21,16 @@ pub(crate) enum BadValue<'a> {
     Verb(&'a str),
     Key(&'a str),
     ReportName(&'a str),
-    /// It hasn't the shape of a waybill number.
+    /// It doesn't have the form of a waybill number.
     Number(&'a str),
-    /// It has, and its last digit is another one than its check digit.
+    /// It has that form, but the wrong check digit.
     CheckDigit(&'a str),
     Agent(&'a str),
     After(&'a str),
     Last(&'a str),
     /// It isn't a flight and its day.
     Flight(&'a str),
-    /// The report has no such part.
+    /// The report doesn't have this part.
     Part(&'a str),
     Port(&'a str),
     Count(&'a str),
@@ -40,45 +40,40 @@ pub(crate) enum BadValue<'a> {
     Migrate,
     /// `report manifest` without a flight.
     Manifest,
-    /// `--at` with an option or a command that needs the station itself.
+    /// `--at` with an option or a command that needs the station's own file.
     Beside,
 }
 
-/// What is expected as a key.
 const KEY: &str =
     "expected 1 to 40 printable characters without spaces; the body is read from standard input";
 
-/// What is expected as a waybill number.
+/// The expectation for a waybill number.
 const NUMBER: &str =
     "expected three digits, a hyphen, seven digits and their check digit, such as 020-12345675";
 
-/// What is expected of a number with a wrong check digit.
+/// The expectation for a number with a wrong check digit.
 const CHECK_DIGIT: &str = "wrong check digit, expected the seven digits before it modulo 7";
 
-/// The names of reports.
 const REPORT_NAME: &str =
     "expected stock, shed, flights, expected, irregularities, movements, trail or manifest";
 
-/// Which part of which report can be had.
 const PART: &str =
     "only flights and expected take --open, only stock takes --agent, only movements and trail \
     take --awb, --after or --last, only manifest takes FLIGHT; a report takes one of them";
 
-/// What `--at` doesn't go with.
+/// The options and commands that exclude `--at`.
 const BESIDE: &str =
     "--at can't be used with --db, --station, --zone, init, migrate or serve: the service has its \
     own file, airport and zone";
 
-/// What is expected as the flight of a manifest.
 const FLIGHT: &str = "expected a flight, a slash and its day, such as LH400/2026-01-12";
 
-/// The words for a text that isn't what its place takes.
+/// Returns the message for a text that isn't valid in its place.
 fn invalid(alloc: Global, place: &str, text: &str, expected: &str) -> Result<String, AllocError> {
     format!(in alloc; "invalid {place} '{text}': {expected}")
 }
 
 impl BadValue<'_> {
-    /// What is said of it.
     fn told(self, alloc: Global) -> Result<String, AllocError> {
         let (place, text, expected) = match self {
             BadValue::Station(text) => (
@@ -126,7 +121,6 @@ impl BadValue<'_> {
     }
 }
 
-/// The fault of a word that is none of its place.
 pub(crate) fn value_fault(alloc: Global, bad: BadValue<'_>) -> WordsFault {
     match bad.told(alloc) {
         Ok(told) => usage_fault(alloc, told.as_str()),
@@ -134,7 +128,7 @@ pub(crate) fn value_fault(alloc: Global, bad: BadValue<'_>) -> WordsFault {
     }
 }
 
-/// The fault of words of which this is said, with how to call the program.
+/// Returns the fault with this message, and how to call the program.
 pub fn usage_fault(alloc: Global, told: &str) -> WordsFault {
     match format!(in alloc;
         "error: {told}\n\nUsage: cargo_desk [OPTIONS] <COMMAND>\n\n\

@@ -1,4 +1,4 @@
-//! The words of a call, read to what they ask.
+//! The words of a call, and their meaning.
 #![tactic(auto)]
 
 mod commands;

@@ -2,7 +2,7 @@
 ghost use Rattle.std.specs.Prelude.{◌≤◌, IfSome};
 ghost use Rattle.cli_words.specs.Number.{IsNumber};
 
-/// A port: 1 to 65535.
+/// Reads a port: 1 to 65535.
 pub(crate) fn read_port(text: &str) -> Option<u16>
     ensures value { IfSome result (IsNumber 16 text.now) }
     ensures least { IfSome result (λ port. 1 ≤ port) }
@@ -13,7 +13,7 @@ pub(crate) fn read_port(text: &str) -> Option<u16>
     }
 }
 
-/// A count of connections: 1 to 4,294,967,295.
+/// Reads a count of connections: 1 to 4,294,967,295.
 pub(crate) fn read_count(text: &str) -> Option<u32>
     ensures value { IfSome result (IsNumber 32 text.now) }
     ensures least { IfSome result (λ count. 1 ≤ count) }
@@ -24,7 +24,7 @@ pub(crate) fn read_count(text: &str) -> Option<u32>
     }
 }
 
-/// The number of a row, or how many rows: 0 to 4,294,967,295.
+/// Reads the number of a row, or a number of rows: 0 to 4,294,967,295.
 pub(crate) fn read_row(text: &str) -> Option<u32>
     ensures { IfSome result (IsNumber 32 text.now) }
 {

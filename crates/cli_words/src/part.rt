@@ -1,4 +1,4 @@
-//! Which report, or which part of one, the words of `report` ask for.
+//! The report, or the part of one, that the words of `report` request.
 ghost use Rattle.std.specs.Prelude.{◌≡◌, IfOk, IfSome};
 ghost use Rattle.cli_words.specs.Listed.{form_of, HasAgent, HasPart, HasManifest, IsAfter, IsFlightDay, IsLast, IsListed, IsOpen, IsOfWaybill};
 
@@ -12,14 +12,12 @@ use imp_fields::Flight;
 use reports::{Form, Listing, Report};
 use shipment_machine::FlightDate;
 
-/// The form that is asked for.
 pub(crate) fn form_of(json: bool) -> Form
     ensures { result ≡ form_of json }
 {
     if json { Form::Json } else { Form::Text }
 }
 
-/// What is open of a report.
 fn open_part(report: Report) -> Option<Listing>
     ensures { IfSome result (IsOpen report) }
 {
@@ -30,7 +28,7 @@ fn open_part(report: Report) -> Option<Listing>
     }
 }
 
-/// What an agent has of a report.
+/// Returns an agent's rows of a report.
 fn agent_part<'a>(report: Report, name: &'a str, code: &'a str) -> Result<Listing, BadValue<'a>>
     ensures { IfOk result (HasAgent report code.entry.now) }
 {
@@ -43,7 +41,6 @@ fn agent_part<'a>(report: Report, name: &'a str, code: &'a str) -> Result<Listin
     }
 }
 
-/// The rows of a waybill.
 fn waybill_part<'a>(report: Report, name: &'a str, word: &'a str) -> Result<Listing, BadValue<'a>>
     ensures { IfOk result (IsOfWaybill report word.entry.now) }
 {
@@ -55,7 +52,7 @@ fn waybill_part<'a>(report: Report, name: &'a str, word: &'a str) -> Result<List
     }
 }
 
-/// The rows after a number.
+/// Returns the rows after a number.
 fn later_part<'a>(report: Report, name: &'a str, word: &'a str) -> Result<Listing, BadValue<'a>>
     ensures { IfOk result (IsAfter report word.entry.now) }
 {
@@ -69,7 +66,6 @@ fn later_part<'a>(report: Report, name: &'a str, word: &'a str) -> Result<Listin
     }
 }
 
-/// The last rows, so many of them.
 fn last_part<'a>(report: Report, name: &'a str, word: &'a str) -> Result<Listing, BadValue<'a>>
     ensures { IfOk result (IsLast report word.entry.now) }
 {
@@ -83,7 +79,6 @@ fn last_part<'a>(report: Report, name: &'a str, word: &'a str) -> Result<Listing
     }
 }
 
-/// What is wanted of a report.
 fn read_part<'a>(report: Report, words: ReportWords<'a>) -> Result<Listing, BadValue<'a>>
     ensures { IfOk result (HasPart report words.entry) }
 {
@@ -108,7 +103,6 @@ fn read_part<'a>(report: Report, words: ReportWords<'a>) -> Result<Listing, BadV
     }
 }
 
-/// The flight and its day that a text such as `LH400/2026-01-12` names.
 fn read_flight(text: &str) -> Option<FlightDate>
     ensures { IfSome result (IsFlightDay text.now) }
 {
@@ -118,7 +112,6 @@ fn read_flight(text: &str) -> Option<FlightDate>
     Some(FlightDate { flight, day })
 }
 
-/// The manifest of a flight.
 fn read_manifest<'a>(words: ReportWords<'a>) -> Result<Listing, BadValue<'a>>
     ensures { IfOk result (HasManifest words.entry) }
 {
@@ -139,7 +132,7 @@ fn read_manifest<'a>(words: ReportWords<'a>) -> Result<Listing, BadValue<'a>>
     }
 }
 
-/// The listing that the words of `report` ask for.
+/// Returns the listing that the words of `report` request.
 pub(crate) fn read_listing<'a>(words: ReportWords<'a>) -> Result<Listing, BadValue<'a>>
     ensures { IfOk result (IsListed words.entry) }
 {

@@ -1,4 +1,4 @@
-//! The words of a call, to what they ask.
+//! Reading the words of a call.
 ghost use Rattle.std.specs.Prelude.{◌≡◌, true, false, IfOk, Ok, IsSome, option_map};
 ghost use Rattle.awb_number.specs.Number.{number_of};
 ghost use Rattle.cli_words.specs.Line.{has_own, is_asked, IsAt, IsCalled, IsLine, IsMeant, IsStation, Means, rule_of};
@@ -17,7 +17,6 @@ use station_core::Key;
 use std::alloc::Global;
 use std::convert::AsStr;
 
-/// The command of a verb and a key.
 fn read_act<'a>(word: &'a str, key: &'a str) -> Result<LineCommand<'a>, BadValue<'a>>
     ensures { IfOk result (Means (Request.Act word.entry key.entry)) }
 {
@@ -30,7 +29,6 @@ fn read_act<'a>(word: &'a str, key: &'a str) -> Result<LineCommand<'a>, BadValue
     }
 }
 
-/// The waybill number that a text spells, or why it spells none.
 fn number_of(text: &str) -> Result<Awb, AwbFault>
     ensures { result ≡ number_of text.now }
 {
@@ -40,7 +38,6 @@ fn number_of(text: &str) -> Result<Awb, AwbFault>
     }
 }
 
-/// The waybill number that a word is.
 pub(crate) fn read_number<'a>(word: &'a str) -> Result<Awb, BadValue<'a>>
     ensures { IfOk result (λ w. number_of word.entry.now ≡ Ok w) }
 {
@@ -51,7 +48,6 @@ pub(crate) fn read_number<'a>(word: &'a str) -> Result<Awb, BadValue<'a>>
     }
 }
 
-/// The look-up of a waybill.
 fn read_waybill<'a>(word: &'a str) -> Result<LineCommand<'a>, BadValue<'a>>
     ensures { IfOk result (Means (Request.Waybill word.entry)) }
 {
@@ -61,7 +57,6 @@ fn read_waybill<'a>(word: &'a str) -> Result<LineCommand<'a>, BadValue<'a>>
     }
 }
 
-/// The report that words ask for.
 fn read_report<'a>(words: ReportWords<'a>) -> Result<LineCommand<'a>, BadValue<'a>>
     ensures { IfOk result (Means (Request.Report words.entry)) }
 {
@@ -71,7 +66,6 @@ fn read_report<'a>(words: ReportWords<'a>) -> Result<LineCommand<'a>, BadValue<'
     }
 }
 
-/// The history of a waybill.
 fn read_history<'a>(word: &'a str) -> Result<LineCommand<'a>, BadValue<'a>>
     ensures { IfOk result (Means (Request.History word.entry)) }
 {
@@ -81,7 +75,6 @@ fn read_history<'a>(word: &'a str) -> Result<LineCommand<'a>, BadValue<'a>>
     }
 }
 
-/// The look-up of a number's holder.
 fn read_holder<'a>(word: &'a str) -> Result<LineCommand<'a>, BadValue<'a>>
     ensures { IfOk result (Means (Request.Holder word.entry)) }
 {
@@ -91,7 +84,7 @@ fn read_holder<'a>(word: &'a str) -> Result<LineCommand<'a>, BadValue<'a>>
     }
 }
 
-/// The service at a port, for so many connections.
+/// Returns the service at a port, for a number of connections.
 fn read_serve<'a>(port: &'a str, count: Option<&'a str>) -> Result<LineCommand<'a>, BadValue<'a>>
     ensures means { IfOk result (Means (Request.Serve port.entry count.entry)) }
     ensures least { IfOk result (λ command. IsCalled command ⊥ ⊥) }
@@ -114,7 +107,7 @@ fn read_serve<'a>(port: &'a str, count: Option<&'a str>) -> Result<LineCommand<'
     }
 }
 
-/// The messages that aren't confirmed: all, or those after a number.
+/// Returns the unconfirmed messages: all, or those after a number.
 fn read_outbox<'a>(after: Option<&'a str>, json: bool) -> Result<LineCommand<'a>, BadValue<'a>>
     ensures means { IfOk result (Means (Request.Outbox after.entry json)) }
     ensures called { IfOk result (λ command. IsCalled command ⊥ ⊥) }
@@ -131,7 +124,6 @@ fn read_outbox<'a>(after: Option<&'a str>, json: bool) -> Result<LineCommand<'a>
     }
 }
 
-/// The command that is asked for.
 fn read_command<'a>(
     request: Request<'a>,
     has_file: bool,
@@ -160,7 +152,6 @@ fn read_command<'a>(
     }
 }
 
-/// The airport that is named, if one is.
 fn read_station<'a>(station: Option<&'a str>) -> Result<Option<Airport>, BadValue<'a>>
     ensures { IfOk result (IsStation (option_map (λ text. text.now) station.entry)) }
 {
@@ -173,7 +164,6 @@ fn read_station<'a>(station: Option<&'a str>) -> Result<Option<Airport>, BadValu
     }
 }
 
-/// The port of the service that is asked, if one is named.
 fn read_at<'a>(at: Option<&'a str>) -> Result<Option<u16>, BadValue<'a>>
     ensures { IfOk result (IsAt (option_map (λ text. text.now) at.entry)) }
 {
@@ -186,7 +176,8 @@ fn read_at<'a>(at: Option<&'a str>) -> Result<Option<u16>, BadValue<'a>>
     }
 }
 
-/// Whether a command can be asked of a running service. One that needs no station can, too.
+/// Returns whether a command can be sent to a running service. A command that needs no station can
+/// be, too.
 fn is_asked(command: &LineCommand<'_>) -> bool
     ensures { result ≡ is_asked command.now }
 {
@@ -196,14 +187,12 @@ fn is_asked(command: &LineCommand<'_>) -> bool
     )
 }
 
-/// Whether the words name a file, an airport or a zone, which a running service has itself.
 fn has_own<'a>(words: &Words<'a>) -> bool
     ensures { result ≡ has_own words.now }
 {
     words.db.is_some() || words.station.is_some() || words.zone.is_some()
 }
 
-/// The rule of the zone: `UTC0` where none is named.
 fn rule_of<'a>(zone: Option<&'a str>) -> &'a str
     ensures { result.now ≡ rule_of (option_map (λ rule. rule.now) zone.entry) }
 {
@@ -213,7 +202,7 @@ fn rule_of<'a>(zone: Option<&'a str>) -> &'a str
     }
 }
 
-/// The command of a call that may ask a running service.
+/// Returns the command of a call that may ask a running service.
 fn read_asked<'a>(
     words: Words<'a>,
     at: bool,
@@ -241,7 +230,7 @@ fn read_asked<'a>(
     }
 }
 
-/// What sorted words ask.
+/// Returns the command line of sorted words.
 fn read_line<'a>(words: Words<'a>) -> Result<Line<'a>, BadValue<'a>>
     ensures whole { IfOk result IsLine }
     ensures meant { IfOk result (IsMeant words.entry) }
@@ -263,12 +252,15 @@ fn read_line<'a>(words: Words<'a>) -> Result<Line<'a>, BadValue<'a>>
 
 /// Reads the words of a call; the first is the program's name.
 ///
-/// Returns [`WordsFault::Help`] where the words ask for the help, also on a refusal by its number,
-/// and [`WordsFault::Version`] where they ask for the version; [`WordsFault::Usage`] for other words than a command's, a bad key,
-/// number or option's value, an unknown verb or name, an option given twice, `init` without `--db`
-/// and `--station`, `migrate` without `--db`, and `--at` with an option or a command that it
-/// doesn't go with, but not for a text that is no zone's rule; [`WordsFault::Memory`] when out of
-/// memory.
+/// # Errors
+///
+/// - [`WordsFault::Help`]: the words request the help, also on a refusal by its number.
+/// - [`WordsFault::Version`]: the words request the version.
+/// - [`WordsFault::Usage`]: the words aren't a command's, a key, number or option's value is bad, a
+///   verb or name is unknown, an option is given twice, `init` lacks `--db` or `--station`,
+///   `migrate` lacks `--db`, or `--at` is combined with an option or a command that excludes it.
+///   The rule of a zone isn't tested.
+/// - [`WordsFault::Memory`]: memory ran out.
 pub fn parse_words<'a, S: AsStr>(alloc: Global, words: &'a [S]) -> Result<Line<'a>, WordsFault>
     ensures { IfOk result IsLine }
 {

@@ -4,8 +4,8 @@ use crate::fault::{WordsFault, usage_fault};
 use std::alloc::{AllocError, Global};
 use std::convert::AsStr;
 
-/// A refusal, as `cargo_desk help NUMBER` explains it. The table of refusals in docs/STATION.md has
-/// the same texts.
+/// The help on a refusal, as `cargo_desk help NUMBER` prints it. The table of refusals in
+/// docs/STATION.md has the same texts.
 struct RefusalHelp {
     number: u16,
     meaning: &'static str,
@@ -13,7 +13,6 @@ struct RefusalHelp {
     advice: &'static str,
 }
 
-/// The refusals, by their numbers.
 const REFUSALS: &[RefusalHelp] = &[
     RefusalHelp {
         number: 101,
@@ -221,7 +220,6 @@ const REFUSALS: &[RefusalHelp] = &[
     },
 ];
 
-/// The lines of a refusal.
 fn text_of(alloc: Global, refusal: &RefusalHelp) -> Result<String, AllocError> {
     let RefusalHelp {
         number,
@@ -232,7 +230,7 @@ fn text_of(alloc: Global, refusal: &RefusalHelp) -> Result<String, AllocError> {
     format!(in alloc; "refused {number}: {meaning}\nDetail: {detail}\nWhat to do: {advice}\n")
 }
 
-/// The help on the refusal that a text numbers, or the usage if there is none.
+/// Returns the help on the refusal with this number, or the usage if there is none.
 fn help_on(alloc: Global, text: &str) -> WordsFault {
     for refusal in REFUSALS {
         if text.parse::<u16>() == Ok(refusal.number) {
@@ -248,7 +246,7 @@ fn help_on(alloc: Global, text: &str) -> WordsFault {
     }
 }
 
-/// The help on a refusal, if the words ask for one: `help` and a text of digits.
+/// Returns the help on a refusal, if the words request it: `help` and a text of digits.
 pub(crate) fn refusal_help<S: AsStr>(alloc: Global, words: &[S]) -> Option<WordsFault> {
     let [_, help, number] = words else {
         return None;

@@ -1,4 +1,4 @@
-//! The words as `clap` sorts them. No value is read here but by its place.
+//! The words as `clap` sorts them. Values aren't read here.
 
 use crate::commands::{COMMANDS, CommandWords, Given, KEY, OPTIONS, Takes, Word};
 use crate::fault::{WordsFault, usage_fault};
@@ -10,7 +10,7 @@ use desk_commands::{VERBS, Verb};
 use std::alloc::{AllocError, Global};
 use std::convert::AsStr;
 
-/// What the words ask for, by the command and its words.
+/// The request of a call: its command and the command's words.
 #[derive(Debug, Drop)]
 pub(crate) enum Request<'a> {
     Init,
@@ -37,8 +37,7 @@ pub(crate) enum Request<'a> {
     },
 }
 
-/// The words of `report`: the name, the flight of a manifest, and which part of the report is
-/// wanted.
+/// The words of `report`: the name, the flight of a manifest, and the requested part of the report.
 #[derive(Clone, Copy, Debug, PartialEq, Eq)]
 pub(crate) struct ReportWords<'a> {
     pub(crate) name: &'a str,
@@ -61,7 +60,7 @@ pub(crate) struct Words<'a> {
     pub(crate) request: Request<'a>,
 }
 
-/// A word of a command as `clap` takes it.
+/// Returns a word of a command as an argument of `clap`.
 fn arg_of<'a>(alloc: Global, word: &Word) -> Arg<'a> {
     let arg = Arg::new(alloc, word.name).help(word.help);
     match word.given {
@@ -78,7 +77,6 @@ fn arg_of<'a>(alloc: Global, word: &Word) -> Arg<'a> {
     }
 }
 
-/// A command with these words behind it.
 fn with_words<'a>(
     alloc: Global,
     mut command: Command<'a>,
@@ -90,7 +88,7 @@ fn with_words<'a>(
     Ok(command)
 }
 
-/// A command without words of its own.
+/// Returns a command without words of its own.
 fn bare<'a>(
     alloc: Global,
     name: &'static str,
@@ -100,13 +98,11 @@ fn bare<'a>(
     Command::new(alloc, name).about(about).after_help(examples)
 }
 
-/// The command of a verb.
 fn verb_command<'a>(alloc: Global, verb: Verb) -> Result<Command<'a>, AllocError> {
     let command = bare(alloc, verb.word(), verb.about(), help::FIELDS);
     with_words(alloc, command, &KEY)
 }
 
-/// A command with a verb behind it.
 fn with_verbs<'a>(alloc: Global, command: Command<'a>) -> Result<Command<'a>, AllocError> {
     let mut command = command
         .override_usage("cargo_desk act <VERB> <KEY>")
@@ -120,7 +116,7 @@ fn with_verbs<'a>(alloc: Global, command: Command<'a>) -> Result<Command<'a>, Al
     Ok(command)
 }
 
-/// A command of the program as `clap` takes it.
+/// Returns a command of the program as one of `clap`.
 fn command_of<'a>(alloc: Global, words: &CommandWords) -> Result<Command<'a>, AllocError> {
     let command = bare(alloc, words.name, words.about, words.examples);
     match words.takes {
@@ -129,7 +125,6 @@ fn command_of<'a>(alloc: Global, words: &CommandWords) -> Result<Command<'a>, Al
     }
 }
 
-/// The whole command line.
 fn desk<'a>(alloc: Global) -> Result<Command<'a>, AllocError> {
     let desk = bare(alloc, "cargo_desk", help::DESK, help::DESK_EXAMPLES)
         .version(program_version())
@@ -142,7 +137,6 @@ fn desk<'a>(alloc: Global) -> Result<Command<'a>, AllocError> {
     Ok(desk)
 }
 
-/// The paths of the telegrams' files.
 fn files_of<'a>(alloc: Global, words: &ArgMatches<'a>) -> Result<Vec<&'a str>, AllocError> {
     let mut files = Vec::new(alloc);
     if let Some(words) = words.get_strs("FILE") {
@@ -153,7 +147,7 @@ fn files_of<'a>(alloc: Global, words: &ArgMatches<'a>) -> Result<Vec<&'a str>, A
     Ok(files)
 }
 
-/// The words of `report`.
+/// Returns the words of `report`.
 fn report_words<'a>(words: &ArgMatches<'a>) -> Option<ReportWords<'a>> {
     Some(ReportWords {
         name: words.get_str("NAME")?,
@@ -167,7 +161,7 @@ fn report_words<'a>(words: &ArgMatches<'a>) -> Option<ReportWords<'a>> {
     })
 }
 
-/// What a command without files asks for.
+/// Returns the request of a command without files.
 fn asked<'a>(name: &str, words: &ArgMatches<'a>) -> Option<Request<'a>> {
     match name {
         "init" => Some(Request::Init),
@@ -198,9 +192,7 @@ fn asked<'a>(name: &str, words: &ArgMatches<'a>) -> Option<Request<'a>> {
     }
 }
 
-/// What the words ask for, where `clap` took them.
-///
-/// Returns [`AllocError`] when out of memory.
+/// Returns the request in words that `clap` accepted.
 fn requested<'a>(
     alloc: Global,
     matches: &ArgMatches<'a>,
@@ -215,7 +207,7 @@ fn requested<'a>(
     Ok(asked(name, words))
 }
 
-/// What the words say, where `clap` took them.
+/// Returns the words that `clap` accepted, sorted.
 fn sorted<'a>(alloc: Global, matches: &ArgMatches<'a>) -> Result<Words<'a>, WordsFault> {
     match requested(alloc, matches) {
         Ok(Some(request)) => Ok(Words {
@@ -230,7 +222,7 @@ fn sorted<'a>(alloc: Global, matches: &ArgMatches<'a>) -> Result<Words<'a>, Word
     }
 }
 
-/// What is said of an option behind its command, which `clap` names as a word that isn't expected.
+/// Returns the message for an option after its command, which `clap` reports as an unexpected word.
 fn late_option(told: &str) -> Option<&'static str> {
     let told = told.strip_prefix("error: unexpected argument '--")?;
     let (name, _) = told.split_once('\'')?;
@@ -243,7 +235,7 @@ fn late_option(told: &str) -> Option<&'static str> {
     }
 }
 
-/// Why `clap` refused the words, with its text.
+/// Returns the fault for words that `clap` refused, with its text.
 fn words_fault(alloc: Global, error: &Error) -> WordsFault {
     if error.kind() == ErrorKind::OutOfMemory {
         return WordsFault::Memory;

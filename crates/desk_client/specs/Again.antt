@@ -1,4 +1,4 @@
--- A question that is asked again.
+-- Questions in several tries.
 use Rattle.std.specs.Prelude.{◌≡◌, ◌⊎◌, ℕ, ◌+◌, Bool, true, false, List, Result, Ok, Err}
 use Rattle.station_core.specs.Given.{Given}
 use Rattle.desk_client.specs.Asked.{HasAsked}
@@ -12,8 +12,8 @@ use Rattle.desk_client.specs.declared.connect.LastTry.{LastTry}
 use Rattle.desk_client.specs.declared.connect.LastTry.TheVariants as last
 use Rattle.desk_client.specs.declared.connect.Service.{Service}
 
--- what was done with a service so far: how many connections were tried, and how many opened, what
--- was sent and what came over all of them, and how the last try ended
+-- the history of a service: how many connections were tried and opened, what was sent and received
+-- over all of them, and the outcome of the last try
 pub record Talk : Type 0 where
   pub tried : ℕ
   pub opened : ℕ
@@ -25,12 +25,11 @@ abbrev pub talk : {C I O : Type 0} → (C → ℕ) → (C → ℕ) → (I → Gi
 talk tried opened given taken s =
     record { tried = tried s.connections; opened = opened s.connections; sent = taken s.writer; come = given s.reader; last = s.last }
 
--- how a try ended
 abbrev pub last_of : Result Answer AskFault → LastTry
 last_of (Ok a) = last.Answered a.status
 last_of (Err e) = last.Failed e
 
--- The request was sent over a connection more, and its answer read.
+-- The request was sent over another connection, and its answer read.
 pub record HasTalked (until : Until) (request : List ℕ) (old new : Talk) (result : Result Answer AskFault) : Type 0 where
   pub tried : new.tried ≡ one_more old.tried
   pub one : new.opened ≡ old.opened + 1
@@ -48,42 +47,41 @@ pub record IsRefused (old new : Talk) (result : Result Answer AskFault) : Type 0
 abbrev pub IsRefusedOrTalked : Until → List ℕ → Talk → Talk → Result Answer AskFault → Type 0
 IsRefusedOrTalked until request old new result = IsRefused old new result ⊎ HasTalked until request old new result
 
--- one try, and how it ended is kept
+-- one try, whose outcome is recorded
 abbrev pub HasTried : Until → List ℕ → Talk → Talk → Result Answer AskFault → Type 0
 HasTried until request old new result = IsRefusedOrTalked until request old new result × (new.last ≡ last_of result)
 
--- a question that ended by this fault is asked again: no whole answer has come
+-- the question is sent again after this fault: no whole answer was received
 abbrev pub is_vain : AskFault → Bool
 is_vain fault.Memory = false
 is_vain _ = true
 
--- it isn't asked again
+-- the question isn't sent again
 abbrev pub IsSettled : Result Answer AskFault → Type 0
 IsSettled (Ok a) = Unit {0}
 IsSettled (Err e) = is_vain e ≡ false
 
--- asked once, and if that was vain, again
+-- a try, and another one if it was in vain
 abbrev pub HasTriedAgain : (Talk → Talk → Result Answer AskFault → Type 0)
     → (Talk → Talk → Result Answer AskFault → Type 0) → Talk → Talk → Result Answer AskFault → Type 0
 HasTriedAgain Once More old new result =
     (Once old new result × IsSettled result)
     ⊎ ((mid : Talk) × ((e : AskFault) × (is_vain e ≡ true) × Once old mid (Err e) × More mid new result))
 
--- once or twice, the same bytes
+-- at most two tries with the same bytes
 abbrev pub HasTriedTwice : Until → List ℕ → Talk → Talk → Result Answer AskFault → Type 0
 HasTriedTwice until request old new result =
     HasTriedAgain (HasTried until request) (HasTried until request) old new result
 
--- and three times at most
 abbrev pub HasTriedThrice : Until → List ℕ → Talk → Talk → Result Answer AskFault → Type 0
 HasTriedThrice until request old new result =
     HasTriedAgain (HasTried until request) (HasTriedTwice until request) old new result
 
--- the question was asked so; or memory ran out before it was, and nothing was done
+-- the question was asked in at most three tries; or memory ran out before, and nothing was done
 abbrev pub IsAskedUntil : Until → List ℕ → Talk → Talk → Result Answer AskFault → Type 0
 IsAskedUntil until request old new result =
     ((result ≡ Err fault.Memory) × (new ≡ old)) ⊎ HasTriedThrice until request old new result
 
--- and its answer was read to its end
+-- the same, with the answer read to its end
 abbrev pub IsAnswered : ℕ → List ℕ → Talk → Talk → Result Answer AskFault → Type 0
 IsAnswered most request old new result = IsAskedUntil (until.End most) request old new result

@@ -1,4 +1,4 @@
--- A count of what was done, which stays at the largest number that a program counts to.
+-- A count that stays at the largest number that the program can count to.
 use Rattle.std.specs.Prelude.{ℕ, ◌+◌, ◌-◌, ◌^◌, min}
 
 abbrev pub one_more : ℕ → ℕ

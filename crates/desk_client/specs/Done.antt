@@ -1,4 +1,4 @@
--- What a call leaves that asks a service, by its command.
+-- The effect of each command that asks a service.
 use Rattle.std.specs.Prelude.{◌≡◌, ◌<◌, ℕ, Bool, true, List, [], ◌++◌, length, Option, Result, Ok, Err, OnOk}
 use Rattle.desk_commands.specs.Verb.{word}
 use Rattle.reports.specs.declared.listing.Listing.TheVariants as listing
@@ -17,7 +17,7 @@ use Rattle.desk_client.specs.Posted.{HasAnsweredLine}
 use Rattle.desk_client.specs.Ran.{HasRun, HasTakenNext}
 use Rattle.desk_client.specs.Request.{command_request, get_request, holder_path, most_answer, rows_path, waybill_path}
 
--- the reader is named only where it failed, and its end is taken only where no read has failed
+-- the reader's fault is returned only if it failed, and its end is reached only if no read failed
 pub record IsReadToEnd (read_new : Given) (result : Result Bool RunFault) : Type 0 where
   pub read_cause : result ≡ Err fault.Read → 0 < read_new.failures
   pub no_failure : OnOk result (read_new.failures ≡ 0)

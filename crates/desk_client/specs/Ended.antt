@@ -1,4 +1,4 @@
--- The end of a report: the line with the number of its rows, or the end of the object of JSON.
+-- The end of a report: the line with the number of its rows, or the end of the JSON object.
 use Rattle.std.specs.Prelude.{◌==◌, ◌||◌, ◌&&◌, ◌-◌, ℕ, Bool, false, nat_lt, List, [], ◌∷◌, length, take, drop, reverse, codes, Option, Some, None, if◌then◌else◌}
 use Rattle.std.specs.List.{ends_with}
 use Rattle.std.specs.Cmp.Lexicographic.{pointwise}
@@ -6,20 +6,19 @@ use Rattle.std.specs.Str.{bytes_eq}
 use Rattle.station_days.specs.Steps.{where_true}
 use Rattle.awb_number.specs.Digits.{is_digit}
 
--- what follows the digits at the front
+-- the text after the leading digits
 abbrev pub behind_digits : List ℕ → List ℕ
 behind_digits [] = []
 behind_digits (b ∷ bs) = if is_digit b then behind_digits bs else b ∷ bs
 
--- what is before the digits at the end
 abbrev pub before_digits : List ℕ → List ℕ
 before_digits text = reverse (behind_digits (reverse text))
 
--- digits stand at the end, and this before them
+-- the text ends with digits, and with this before them
 abbrev pub has_count : (List ℕ → Bool) → List ℕ → Bool
 has_count is_front text = nat_lt (length (before_digits text)) (length text) && is_front (before_digits text)
 
--- a text without its end, where it has that one
+-- a text without `end`, if it ends with it
 abbrev pub without : List ℕ → List ℕ → Option (List ℕ)
 without end text =
     where_true (pointwise ◌==◌ (drop (length text - length end) text) end) (take (length text - length end) text)
@@ -28,11 +27,11 @@ abbrev pub has_count_in : (List ℕ → Bool) → Option (List ℕ) → Bool
 has_count_in is_front None = false
 has_count_in is_front (Some text) = has_count is_front text
 
--- the word of the last line, which begins a line
+-- the word of the last line, at the start of a line
 abbrev pub is_before_count : List ℕ → Bool
 is_before_count front = bytes_eq front (codes "END ") || ends_with ◌==◌ front (codes "\nEND ")
 
--- the end of the rows as JSON
+-- the end of the rows in JSON
 abbrev pub is_before_json_count : List ℕ → Bool
 is_before_json_count front = ends_with ◌==◌ front (codes "],\"count\":")
 

@@ -1,4 +1,4 @@
--- The line of an answer, and what it leaves.
+-- The line in an answer, and its effect.
 use Rattle.std.specs.Prelude.{◌≡◌, ◌⊎◌, ℕ, Bool, true, false, List, [], ◌∷◌, ◌++◌, drop, codes, string_bytes, Option, Result, Ok, Err}
 use Rattle.std.specs.Str.{bytes_eq}
 use Rattle.station_core.specs.Given.{Given}
@@ -25,18 +25,18 @@ use Rattle.desk_client.specs.declared.told.Told.TheVariants as told
 abbrev pub body_of : Answer → List ℕ
 body_of a = drop a.start a.bytes.items
 
--- a service that doesn't answer is told as a store that failed is, by a word of its own
+-- a service that doesn't answer is returned like a store that failed
 abbrev pub service_fault : AskFault → RunFault
 service_fault vain.Memory = fault.Memory
 service_fault _ = fault.Store
 
--- the answer tells this line; or none that a desk gives; or memory ran out
+-- the answer has this line; or it isn't a desk's; or memory ran out
 abbrev pub HasUnderstoodLine : Answer → Result Heard RunFault → Type 0
 HasUnderstoodLine a (Ok heard) = Tells a.status (body_of a) (told.Line heard.good heard.text)
 HasUnderstoodLine a (Err fault.Store) = Tells a.status (body_of a) told.Nothing
 HasUnderstoodLine a (Err e) = e ≡ fault.Memory
 
--- the service was asked so, and its answer tells that; or it didn't answer
+-- the service was asked, and its answer has this line; or it didn't answer
 abbrev pub HasHeard : List ℕ → ℕ → Talk → Talk → Result Heard RunFault → Type 0
 HasHeard request most old new (Ok heard) =
     (a : Answer) × IsAnswered most request old new (Ok a) × HasUnderstoodLine a (Ok heard)
@@ -44,24 +44,23 @@ HasHeard request most old new (Err e) =
     ((a : Answer) × IsAnswered most request old new (Ok a) × HasUnderstoodLine a (Err e))
     ⊎ ((f : AskFault) × IsAnswered most request old new (Err f) × (e ≡ service_fault f))
 
--- a telegram that was read can't be read after all: the date of its flight is no day
+-- a telegram that was read is refused as unreadable: the date of its flight isn't an existing day
 abbrev pub is_late : Input → List ℕ → Bool
 is_late (Keyed key command) text = false
 is_late (Wire telegram) text = bytes_eq text (codes "refused 301 2 date")
 
--- The service told a line, and that was written, with the reason of a telegram that can't be read.
+-- The service answered with a line, which was written, with the reason if a telegram can't be read.
 pub record HasToldHeard {E : Type 0} (taken : E → Given) (number : Option ℕ) (input : Input) (old new : Come Talk E) (heard : Heard) : Type 0 where
   pub line : new.sent.bytes ≡ old.sent.bytes ++ named number (asked.Input input) (string_bytes heard.text ++ 10 ∷ [])
   pub reason : HasToldWhy taken (is_late input (string_bytes heard.text)) (reason_head number (asked.Input input)) old.errors new.errors
 
--- It wasn't answered, and nothing was written; or its line was told, and a beginning of it was
--- written.
+-- There was no answer, and nothing was written; or a prefix of the answer's line was written.
 abbrev pub HasStoppedInput : {E : Type 0} → Option ℕ → Input → Come Talk E → Come Talk E → Result Heard RunFault → RunFault → Type 0
 HasStoppedInput number input old new (Err e) f = (f ≡ e) × (new.sent ≡ old.sent)
 HasStoppedInput number input old new (Ok heard) f =
     HasToldPart (named number (asked.Input input) (string_bytes heard.text ++ 10 ∷ [])) old.sent new.sent f
 
--- an input was handed to the service, and answered so
+-- an input was sent to the service, and answered in this way
 abbrev pub HasAnsweredInput : {E : Type 0} → (E → Given) → Option ℕ → Input → List ℕ → ℕ → Come Talk E → Come Talk E
     → Result Bool RunFault → Type 0
 HasAnsweredInput taken number input request most old new (Ok good) =
@@ -72,18 +71,18 @@ HasAnsweredInput taken number input request most old new (Err e) =
     × ((heard : Result Heard RunFault) × HasHeard request most old.keeper new.keeper heard
     × HasStoppedInput number input old new heard e)
 
--- what asks nothing of the service can't be read
+-- a request that isn't for the service can't be read
 abbrev pub cant_be_read : Asked → Bool
 cant_be_read (asked.Refused refusal) = is_unread refusal
 cant_be_read _ = true
 
--- it has its line and its reason, and the service isn't asked
+-- it gets its line and its reason, and the service isn't asked
 pub record HasAnsweredUnread {E : Type 0} (taken : E → Given) (number : Option ℕ) (asks : Asked) (old new : Come Talk E) (result : Result Bool RunFault) : Type 0 where
   pub same : new.keeper ≡ old.keeper
   pub line : IsAnsweredShut number asks old.sent new.sent result
   pub reason : HasGivenReason taken (cant_be_read asks) (reason_head number asks) old.errors new.errors result
 
--- what was asked was answered
+-- the request was answered
 abbrev pub HasAnswered : {E : Type 0} → (E → Given) → Option ℕ → Asked → List ℕ → ℕ → Come Talk E → Come Talk E
     → Result Bool RunFault → Type 0
 HasAnswered taken number (asked.Input input) request most old new result =

@@ -1,4 +1,4 @@
--- The line that a reply tells.
+-- The line in a reply.
 use Rattle.std.specs.Prelude.{◌≡◌, ℕ, ◌<◌, ◌^◌, List, Option, Some, None, ⊤, IsTrue}
 use Rattle.agent_stock.specs.Code.{is_agent_code}
 use Rattle.awb_number.specs.Number.{IsNumber}
@@ -19,7 +19,7 @@ reply_line (json_reply status allow d) = told_line status d
 reply_line (look_reply seen) = None
 reply_line (report_reply name) = None
 
--- pieces are a number of the program
+-- the number of pieces fits into 64 bits
 abbrev pub AreFew : Detail → Type 0
 AreFew (detail.Pieces pieces) = pieces < 2 ^ 64
 AreFew _ = ⊤
@@ -28,8 +28,8 @@ abbrev pub HasFew : Answer → Type 0
 HasFew (Done reply) = ⊤
 HasFew (Refused refusal) = AreFew refusal.detail
 
--- the values of a listing are those of the program: a code, a number, a row's number, and a flight
--- on a day that is read back from its text
+-- the values of a listing are in range: a code, a number, a row's number, and a flight on a day
+-- that is read back from its text
 abbrev pub IsListed : Listing → Type 0
 IsListed (listing.AgentStock code) = IsTrue (is_agent_code code)
 IsListed (listing.Movements w) = IsNumber w

@@ -1,4 +1,4 @@
--- What the rows of a stock list leave.
+-- The effect of a stock list's rows.
 use Rattle.std.specs.Prelude.{◌≡◌, ◌⊎◌, ◌+◌, ◌&&◌, ℕ, Bool, true, List, [], ◌∷◌, length, Option, Some, None, Result, Ok, Err, IfSome}
 use Rattle.serde_json.specs.Written.{compact_text}
 use Rattle.agent_stock.specs.declared.stock.Order.{Order}
@@ -28,14 +28,14 @@ order_request key order = command_request (word (order_verb order)) key (compact
 abbrev pub HasNotBegun : {E : Type 0} → Come Talk E → Come Talk E → Result Bool RunFault → Type 0
 HasNotBegun old new result = (new ≡ old) × (result ≡ Err fault.Memory)
 
--- the service was asked for the order, by a body that says it to a desk, and answered
+-- the service was sent the order, in a body that a desk reads as the order, and answered
 abbrev pub HasAnsweredOrder : {E : Type 0} → (E → Given) → ℕ → List ℕ → Order → Come Talk E → Come Talk E → Result Bool RunFault → Type 0
 HasAnsweredOrder taken number key order old new result =
     HasNotBegun old new result
     ⊎ (IsSaid (order_verb order) (compact_text (order_data order)) (Stock order)
     × HasAnsweredInput taken (Some number) (input_of (key, order)) (order_request key order) most_answer old new result)
 
--- a row that asks nothing has its line and its reason, and the service isn't asked
+-- a row without an order gets its line and its reason, and the service isn't asked
 pub record HasToldBadRow {E : Type 0} (taken : E → Given) (number : ℕ) (old new : Come Talk E) (result : Result Bool RunFault) : Type 0 where
   pub same : new.keeper ≡ old.keeper
   pub line : HasToldLine (bad_line number) old.sent new.sent result
@@ -45,26 +45,25 @@ abbrev pub HasAnsweredAsks : {E : Type 0} → (E → Given) → ℕ → Option (
 HasAnsweredAsks taken number None old new result = HasToldBadRow taken number old new result
 HasAnsweredAsks taken number (Some asked) old new result = HasAnsweredOrder taken number asked.0 asked.1 old new result
 
--- the row of this number was answered
 abbrev pub HasAnsweredRow : {E : Type 0} → (E → Given) → ℕ → Row → Come Talk E → Come Talk E → Result Bool RunFault → Type 0
 HasAnsweredRow taken number row old new result = HasAnsweredAsks taken number (row_asks row) old new result
 
--- Rows were answered, each from where the one before it has come; the first has this number. All is
--- good where each row is.
+-- Rows were answered, each from where the one before it ended; the first has this number. They are
+-- good if each row is.
 abbrev pub AreAnswered : {C : Type 0} → (ℕ → Row → C → C → Result Bool RunFault → Type 0) → ℕ → List Row → C → C → Bool → Type 0
 AreAnswered {C} Step number [] old new good = (new ≡ old) × (good ≡ true)
 AreAnswered {C} Step number (row ∷ rows) old new good =
     (mid : C) × ((one rest : Bool) × Step number row old mid (Ok one)
     × AreAnswered Step (number + 1) rows mid new rest × (good ≡ (one && rest)))
 
--- these rows were answered, and then no row came for want of a reader or of memory, or the next one
--- ended the call
+-- these rows were answered, and then no further row could be read as the reader failed or memory
+-- ran out, or the next one ended the call
 abbrev pub HasEndedAt : {C : Type 0} → (ℕ → Row → C → C → Result Bool RunFault → Type 0) → List Row → Option Row → C → C → RunFault → Type 0
 HasEndedAt Step rows None old new e = IsReadersFault e × ((good : Bool) × AreAnswered Step 1 rows old new good)
 HasEndedAt {C} Step rows (Some row) old new e =
     (mid : C) × ((good : Bool) × AreAnswered Step 1 rows old mid good × Step (length rows + 1) row mid new (Err e))
 
--- Every row was answered, or those up to a fault. `left` is the list, where it is known.
+-- Every row was answered, or those up to a fault. `left` is the list, if it is known.
 abbrev pub HaveRowsBeenAnswered : {C : Type 0} → (ℕ → Row → C → C → Result Bool RunFault → Type 0) → Option (List ℕ) → C → C → Result Bool RunFault → Type 0
 HaveRowsBeenAnswered Step left old new (Ok good) =
     (rows : List Row) × IfSome left (λ bytes. rows ≡ stock_rows bytes) × AreAnswered Step 1 rows old new good

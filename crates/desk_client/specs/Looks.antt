@@ -1,4 +1,4 @@
--- Reports and look-ups that are asked of a service.
+-- Reports and look-ups with a service.
 use Rattle.std.specs.Prelude.{◌≡◌, ◌⊎◌, ◌==◌, ◌&&◌, ℕ, Bool, true, false, List, [], ◌∷◌, ◌++◌, codes, Option, Some, None, Result, Ok, Err, ⊤}
 use Rattle.std.specs.Str.{bytes_eq}
 use Rattle.reports.specs.declared.form.Form.{Form}
@@ -18,7 +18,7 @@ use Rattle.desk_client.specs.declared.ask.Answer.{Answer}
 use Rattle.desk_client.specs.declared.ask.AskFault.{AskFault}
 use Rattle.desk_client.specs.declared.ask.Until.TheVariants as until
 
--- where a call has come: what was done with the service, and what was written
+-- the state of a call: the history of the service, and the output
 pub record Shown : Type 0 where
   pub talk : Talk
   pub sent : Given
@@ -26,12 +26,11 @@ pub record Shown : Type 0 where
 abbrev pub shown : Talk → Given → Shown
 shown talk sent = record { talk = talk; sent = sent }
 
--- the desk's own answer of a number of which it knows nothing
+-- a desk's own answer for an unknown number
 abbrev pub is_unknown : Answer → Bool
 is_unknown a = (a.status == 404) && bytes_eq (body_of a) (codes "{\"detail\":\"\",\"refused\":404}")
 
--- a text was written, and that is good or not; or a beginning of it, where the writer failed or
--- took no byte
+-- a text was written, with this result; or a prefix, and the writer failed or wrote 0 bytes
 abbrev pub HasShown : List ℕ → Bool → Given → Given → Result Bool RunFault → Type 0
 HasShown text good old new (Ok g) = (new.bytes ≡ old.bytes ++ text) × (g ≡ good)
 HasShown text good old new (Err e) = (e ≡ fault.Write) × HasSent text old new × HasCause old new
@@ -40,25 +39,24 @@ HasShown text good old new (Err e) = (e ≡ fault.Write) × HasSent text old new
 abbrev pub HasShownNothing : Given → Given → Result Bool RunFault → Type 0
 HasShownNothing old new result = (new ≡ old) × (result ≡ Err fault.Store)
 
--- a desk's answer with rows
 abbrev pub HasRows : Answer → Type 0
 HasRows a = (a.status ≡ 200) × (has_end (body_of a) ≡ true)
 
--- an answer with rows: they are written as they came; of any other answer nothing is
+-- an answer with rows: they are written unchanged; for any other answer nothing is written
 abbrev pub HasShownRows : Answer → Given → Given → Result Bool RunFault → Type 0
 HasShownRows a old new result =
     (HasRows a × HasShown (body_of a) true old new result)
     ⊎ ((¬ HasRows a) × HasShownNothing old new result)
 
--- an answer to a look-up: the object is written on a line, or that nothing is known; of any other
--- answer nothing is
+-- an answer to a look-up: the object is written on a line, or that the number is unknown; for any
+-- other answer nothing is written
 abbrev pub HasShownFound : Answer → Given → Given → Result Bool RunFault → Type 0
 HasShownFound a old new result =
     ((a.status ≡ 200) × HasShown (body_of a ++ 10 ∷ []) true old new result)
     ⊎ (((is_unknown a ≡ true) × HasShown (codes "unknown\n") false old new result)
     ⊎ ((¬ (a.status ≡ 200)) × (is_unknown a ≡ false) × HasShownNothing old new result))
 
--- the service was asked, and its answer shown so; or it didn't answer, and nothing was written
+-- the service was asked, and its answer was shown; or it didn't answer, and nothing was written
 abbrev pub HasLooked : (Answer → Given → Given → Result Bool RunFault → Type 0) → ℕ → List ℕ → Shown → Shown
     → Result Bool RunFault → Type 0
 HasLooked Shows most request old new result =
@@ -66,22 +64,21 @@ HasLooked Shows most request old new result =
     ⊎ ((f : AskFault) × IsAnswered most request old.talk new.talk (Err f) × (new.sent ≡ old.sent)
     × (result ≡ Err (service_fault f)))
 
--- the request of rows
 abbrev pub rows_request : List ℕ → List ℕ
 rows_request path = get_request path ++ []
 
--- an answer with rows was begun, or is whole
+-- an answer with rows of which a prefix was received, or a whole one
 abbrev pub IsTakenRows : Form → Answer → Option ℕ → Type 0
 IsTakenRows f a None = ⊤
 IsTakenRows f a (Some end) = IsBegun f a.bytes.items a.start end
 
--- its rows were printed: of a whole answer as they came, and else as they come
+-- its rows were printed: of a whole answer at once, otherwise as they arrive
 abbrev pub HasShownTaken : Form → Answer → Option ℕ → Talk → Talk → Given → Given → Result Bool RunFault → Type 0
 HasShownTaken f a None talk_old talk_new old new result = (talk_new ≡ talk_old) × HasShownRows a old new result
 HasShownTaken f a (Some end) talk_old talk_new old new result = HasPrinted f a talk_old talk_new old new result
 
--- The service was asked for rows, and then they were printed, with no further try; or it didn't
--- answer, and nothing was written.
+-- The service was asked for rows, which were printed without further tries; or it didn't answer,
+-- and nothing was written.
 abbrev pub HasAskedRows : List ℕ → Form → Shown → Shown → Result Bool RunFault → Type 0
 HasAskedRows path f old new result =
     ((a : Answer) × ((mid : Talk) × IsAskedUntil (until.Rows f) (rows_request path) old.talk mid (Ok a)
@@ -89,20 +86,19 @@ HasAskedRows path f old new result =
     ⊎ ((e : AskFault) × IsAskedUntil (until.Rows f) (rows_request path) old.talk new.talk (Err e) × (new.sent ≡ old.sent)
     × (result ≡ Err (service_fault e)))
 
--- a step, and after a good one the next
+-- a step, and the next one if it succeeded
 abbrev pub HasGoneOn : (Shown → Shown → Result Bool RunFault → Type 0) → (Shown → Shown → Result Bool RunFault → Type 0)
     → Shown → Shown → Result Bool RunFault → Type 0
 HasGoneOn First Next old new result =
     ((mid : Shown) × First old mid (Ok true) × Next mid new result)
     ⊎ (First old new result × (result ≡ Ok true → ⊥))
 
--- the moves of a waybill, and its trail
 abbrev pub HasAskedMoves : ℕ → Shown → Shown → Result Bool RunFault → Type 0
 HasAskedMoves w old new result =
     HasGoneOn (HasAskedRows (rows_path (listing.Movements w) form.Text) form.Text)
     (HasAskedRows (rows_path (listing.Trail w) form.Text) form.Text) old new result
 
--- what is known of a waybill, and its moves and its trail where it is known
+-- the record of a waybill, and its moves and its trail if it is known
 abbrev pub HasAskedHistory : ℕ → Shown → Shown → Result Bool RunFault → Type 0
 HasAskedHistory w old new result =
     HasGoneOn (HasLooked HasShownFound most_answer (get_request (waybill_path w) ++ []))

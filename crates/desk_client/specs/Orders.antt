@@ -1,4 +1,4 @@
--- The body of an order on the stock.
+-- The JSON body of a stock order.
 use Rattle.std.specs.Prelude.{◌≡◌, ℕ, List, codes, Some}
 use Rattle.serde_json.specs.Data.{Data, number, unsigned, string, object, member, no_members}
 use Rattle.serde_json.specs.Read.{read}
@@ -12,19 +12,18 @@ use Rattle.desk_commands.specs.Body.{IsBodyOf}
 use Rattle.desk_commands.specs.Command.{order_verb}
 use Rattle.desk_commands.specs.declared.command.Command.TheVariants.{Stock}
 
--- how many numbers, and the prefix and the serial of the first
+-- the count, and the prefix and the serial of the first number
 abbrev pub run_object : ℕ → List ℕ → List ℕ → Data
 run_object count prefix serial =
     object (member (codes "count") (number (unsigned count))
     (member (codes "prefix") (string prefix) (member (codes "serial") (string serial) no_members)))
 
--- and before them an agent
 abbrev pub agents_object : List ℕ → ℕ → List ℕ → List ℕ → Data
 agents_object agent count prefix serial =
     object (member (codes "agent") (string agent) (member (codes "count") (number (unsigned count))
     (member (codes "prefix") (string prefix) (member (codes "serial") (string serial) no_members))))
 
--- of a run, a prefix of three digits and a serial of seven
+-- the object of a run, with a prefix of three digits and a serial of seven
 abbrev pub run_data : Run → Data
 run_data run = run_object run.count (padded 3 (prefix_of run.first)) (padded 7 (serial_of run.first))
 
@@ -42,7 +41,7 @@ order_data (Void run) = run_data run
 abbrev pub IsTextOf : Data → List ℕ → Type 0
 IsTextOf d text = (text ≡ compact_text d) × (read text ≡ Some d)
 
--- the text of an order's body, which says the order
+-- the text of an order's body, which is read as the order
 pub record IsOrderText (order : Order) (text : List ℕ) : Type 0 where
   pub text_is : IsTextOf (order_data order) text
   pub body : IsBodyOf (order_verb order) (order_data order) (Stock order)

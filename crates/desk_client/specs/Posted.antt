@@ -1,4 +1,4 @@
--- What a line of `acts` has for a service.
+-- The content of a line of `acts` for a service.
 use Rattle.std.specs.Prelude.{◌≡◌, ◌⊎◌, ◌≤◌, ℕ, Bool, false, List, Option, Some, None, Result, string_bytes}
 use Rattle.serde_json.specs.Data.{Data, depth}
 use Rattle.serde_json.specs.Read.{read, max_depth}
@@ -32,13 +32,13 @@ pub record IsPostedCommand (d : Data) (request : List ℕ) : Type 0 where
   pub reads_back : depth body ≤ max_depth → read text ≡ Some body
   pub request_is : request ≡ command_request (word verb) key text
 
--- or the text of a telegram's line
+-- the request has the text of a telegram's line
 pub record IsPostedTelegram (d : Data) (request : List ℕ) : Type 0 where
   pub text : List ℕ
   pub wired : IsWired d text
   pub request_is : request ≡ telegram_request text
 
--- or the line is neither
+-- the line is neither
 pub record IsNoPost (d : Data) : Type 0 where
   pub no_command : (verb : Verb) (key : List ℕ) (body : Data) → ¬ (IsFrame d verb key body)
   pub no_telegram : (text : List ℕ) → ¬ (IsWired d text)
@@ -46,7 +46,7 @@ pub record IsNoPost (d : Data) : Type 0 where
 abbrev pub IsPosted : Data → List ℕ → Type 0
 IsPosted d request = IsPostedCommand d request ⊎ (IsPostedTelegram d request ⊎ IsNoPost d)
 
--- the line asks this, and was answered by a request of what it has for the service
+-- the line has this request, which was answered with its content sent to the service
 pub record HasHeardLine {E : Type 0} (taken : E → Given) (number : ℕ) (line : List ℕ) (old new : Come Talk E)
     (result : Result Bool RunFault) : Type 0 where
   pub asks : Asked
@@ -59,7 +59,7 @@ abbrev pub HasHeardValue : {E : Type 0} → (E → Given) → ℕ → List ℕ �
 HasHeardValue taken number line old new result =
     HasNotHeard old new result ⊎ HasHeardLine taken number line old new result
 
--- A line of this number was answered. An empty line is skipped.
+-- The line with this number was answered. An empty line is skipped.
 abbrev pub HasAnsweredLine : {E : Type 0} → (E → Given) → ℕ → List ℕ → Come Talk E → Come Talk E → Result Bool RunFault → Type 0
 HasAnsweredLine taken number line old new result =
     HasSkipped line old new result

@@ -1,4 +1,4 @@
--- A report that is printed as it comes.
+-- Reports printed as they arrive.
 use Rattle.std.specs.Prelude.{◌≡◌, ◌⊎◌, ◌<◌, ◌≤◌, ℕ, Bool, true, false, List, [], ◌∷◌, ◌++◌, drop, length, Result, Ok, Err, ⊤}
 use Rattle.station_core.specs.Ends.{HasCause, HasSent}
 use Rattle.station_core.specs.Given.{Given}
@@ -20,13 +20,13 @@ use Rattle.desk_client.specs.declared.connect.LastTry.TheVariants as last
 use Rattle.desk_client.specs.declared.printing.PrintFault.{PrintFault}
 use Rattle.desk_client.specs.declared.printing.PrintFault.TheVariants as print
 
--- what is held of a report: the byte that was printed last, and two or more that aren't printed
+-- the held text of a report: the byte that was printed last, and at least two that aren't printed
 pub record IsHeld (form : Form) (held : List ℕ) : Type 0 where
   pub tail : List ℕ
   pub held_is : held ≡ mark_of form ∷ tail
   pub some : 2 ≤ length tail
 
--- A front of what is held was printed behind its first byte, and what follows is held.
+-- A prefix of the held text was printed from its second byte on, and the rest is held.
 pub record HasPrintedMore (form : Form) (held_old held_new : List ℕ) (old new : Given) : Type 0 where
   pub gone : List ℕ
   pub part : List ℕ
@@ -38,22 +38,22 @@ pub record HasPrintedMore (form : Form) (held_old held_new : List ℕ) (old new 
   pub printed : new.bytes ≡ old.bytes ++ part
   pub smooth : IsUntroubled old new
 
--- or none was: the writer failed, or memory ran out before
+-- or nothing was: the writer failed, or memory ran out before
 abbrev pub HasTurned : Form → List ℕ → List ℕ → Given → Given → Result (Unit {0}) PrintFault → Type 0
 HasTurned form held_old held_new old new (Ok x) = HasPrintedMore form held_old held_new old new
 HasTurned form held_old held_new old new (Err print.Write) = HasSent (drop 1 held_old) old new × HasCause old new
 HasTurned form held_old held_new old new (Err (print.Rest fault.Memory)) = new ≡ old
 HasTurned form held_old held_new old new (Err (print.Rest _)) = ⊥
 
--- All that is held was printed behind its first byte, and it ends as a report does; or it doesn't,
--- and nothing was printed.
+-- The held text was printed from its second byte on, and it ends like a report; or it doesn't, and
+-- nothing was printed.
 abbrev pub HasPrintedLast : List ℕ → Given → Given → Result (Unit {0}) PrintFault → Type 0
 HasPrintedLast held old new (Ok x) = (has_end held ≡ true) × (new.bytes ≡ old.bytes ++ drop 1 held)
 HasPrintedLast held old new (Err print.Write) = HasSent (drop 1 held) old new × HasCause old new
 HasPrintedLast held old new (Err (print.Rest fault.Cut)) = (has_end held ≡ false) × (new ≡ old)
 HasPrintedLast held old new (Err (print.Rest _)) = ⊥
 
--- Of a body this much had come, and then more. It was printed but for what is held.
+-- This much of a body had been received, and then more. All but the held text was printed.
 pub record HasPrintedSome (form : Form) (body held : List ℕ) (read_old read_new old new : Given) : Type 0 where
   pub come : List ℕ
   pub grown : HasGrown read_old read_new [] come
@@ -64,7 +64,7 @@ pub record HasPrintedSome (form : Form) (body held : List ℕ) (read_old read_ne
   pub unended : has_end (done ++ mark_of form ∷ []) ≡ false
   pub smooth : IsUntroubled old new
 
--- a front of a text was printed, and no write failed
+-- a printable prefix of a text was printed, and no write failed
 pub record HasPrintedFront (form : Form) (text : List ℕ) (old new : Given) : Type 0 where
   pub front : List ℕ
   pub rest : List ℕ
@@ -73,8 +73,8 @@ pub record HasPrintedFront (form : Form) (text : List ℕ) (old new : Given) : T
   pub printed : new.bytes ≡ old.bytes ++ front
   pub smooth : IsUntroubled old new
 
--- Why the rest of a body didn't come: the connection ended, and the body has no report's end; or a
--- read failed; or memory ran out.
+-- The reason why the rest of a body wasn't received: the connection ended, and the body doesn't end
+-- like a report; or a read failed; or memory ran out.
 abbrev pub HasStopped : AskFault → List ℕ → Given → Given → Type 0
 HasStopped fault.Cut body old new = (old.idle < new.idle) × (has_end body ≡ false)
 HasStopped fault.Read body old new = HasFailed old new
@@ -82,8 +82,8 @@ HasStopped fault.Late body old new = HasFailed old new
 HasStopped fault.Memory body old new = ⊤
 HasStopped _ body old new = ⊥
 
--- A body was printed, this much of which had come. To its end: all of it. Or a beginning of it, if
--- the writer failed or took no byte. Or a front of it, if the rest didn't come.
+-- A body was printed, of which this much had been received: all of it; or a prefix, if the writer
+-- failed or wrote 0 bytes; or a printable prefix, if the rest wasn't received.
 abbrev pub HasPrintedBody : Form → List ℕ → Given → Given → Given → Given → Result (Unit {0}) PrintFault → Type 0
 HasPrintedBody form body read_old read_new old new (Ok x) =
     (more : List ℕ) × (read_new.bytes ≡ read_old.bytes ++ more) × (read_old.idle < read_new.idle)
@@ -95,24 +95,23 @@ HasPrintedBody form body read_old read_new old new (Err (print.Rest e)) =
     (more : List ℕ) × (read_new.bytes ≡ read_old.bytes ++ more)
     × HasPrintedFront form (body ++ more) old new × HasStopped e (body ++ more) read_old read_new
 
--- nothing was done but to read on
+-- nothing was done except reading on
 pub record HasReadOn (old new : Talk) : Type 0 where
   pub tried : new.tried ≡ old.tried
   pub opened : new.opened ≡ old.opened
   pub sent : new.sent ≡ old.sent
 
--- how the try ended of which a report was begun
+-- the outcome of the try in which the report began
 abbrev pub last_after : Result (Unit {0}) PrintFault → LastTry → LastTry
 last_after (Err (print.Rest e)) how = last.Failed e
 last_after _ how = how
 
--- and how the call ends
 abbrev pub call_ended : Result (Unit {0}) PrintFault → Result Bool RunFault
 call_ended (Ok x) = Ok true
 call_ended (Err print.Write) = Err run.Write
 call_ended (Err (print.Rest e)) = Err (service_fault e)
 
--- The rest of a begun report was read over the same connection, and printed so.
+-- The rest of the report was read over the same connection, and printed in this way.
 pub record HasPrinted (form : Form) (a : Answer) (talk_old talk_new : Talk) (old new : Given) (result : Result Bool RunFault) : Type 0 where
   pub ended : Result (Unit {0}) PrintFault
   pub body : HasPrintedBody form (body_of a) talk_old.come talk_new.come old new ended

@@ -1,4 +1,4 @@
--- What a command leaves whose input is asked of a service.
+-- The effect of a command whose input is sent to a service.
 use Rattle.std.specs.Prelude.{◌≡◌, ◌⊎◌, ℕ, Bool, List, None, Result, Ok, Err}
 use Rattle.station_core.specs.Given.{Given}
 use Rattle.stock_list.specs.declared.answer.RunFault.{RunFault}
@@ -11,14 +11,14 @@ use Rattle.desk_client.specs.Again.{Talk}
 use Rattle.desk_client.specs.Heard.{HasAnswered}
 use Rattle.desk_client.specs.Request.{most_answer, telegram_request}
 
--- the input has come, and what its bytes ask was answered, by the request of these bytes
+-- the input was received, and its request answered by sending these bytes
 abbrev pub HasAnsweredBytes : {E : Type 0} → (List ℕ → Asked → Type 0) → (List ℕ → List ℕ) → (E → Given) → Given → Given
     → Come Talk E → Come Talk E → Result Bool RunFault → Type 0
 HasAnsweredBytes IsAsked request taken read_old read_new old new result =
     (bytes : List ℕ) × HasCome read_old read_new bytes
     × ((asks : Asked) × IsAsked bytes asks × HasAnswered taken None asks (request bytes) most_answer old new result)
 
--- or at a fault it didn't come whole, or wasn't understood for want of memory: nothing was asked or
+-- or at a fault it wasn't received in full, or memory ran out for reading it: nothing was sent or
 -- written
 abbrev pub HasRun : {E : Type 0} → (List ℕ → Asked → Type 0) → (List ℕ → List ℕ) → (E → Given) → Given → Given
     → Come Talk E → Come Talk E → Result Bool RunFault → Type 0
@@ -28,7 +28,7 @@ HasRun IsAsked request taken read_old read_new old new (Err e) =
     (IsReadersFault e × (new ≡ old))
     ⊎ HasAnsweredBytes IsAsked request taken read_old read_new old new (Err e)
 
--- the reader went on to its next input, and that telegram was answered
+-- the reader began its next input, and that telegram was answered
 pub record HasTakenNext {I E : Type 0} (given : I → Given) (turned : I → I → Type 0) (taken : E → Given)
     (old new : Come Talk E × I) (result : Result Bool RunFault) : Type 0 where
   pub next : I

@@ -1,4 +1,4 @@
--- What is sent for a question.
+-- The bytes sent for a question.
 use Rattle.std.specs.Prelude.{ℕ, List, [], ◌++◌, length, codes, decimal}
 use Rattle.awb_number.specs.Number.{number_text}
 use Rattle.desk_commands.specs.Verb.{word}
@@ -11,11 +11,11 @@ use Rattle.http_desk.specs.Paths.{report_path}
 use Rattle.desk_client.specs.declared.question.Question.{Question}
 use Rattle.desk_client.specs.declared.question.Question.TheVariants as question
 
--- the most bytes of an answer that is one JSON object
+-- the largest size of an answer that is one JSON object
 abbrev pub most_answer : ℕ
 most_answer = 65_536
 
--- only rows have no bound, but that of the machine's memory
+-- rows are limited only by the machine's memory
 abbrev pub most_row_bytes : ℕ
 most_row_bytes = 18_446_744_073_709_551_615
 
@@ -33,16 +33,14 @@ key_line key = codes "Request-Key: " ++ (key ++ codes "\r\n")
 abbrev pub length_line : ℕ → List ℕ
 length_line len = codes "Content-Length: " ++ (decimal len ++ codes "\r\n\r\n")
 
--- before a command's body, by its word, its key and its length
+-- the head of a command, from its word, its key and its length
 abbrev pub command_head : List ℕ → List ℕ → ℕ → List ℕ
 command_head name key len = command_lines name ++ (key_line key ++ length_line len)
 
--- before a telegram
 abbrev pub telegram_head : ℕ → List ℕ
 telegram_head len =
     codes "POST /v1/telegrams HTTP/1.1\r\nHost: 127.0.0.1\r\nConnection: close\r\nContent-Length: " ++ decimal len ++ codes "\r\n\r\n"
 
--- what is at a path
 abbrev pub get_request : List ℕ → List ℕ
 get_request path = codes "GET " ++ path ++ codes " HTTP/1.1\r\nHost: 127.0.0.1\r\nConnection: close\r\n\r\n"
 
@@ -52,7 +50,6 @@ waybill_path w = codes "/v1/waybills/" ++ number_text w
 abbrev pub holder_path : ℕ → List ℕ
 holder_path w = codes "/v1/stock/" ++ number_text w
 
--- the path of rows as text
 abbrev pub listing_path : Listing → List ℕ
 listing_path (listing.All r) = report_path r
 listing_path listing.OpenFlights = codes "/v1/reports/open-flights"
@@ -67,12 +64,11 @@ listing_path (listing.TrailLast n) = codes "/v1/trail/last/" ++ decimal n
 listing_path (listing.PendingAfter n) = codes "/v1/outbox/after/" ++ decimal n
 listing_path (listing.Manifest f) = codes "/v1/flights/" ++ flight_date_text f
 
--- and as JSON
 abbrev pub rows_path : Listing → Form → List ℕ
 rows_path l form.Text = listing_path l
 rows_path l form.Json = listing_path l ++ codes ".json"
 
--- the request of each question: its head, and the body that it sends
+-- the request of each question: its head and its body
 abbrev pub command_request : List ℕ → List ℕ → List ℕ → List ℕ
 command_request name key body = command_head name key (length body) ++ body
 

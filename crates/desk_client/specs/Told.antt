@@ -1,4 +1,4 @@
--- What an answer to a command or a telegram tells.
+-- The content of an answer to a command or a telegram.
 use Rattle.std.specs.Prelude.{◌≡◌, ◌==◌, ◌&&◌, ◌||◌, ℕ, List, [], ◌∷◌, ◌++◌, codes, decimal, Option, Some, None, option_map, option_and_then, if◌then◌else◌, string_bytes, IsUtf8}
 use Rattle.std.specs.Str.{bytes_eq}
 use Rattle.serde_json.specs.Data.{Data}
@@ -15,17 +15,16 @@ abbrev pub refused_line : ℕ → List ℕ → List ℕ
 refused_line number [] = codes "refused " ++ decimal number
 refused_line number (b ∷ detail) = codes "refused " ++ decimal number ++ 32 ∷ b ∷ detail
 
--- a member that is a number that isn't negative
+-- a member that is a non-negative number
 abbrev pub count_of : List ℕ → Data → Option ℕ
 count_of name d = option_and_then as_u64 (option_and_then as_number (get name d))
 
--- the number and the detail of a refusal
 abbrev pub refusal_told : Data → Option (ℕ × List ℕ)
 refusal_told d =
     option_and_then (λ number. option_map (λ detail. (number, detail)) (option_and_then as_str (get (codes "detail") d))) (count_of (codes "refused") d)
 
--- A refusal of the station is told under 409, and under 400 where a telegram can't be read; a body
--- that says no command under 400 by its word. Nothing else is told to a command.
+-- A refusal of the station has status 409, and 400 if a telegram can't be read; a body that isn't a
+-- command has status 400 and a word. A command has no other answers.
 abbrev pub refused_told : ℕ → ℕ × List ℕ → Option (List ℕ)
 refused_told status (number, detail) =
     if (status == 409) || ((status == 400) && ((number == 301) || (number == 302))) then Some (refused_line number detail)
@@ -38,7 +37,7 @@ told_line status d =
     if status == 200 then option_map ok_line (count_of (codes "count") d)
     else option_and_then (refused_told status) (refusal_told d)
 
--- what the bytes of a body tell under a status; 200 says that it was accepted
+-- the content of a body under a status; 200 means that it was accepted
 abbrev pub Tells : ℕ → List ℕ → Told → Type 0
 Tells status body (told.Line good line) =
     (good ≡ (status == 200)) × IsUtf8 body

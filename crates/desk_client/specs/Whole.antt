@@ -1,4 +1,4 @@
--- What a whole answer is.
+-- Whole answers.
 use Rattle.std.specs.Prelude.{◌≡◌, ◌⊎◌, ◌≤◌, ◌<◌, ℕ, true, false, Some, List, [], ◌∷◌, ◌++◌, drop, length, map, codes}
 use Rattle.httparse.specs.Grammar.{ResponseHead, ReadsResponse, HasNoResponse, MayBecomeResponse, status_code}
 use Rattle.httparse.specs.Spans.{name_and_value}
@@ -13,18 +13,18 @@ use Rattle.desk_client.specs.declared.whole.Found.TheVariants as found
 abbrev pub most_fields : ℕ
 most_fields = 16
 
--- one length is told and is that of the body, or none, and the body ends as a report does
+-- the one given length is that of the body; or none is given, and the body ends like a report
 abbrev pub IsAsLong : List (List ℕ) → List ℕ → Type 0
 IsAsLong [] body = has_end body ≡ true
 IsAsLong (value ∷ []) body = number_told value ≡ Some (length body)
 IsAsLong (value ∷ other ∷ values) body = ⊥
 
--- a body in parts is none that a desk sends
+-- a desk never sends a chunked body
 pub record IsWholeBody (fields : List (List ℕ × List ℕ)) (body : List ℕ) : Type 0 where
   pub plain : values_of (codes "transfer-encoding") fields ≡ []
   pub long : IsAsLong (values_of (codes "content-length") fields) body
 
--- The bytes are a head of this status and then this body, and all of it.
+-- The bytes are a head of this status and then this whole body.
 pub record IsWhole (bytes : List ℕ) (status : ℕ) (body : List ℕ) : Type 0 where
   pub head : ResponseHead
   pub reads : ReadsResponse bytes head body
@@ -32,15 +32,15 @@ pub record IsWhole (bytes : List ℕ) (status : ℕ) (body : List ℕ) : Type 0 
   pub status_is : status ≡ status_code head
   pub whole : IsWholeBody (map name_and_value head.fields) body
 
--- they are none
+-- they aren't a whole answer
 abbrev pub IsNotWhole : List ℕ → Type 0
 IsNotWhole bytes = (status : ℕ) (body : List ℕ) → ¬ (IsWhole bytes status body)
 
--- and no bytes that follow make them one
+-- they aren't, whatever bytes follow
 abbrev pub IsNeverWhole : List ℕ → Type 0
 IsNeverWhole bytes = (more : List ℕ) (status : ℕ) (body : List ℕ) → ¬ (IsWhole (bytes ++ more) status body)
 
--- the body is shorter than the length that is told; or none is told, and it has no report's end
+-- the body is shorter than its given length; or none is given, and it doesn't end like a report
 abbrev pub IsTooShort : List (List ℕ) → List ℕ → Type 0
 IsTooShort [] body = has_end body ≡ false
 IsTooShort (value ∷ []) body = (n : ℕ) × (number_told value ≡ Some n) × (length body < n)
@@ -50,7 +50,7 @@ pub record IsShortBody (fields : List (List ℕ × List ℕ)) (body : List ℕ) 
   pub plain : values_of (codes "transfer-encoding") fields ≡ []
   pub short : IsTooShort (values_of (codes "content-length") fields) body
 
--- a head of a desk's, whose body is too short
+-- a head of a desk, whose body is too short
 pub record IsShortBehind (bytes : List ℕ) : Type 0 where
   pub head : ResponseHead
   pub body : List ℕ
@@ -62,8 +62,8 @@ pub record IsShortBehind (bytes : List ℕ) : Type 0 where
 abbrev pub IsCutShort : List ℕ → Type 0
 IsCutShort bytes = (HasNoResponse bytes × MayBecomeResponse bytes) ⊎ IsShortBehind bytes
 
--- The bytes are a head of status 200 that gives no length, as a desk writes it before a report, and
--- then this beginning of its body.
+-- The bytes are a head of status 200 without a length, as a desk writes it before a report, and
+-- then this prefix of its body.
 pub record IsReport (bytes body : List ℕ) : Type 0 where
   pub head : ResponseHead
   pub reads : ReadsResponse bytes head body
@@ -72,7 +72,7 @@ pub record IsReport (bytes body : List ℕ) : Type 0 where
   pub plain : values_of (codes "transfer-encoding") (map name_and_value head.fields) ≡ []
   pub untold : values_of (codes "content-length") (map name_and_value head.fields) ≡ []
 
--- what a body is of the one that its head tells
+-- the extent of a body by its head
 abbrev pub IsExtent : List (List ℕ) → List ℕ → Extent → Type 0
 IsExtent lengths body extent.Whole = IsAsLong lengths body
 IsExtent lengths body extent.Short = IsTooShort lengths body
@@ -83,7 +83,7 @@ IsExtentOf fields body extent.Whole = IsWholeBody fields body
 IsExtentOf fields body extent.Short = IsShortBody fields body
 IsExtentOf fields body extent.Never = (more : List ℕ) → ¬ (IsWholeBody fields (body ++ more))
 
--- what bytes are: a whole answer, a beginning of one, or neither
+-- a whole answer, a prefix of one, or neither
 abbrev pub IsFound : List ℕ → Found → Type 0
 IsFound bytes (found.Whole place) = (place.start ≤ length bytes) × IsWhole bytes place.status (drop place.start bytes)
 IsFound bytes found.Cut = IsNotWhole bytes × IsCutShort bytes

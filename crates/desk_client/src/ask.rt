@@ -1,4 +1,4 @@
-//! Asking a question, by one try or by up to three.
+//! Sending a question, in up to three tries.
 ghost use Rattle.std.specs.Prelude.{◌≡◌};
 ghost use Rattle.desk_client.specs.Asked.{by_time, HasAsked, HasRead, HasSent, HasUnderstood};
 ghost use Rattle.desk_client.specs.Again.{is_vain, last_of, talk, Talk, IsRefusedOrTalked, HasTried, HasTriedTwice, HasTriedThrice, IsAnswered};
@@ -17,50 +17,51 @@ use station_core::{ByteIn, ByteOut, send};
 use std::alloc::Global;
 use stock_list::RunFault;
 
-/// Why a question wasn't answered.
+/// The reason why a question wasn't answered.
 #[derive(Clone, Copy, Debug, PartialEq, Eq)]
 pub enum AskFault {
-    /// No connection was opened.
+    /// The connection was refused.
     Refused,
-    /// The writer failed, or took nothing: a beginning of the request went out.
+    /// The writer failed or wrote 0 bytes. A prefix of the request was sent.
     Write,
     /// The reader failed.
     Read,
-    /// The reader failed because its time ran out.
+    /// The reader timed out.
     Late,
     /// Memory ran out.
     Memory,
     /// The connection ended before the whole answer.
     Cut,
-    /// More bytes came than an answer may have.
+    /// The answer is longer than allowed.
     Long,
-    /// What came is no answer that a desk gives, whatever follows.
+    /// The bytes aren't a prefix of any answer of a desk.
     Foreign,
 }
 
-/// An answer that came whole.
+/// An answer that was received.
 #[derive(Debug, Drop)]
 pub struct Answer {
     pub status: u16,
-    /// All that came.
+    /// All bytes received.
     pub bytes: Vec<u8>,
-    /// Where its body starts.
+    /// The index at which its body starts.
     pub start: usize,
-    /// `None`: it came whole. Else it is a report whose rest is still to be read, and this many
-    /// bytes of its body may be printed before.
+    /// `None` for a whole answer. For a report whose rest is still to be read, the length of the
+    /// printable prefix of its body.
     pub begun: Option<usize>,
 }
 
-/// How far an answer is read.
+/// The extent to which an answer is read.
 #[derive(Clone, Copy, Debug, PartialEq, Eq)]
 pub enum Until {
-    /// To the end of its connection, or until more bytes have come than this.
+    /// To the end of the connection, or until more than this many bytes were received.
     End(usize),
-    /// Until rows of a report in this form have come that may be printed, or else to its end.
+    /// Until printable rows of a report in this form were received, or else to the end of the
+    /// connection.
     Rows(Form),
 }
 
-/// The answer that the bytes are, where they are not more than an answer may have.
+/// Returns the bytes as an answer, if they are one and not too long.
 fn understood(bytes: Vec<u8>, most: usize) -> Result<Answer, AskFault>
     ensures { HasUnderstood most bytes.items result }
 {
@@ -79,7 +80,6 @@ fn understood(bytes: Vec<u8>, most: usize) -> Result<Answer, AskFault>
     }
 }
 
-/// Writes a request.
 fn send_request<O: ByteOut>(writer: &mut O, request: &[u8]) -> Result<(), AskFault>
     ensures { HasSent request.now (O.taken writer.old) (O.taken writer.new) result }
 {
@@ -89,7 +89,7 @@ fn send_request<O: ByteOut>(writer: &mut O, request: &[u8]) -> Result<(), AskFau
     }
 }
 
-/// Reads an answer to the end of its connection, or until more bytes have come than it may have.
+/// Reads an answer to the end of its connection, or until it is too long.
 fn read_whole<I: ByteIn>(alloc: Global, reader: &mut I, most: usize) -> Result<Answer, AskFault>
     ensures { HasRead (Until.End most) (I.given reader.old) (I.given reader.new) result }
 {
@@ -99,7 +99,7 @@ fn read_whole<I: ByteIn>(alloc: Global, reader: &mut I, most: usize) -> Result<A
     }
 }
 
-/// Reads an answer until rows have come that may be printed, or else to the end of its connection.
+/// Reads an answer until printable rows were received, or else to the end of its connection.
 #[tactic(auto, using(cli_run::proofs::Grown::grown_more, crate::proofs::Grown::come_more))]
 fn read_rows<I: ByteIn>(alloc: Global, reader: &mut I, form: Form) -> Result<Answer, AskFault>
     ensures { HasRead (Until.Rows form) (I.given reader.old) (I.given reader.new) result }
@@ -122,7 +122,7 @@ fn read_rows<I: ByteIn>(alloc: Global, reader: &mut I, form: Form) -> Result<Ans
     Err(AskFault::Read)
 }
 
-/// Reads an answer so far.
+/// Reads an answer as far as `until`.
 fn read_until<I: ByteIn>(alloc: Global, reader: &mut I, until: Until) -> Result<Answer, AskFault>
     ensures { HasRead until (I.given reader.old) (I.given reader.new) result }
 {
@@ -152,14 +152,12 @@ fn ask_one<I: ByteIn, O: ByteOut>(
 }
 
 impl AskFault {
-    /// Whether a question that ended so is asked again.
     fn is_vain(self) -> bool
         ensures { result ≡ is_vain self }
     {
         self != AskFault::Memory
     }
 
-    /// A read that failed because its time ran out is told as that.
     pub(crate) fn by_time(self, is_late: bool) -> AskFault
         ensures { result ≡ by_time is_late self }
     {
@@ -170,7 +168,7 @@ impl AskFault {
     }
 }
 
-/// How a try ended.
+/// Returns the outcome of a try.
 fn last_of(ended: &Result<Answer, AskFault>) -> LastTry
     ensures { result ≡ last_of ended.now }
 {
@@ -207,7 +205,7 @@ fn ask_over_new<C: Connect, I: ByteIn, O: ByteOut>(
     }
 }
 
-/// Sends a request over a new connection, reads its answer, and notes how that ended.
+/// Sends a request over a new connection, reads its answer, and records the outcome.
 fn try_once<C: Connect, I: ByteIn, O: ByteOut>(
     alloc: Global,
     service: &mut Service<C, I, O>,
@@ -222,7 +220,7 @@ fn try_once<C: Connect, I: ByteIn, O: ByteOut>(
     ended
 }
 
-/// Sends a request, and again after a try that was vain.
+/// Sends a request, and once more if the first try is in vain.
 fn try_twice<C: Connect, I: ByteIn, O: ByteOut>(
     alloc: Global,
     service: &mut Service<C, I, O>,
@@ -238,7 +236,7 @@ fn try_twice<C: Connect, I: ByteIn, O: ByteOut>(
     }
 }
 
-/// Sends a request, and up to twice again after tries that were vain.
+/// Sends a request, and up to twice more if tries are in vain.
 fn try_thrice<C: Connect, I: ByteIn, O: ByteOut>(
     alloc: Global,
     service: &mut Service<C, I, O>,
@@ -254,30 +252,33 @@ fn try_thrice<C: Connect, I: ByteIn, O: ByteOut>(
     }
 }
 
-/// What can be asked a question.
+/// A service that answers questions.
 pub trait Ask {
-    /// What was done so far: how many connections were tried and opened, what was sent, and what
-    /// came.
+    /// The history: how many connections were tried and opened, what was sent, and what was
+    /// received.
     ghost talk: { Self → Talk };
 
-    /// Asks a question, by up to three tries: each time the same bytes, and again only where the
-    /// connection was refused or broke, or what came is no whole answer.
+    /// Asks a question in up to three tries. Each try sends the same bytes. It tries again only if
+    /// the connection was refused or broke, or the bytes received aren't a whole answer.
     ///
-    /// `Ok` is an answer that came whole. Returns [`AskFault::Memory`] when out of memory.
-    /// Otherwise returns the fault of the third try, which `talk` keeps as the end of the last try.
-    /// The desk may have done a command or a telegram then: ask again, under the same key.
+    /// `Ok` is a whole answer. Returns [`AskFault::Memory`] if memory runs out. Otherwise returns
+    /// the fault of the third try, which `talk` keeps as the outcome of the last try. The desk may
+    /// have done a command or a telegram even then: ask again, under the same key.
     fn ask(&mut self, alloc: Global, question: &Question<'_>) -> Result<Answer, AskFault>
         ensures { IsAnswered (most_of question.now) (request_of question.now) (talk self.old)
             (talk self.new) result };
 
-    /// Asks for rows, a report or a part of one, by up to three tries, and prints them as they
-    /// come. It asks again only while nothing was printed.
+    /// Asks for rows, a report or a part of one, in up to three tries, and prints them as they
+    /// arrive. It tries again only if nothing was printed.
     ///
-    /// `Ok` says that the report came whole, and all of it was printed. Returns [`RunFault::Write`]
-    /// if the output fails or takes no byte: nothing more is read. Returns [`RunFault::Memory`]
-    /// when out of memory. Returns [`RunFault::Store`] if the service doesn't answer, or not as a
-    /// desk, or the report breaks off: then a beginning of it was printed, up to a row, and not its
-    /// end.
+    /// `Ok` says that the whole report was received and printed.
+    ///
+    /// # Errors
+    ///
+    /// - [`RunFault::Write`]: the output fails or writes 0 bytes. Nothing more is read.
+    /// - [`RunFault::Memory`]: memory runs out.
+    /// - [`RunFault::Store`]: the service doesn't answer, or not like a desk, or the report breaks
+    ///   off. Then a prefix of complete rows was printed, without the report's end.
     fn ask_rows<W: ByteOut>(
         &mut self,
         alloc: Global,

@@ -1,41 +1,42 @@
-//! A service, by the connections to it.
+//! Connections to a service.
 ghost use Rattle.std.specs.Prelude.{◌≡◌, ℕ, ◌+◌, true, false};
 ghost use Rattle.desk_client.specs.Count.{one_more};
 
 use crate::ask::AskFault;
 
-/// Opens connections to a service, one after another.
+/// A service to which connections can be opened, one after another.
 pub trait Connect {
-    /// How many connections were tried, the refused ones too. It stays at the largest `u64`.
+    /// The number of connections tried, including refused ones. It stays at the largest `u64`.
     ghost tried: { Self → ℕ };
 
-    /// How many of them were opened.
+    /// The number of connections opened.
     ghost opened: { Self → ℕ };
 
-    /// Opens the next connection; the one before it is closed. `false`: it was refused.
+    /// Closes the connection and opens another. Returns false if it was refused.
     fn connect(&mut self) -> bool
         ensures tried { tried self.new ≡ one_more (tried self.old) }
         ensures one { result ≡ true → opened self.new ≡ opened self.old + 1 }
         ensures none { result ≡ false → opened self.new ≡ opened self.old };
 
-    /// Whether the last read of the connection that is open failed because its time ran out. No
-    /// contract can say what a network gives.
+    /// Returns whether the last read of the open connection timed out. No contract covers what a
+    /// network does.
     fn is_late(&self) -> bool;
 }
 
-/// How the last try of a question ended.
+/// The outcome of the last try of a question.
 #[derive(Clone, Copy, Debug, PartialEq, Eq)]
 pub enum LastTry {
     /// Nothing was tried yet.
     Nothing,
-    /// An answer of this status came: whole, or a report of which the output took no more.
+    /// An answer with this status was received: a whole one, or a report of which the output took
+    /// no more.
     Answered(u16),
-    /// No whole answer came.
+    /// No whole answer was received.
     Failed(AskFault),
 }
 
-/// A service on a port: what opens connections to it, the reader and the writer of the one that was
-/// opened last, and how the last try ended.
+/// A service on a port, with the reader and the writer of its last connection, and the outcome of
+/// the last try.
 #[derive(Drop)]
 pub struct Service<C, I, O> {
     pub connections: C,

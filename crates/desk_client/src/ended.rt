@@ -2,7 +2,6 @@
 ghost use Rattle.std.specs.Prelude.{◌≡◌, ◌≤◌, codes, length, option_map};
 ghost use Rattle.desk_client.specs.Ended.{before_digits, has_count, has_count_in, has_end, is_before_count, is_before_json_count, without};
 
-/// What is before the digits at a text's end.
 #[tactic(auto, using(crate::proofs::Ends::more_digits, crate::proofs::Ends::no_digit))]
 fn before_digits(text: &[u8]) -> &[u8]
     ensures value { result.now ≡ before_digits text.entry.now }
@@ -20,21 +19,19 @@ fn before_digits(text: &[u8]) -> &[u8]
     }
 }
 
-/// Whether a text ends with the word of a report's last line, where that begins a line.
 fn is_before_count(front: &[u8]) -> bool
     ensures { result ≡ is_before_count front.now }
 {
     front == b"END ".as_slice() || front.ends_with(b"\nEND ")
 }
 
-/// Whether a text ends with the end of the rows as JSON.
 fn is_before_json_count(front: &[u8]) -> bool
     ensures { result ≡ is_before_json_count front.now }
 {
     front.ends_with(b"],\"count\":")
 }
 
-/// Whether digits end a text, and the word of a report's last line is before them.
+/// Returns whether a text ends with the word of a report's last line and digits.
 fn has_count(line: &[u8]) -> bool
     ensures { result ≡ has_count is_before_count line.now }
 {
@@ -42,7 +39,7 @@ fn has_count(line: &[u8]) -> bool
     front.len() < line.len() && is_before_count(front)
 }
 
-/// Whether digits end a text, and the end of the rows as JSON is before them.
+/// Returns whether a text ends with the end of the rows in JSON and digits.
 fn has_json_count(object: &[u8]) -> bool
     ensures { result ≡ has_count is_before_json_count object.now }
 {
@@ -50,14 +47,13 @@ fn has_json_count(object: &[u8]) -> bool
     front.len() < object.len() && is_before_json_count(front)
 }
 
-/// A text without its end, where it has that one.
 fn without<'a>(text: &'a [u8], end: &[u8]) -> Option<&'a [u8]>
     ensures { option_map (λ front. front.now) result ≡ without end.now text.entry.now }
 {
     text.strip_suffix(end)
 }
 
-/// Whether a text ends with the line that ends a report, `END 12`.
+/// Returns whether a text ends with the last line of a report, such as `END 12`.
 fn is_text_end(text: &[u8]) -> bool
     ensures { result ≡ has_count_in is_before_count (without (codes "\n") text.now) }
 {
@@ -67,7 +63,7 @@ fn is_text_end(text: &[u8]) -> bool
     }
 }
 
-/// Whether a text ends as a report as JSON does, `],"count":12}`.
+/// Returns whether a text ends like a report in JSON, with `],"count":12}`.
 fn is_json_end(text: &[u8]) -> bool
     ensures { result ≡ has_count_in is_before_json_count (without (codes "}\n") text.now) }
 {
@@ -77,7 +73,6 @@ fn is_json_end(text: &[u8]) -> bool
     }
 }
 
-/// Whether a text ends as a report does.
 pub(crate) fn has_end(text: &[u8]) -> bool
     ensures { result ≡ has_end text.now }
 {

@@ -1,4 +1,4 @@
-//! How much of a report may be printed before the rest of it has come.
+//! The prefix of a report that can be printed before the rest is received.
 ghost use Rattle.std.specs.Prelude.{◌≡◌, ◌≤◌, ◌+◌, ◌-◌, ◌++◌, ◌∷◌, [], length, take, IfSome};
 ghost use Rattle.desk_client.specs.Front.{mark_of, IsBegun, IsFrontEnd};
 
@@ -6,7 +6,7 @@ use crate::ended::has_end;
 use crate::whole::report_in;
 use reports::Form;
 
-/// The byte that ends a row in a form.
+/// Returns the byte that ends a row in a form.
 fn mark_of(form: Form) -> u8
     ensures { result ≡ mark_of form }
 {
@@ -16,8 +16,8 @@ fn mark_of(form: Form) -> u8
     }
 }
 
-/// Where a text goes on after the last byte of a kind from a place on. That byte has two or more
-/// before it, and after it.
+/// Returns the index after the last `mark` in `text[from..]` that has at least two bytes on each
+/// side in `text`.
 fn after_last(text: &[u8], from: usize, mark: u8) -> Option<usize>
     ensures { IfSome result (λ end. (3 ≤ end) × (end + 2 ≤ length text.now)
         × (take end text.now ≡ take (end - 1) text.now ++ mark ∷ [])) }
@@ -33,8 +33,8 @@ fn after_last(text: &[u8], from: usize, mark: u8) -> Option<usize>
     None
 }
 
-/// How much of a text may be printed: up to a row that ends behind a place, the last one with more
-/// behind it, if the text doesn't end there as a report does.
+/// Returns the length of the longest printable prefix that ends with a row after `from`. It is
+/// `None` if there isn't one, or if that prefix looks like a complete report.
 pub(crate) fn front_end(text: &[u8], from: usize, form: Form) -> Option<usize>
     ensures { IfSome result (IsFrontEnd form text.now) }
 {
@@ -45,8 +45,8 @@ pub(crate) fn front_end(text: &[u8], from: usize, form: Form) -> Option<usize>
     Some(end)
 }
 
-/// Where the body of a report starts in bytes, and how much of the body may be printed. It looks
-/// only for rows that end behind a place.
+/// Returns the start of a report's body in `bytes`, and the length of the body's printable prefix,
+/// considering only rows that end after `from`.
 pub(crate) fn begun_in(bytes: &[u8], from: usize, form: Form) -> Option<(usize, usize)>
     ensures { IfSome result (λ place. IsBegun form bytes.now place.0 place.1) }
 {

@@ -15,8 +15,8 @@ use station_core::{ByteIn, ByteOut, Key};
 use std::alloc::Global;
 use stock_list::RunFault;
 
-/// Reads the body of one command, asks the service to run it under a key, and writes the line of
-/// its answer. A body that says no command of the verb isn't sent.
+/// Reads the body of one command, sends it to the service under a key, and writes the line of its
+/// answer. A body that isn't a command of the verb isn't sent.
 pub(crate) fn ask_act<S: Ask, I: ByteIn, W: ByteOut, E: ByteOut>(
     alloc: Global,
     service: &mut S,
@@ -40,7 +40,7 @@ pub(crate) fn ask_act<S: Ask, I: ByteIn, W: ByteOut, E: ByteOut>(
     }
 }
 
-/// Reads one telegram, asks the service to take it, and writes the line of its answer. One that
+/// Reads one telegram, sends it to the service, and writes the line of its answer. A telegram that
 /// can't be read isn't sent.
 fn ask_take<S: Ask, I: ByteIn, W: ByteOut, E: ByteOut>(
     alloc: Global,
@@ -65,7 +65,7 @@ fn ask_take<S: Ask, I: ByteIn, W: ByteOut, E: ByteOut>(
     }
 }
 
-/// Goes on to the next input, and asks the service to take its telegram.
+/// Begins the next input, and sends its telegram to the service.
 fn ask_next<S: Ask, I: Inputs, W: ByteOut, E: ByteOut>(
     alloc: Global,
     service: &mut S,
@@ -81,9 +81,9 @@ fn ask_next<S: Ask, I: Inputs, W: ByteOut, E: ByteOut>(
     ask_take(alloc, service, reader, output, errors)
 }
 
-/// Asks the service to take the telegrams of so many inputs, each after the one before it, and
-/// writes the line of each. A fault ends the run: the telegrams before it are answered, those after
-/// it are not read.
+/// Sends the telegrams of `count` inputs to the service one after another, and writes the line of
+/// each. A fault ends the run: the telegrams before it are answered, and those after it aren't
+/// read.
 pub(crate) fn ask_takes<S: Ask, I: Inputs, W: ByteOut, E: ByteOut>(
     alloc: Global,
     service: &mut S,

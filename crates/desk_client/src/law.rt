@@ -21,15 +21,15 @@ ghost use Rattle.http_desk.specs.Printouts.{as_text, in_form};
 ghost use Rattle.http_desk.specs.Routes.{posted_command, posted_telegram, got_holder, got_report, got_waybill};
 ghost use Rattle.station_core.specs.Key.{is_key};
 
-/// What a desk replies to an input tells the line that the command line prints of the same answer.
+/// The reply of a desk to an input has the line that the command line prints for the same answer.
 pub fn lines_law()
     ensures { (a : Answer) → HasFew a → reply_line (answer_reply a) ≡ Some (answer_text a) }
 {}
 
-/// The bytes that came are one whole answer at most, so what is returned is a function of them. And
-/// a whole answer is no beginning of another, but where its body ends with a report's last line: so
-/// no answer that tells its length is taken as whole where it was cut. A report that was begun is a
-/// whole answer once the rest of it has come, if what came ends as a report does, and else is cut.
+/// The received bytes are at most one whole answer, so the result is a function of them. A whole
+/// answer isn't a prefix of another, unless its body ends with a report's last line: so no answer
+/// with a length is taken as whole if it was cut. A report of which a prefix was received becomes a
+/// whole answer with its rest if that ends like a report, and is cut otherwise.
 pub fn whole_law()
     ensures one { (bytes : List ℕ) (s t : ℕ) (b c : List ℕ) → IsWhole bytes s b → IsWhole bytes t c
         → (s ≡ t) × (b ≡ c) }
@@ -41,10 +41,9 @@ pub fn whole_law()
         → has_end (body ++ more) ≡ false → IsCutShort (bytes ++ more) }
 {}
 
-/// A desk reads the request of a command as what it is: a post of the verb, this key, this body. It
-/// reads that of a telegram as its post, with no key and this text; that of a waybill and of a
-/// number as the look-up of that number; and that of a report, or of a part of one, as those rows
-/// in that form.
+/// A desk reads each request as intended. A command is read as a post of the verb with this key and
+/// this body, a telegram as its post with this text and without a key, a waybill and a number as
+/// the look-up of that number, and a report, or a part of one, as those rows in that form.
 pub fn request_law()
     ensures command { (verb : Verb) (key body : List ℕ) → is_key key ≡ true
         → length body ≤ most_bytes → IsRead (command_head (word verb) key (length body) ++ body)

@@ -1,4 +1,4 @@
-//! The command line's side of a running service: what each command asks, and what it prints.
+//! The command line as a client of a running service: the request of each command, and its output.
 #![tactic(auto)]
 
 mod ask;

@@ -16,11 +16,11 @@ use station_core::{ByteOut, Input};
 use std::alloc::Global;
 use stock_list::{RunFault, send_line};
 
-/// The only answer that says of a telegram which was read that it can't be read: the date of the
-/// flight on its second line is no day.
+/// The only answer that refuses a telegram as unreadable although it was read: the date of the
+/// flight on its second line isn't an existing day.
 const LATE: &str = "refused 301 2 date";
 
-/// The line that a service told, without its end, and whether it accepted what was asked.
+/// The line in the service's answer, without its end, and whether the input was accepted.
 #[derive(Debug, Drop)]
 pub(crate) struct Heard {
     pub(crate) good: bool,
@@ -28,7 +28,6 @@ pub(crate) struct Heard {
 }
 
 impl Answer {
-    /// The body of the answer.
     pub(crate) fn body(&self) -> &[u8]
         ensures { result.now ≡ body_of self.now }
     {
@@ -39,7 +38,8 @@ impl Answer {
     }
 }
 
-/// Why a call ends where the service doesn't answer. [`RunFault::Store`] is that of the service.
+/// Returns the fault of a call that the service didn't answer. [`RunFault::Store`] means the
+/// service.
 pub(crate) fn service_fault(fault: AskFault) -> RunFault
     ensures { result ≡ service_fault fault }
 {
@@ -49,7 +49,7 @@ pub(crate) fn service_fault(fault: AskFault) -> RunFault
     }
 }
 
-/// The line that an answer tells.
+/// Returns the line in an answer.
 fn heard_of(alloc: Global, answer: &Answer) -> Result<Heard, RunFault>
     ensures { HasUnderstoodLine answer.now result }
 {
@@ -60,7 +60,6 @@ fn heard_of(alloc: Global, answer: &Answer) -> Result<Heard, RunFault>
     }
 }
 
-/// Asks a question, and returns the line that its answer tells.
 fn hear<S: Ask>(alloc: Global, service: &mut S, question: &Question<'_>) -> Result<Heard, RunFault>
     ensures { HasHeard (request_of question.now) (most_of question.now) (S.talk service.old)
         (S.talk service.new) result }
@@ -71,7 +70,7 @@ fn hear<S: Ask>(alloc: Global, service: &mut S, question: &Question<'_>) -> Resu
     }
 }
 
-/// Writes why a telegram can't be read, where its answer says that, though it was read.
+/// Writes the reason why a telegram can't be read, if that is its answer although it was read.
 fn tell_late<E: ByteOut>(
     alloc: Global,
     errors: &mut E,
@@ -100,8 +99,8 @@ fn tell_late<E: ByteOut>(
     );
 }
 
-/// Hands an input to the service, then writes the line of its answer, and why a telegram can't be
-/// read.
+/// Sends an input to the service, writes the line of its answer, and the reason if a telegram can't
+/// be read.
 pub(crate) fn answer_input<S: Ask, W: ByteOut, E: ByteOut>(
     alloc: Global,
     service: &mut S,
@@ -125,8 +124,8 @@ pub(crate) fn answer_input<S: Ask, W: ByteOut, E: ByteOut>(
     Ok(heard.good)
 }
 
-/// Does what is asked, then writes its line, and why it can't be read where it can't. Only an input
-/// goes to the service, by the question that asks it.
+/// Answers a request, and writes the reason if it can't be read. Only an input is sent to the
+/// service, as the given question.
 pub(crate) fn answer_asked<S: Ask, W: ByteOut, E: ByteOut>(
     alloc: Global,
     service: &mut S,

@@ -19,14 +19,14 @@ use std::alloc::{AllocError, Global};
 use std::io::{BufRead, Read};
 use stock_list::{RunFault, Watched, told_by};
 
-/// What a line has for the service: a body under the verb and the key of a command, or a telegram.
+/// The content of a line for the service: a body under the verb and the key of a command, or a
+/// telegram.
 #[derive(Drop)]
 pub(crate) struct Posted {
     pub(crate) head: Option<(Verb, Key)>,
     pub(crate) text: String,
 }
 
-/// The body of a command, under its verb and its key.
 fn command_posted(verb: Verb, key: Key, text: String) -> Posted
     ensures { posted_request result ≡ command_request (word verb) key (string_bytes text) }
 {
@@ -36,7 +36,7 @@ fn command_posted(verb: Verb, key: Key, text: String) -> Posted
     }
 }
 
-/// What a value has for the service; an empty text if it is neither a command nor a telegram.
+/// Returns the content in a value, an empty text if it is neither a command nor a telegram.
 fn value_posted(alloc: Global, value: &Value) -> Result<Posted, AllocError>
     ensures { IfOk result (λ posted. IsPosted (view value.now) (posted_request posted)) }
 {
@@ -56,7 +56,7 @@ fn value_posted(alloc: Global, value: &Value) -> Result<Posted, AllocError>
     }
 }
 
-/// What a line has for the service, by the value that it writes.
+/// Returns the content of a line, from its value.
 fn line_posted(alloc: Global, value: &Option<Value>) -> Result<Posted, AllocError>
     ensures { IfOk result
         (λ posted. IfSome value.now (λ v. IsPosted (view v) (posted_request posted))) }
@@ -70,7 +70,6 @@ fn line_posted(alloc: Global, value: &Option<Value>) -> Result<Posted, AllocErro
     }
 }
 
-/// The question that asks what a line has for the service.
 fn question_of<'a>(posted: &'a Posted) -> Question<'a>
     ensures request { request_of result ≡ posted_request posted.entry.now }
     ensures most { most_of result ≡ most_answer }
@@ -82,7 +81,6 @@ fn question_of<'a>(posted: &'a Posted) -> Question<'a>
     }
 }
 
-/// Does what a line asks, by the value that it writes.
 fn answer_value<S: Ask, W: ByteOut, E: ByteOut>(
     alloc: Global,
     service: &mut S,
@@ -116,8 +114,7 @@ fn answer_value<S: Ask, W: ByteOut, E: ByteOut>(
     )
 }
 
-/// Does what a line asks, after the lines before it, then writes its line, and why it can't be read
-/// where it can't.
+/// Answers a line, and writes the reason if it can't be read.
 fn answer_line<S: Ask, W: ByteOut, E: ByteOut>(
     alloc: Global,
     service: &mut S,
@@ -139,7 +136,7 @@ fn answer_line<S: Ask, W: ByteOut, E: ByteOut>(
     }
 }
 
-/// Answers the lines that a reader gives up to its end, or up to an error.
+/// Answers the lines of a reader up to its end or an error.
 fn ask_lines<S: Ask, R: BufRead + Drop, W: ByteOut, E: ByteOut>(
     alloc: Global,
     service: &mut S,
@@ -167,8 +164,8 @@ fn ask_lines<S: Ask, R: BufRead + Drop, W: ByteOut, E: ByteOut>(
     Err(RunFault::Memory)
 }
 
-/// Reads lines, each a command under its key or a telegram as JSON, asks the service to do each
-/// after the one before it, and writes the line of its answer. `Ok` says whether all were accepted.
+/// Reads lines, each a command under its key or a telegram as JSON, sends them to the service one
+/// after another, and writes the line of each answer. `Ok` says whether all were accepted.
 pub(crate) fn ask_acts<S: Ask, R: Watched + Read, W: ByteOut, E: ByteOut>(
     alloc: Global,
     service: &mut S,

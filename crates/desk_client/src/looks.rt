@@ -1,4 +1,4 @@
-//! Look-ups, and what is known of a waybill with its rows.
+//! Look-ups, and histories of waybills.
 ghost use Rattle.std.specs.Prelude.{◌≡◌};
 ghost use Rattle.desk_client.specs.Looks.{is_unknown, shown, HasAskedHistory, HasAskedMoves, HasLooked, HasShownFound};
 ghost use Rattle.desk_client.specs.Request.{most_of, request_of};
@@ -13,17 +13,16 @@ use station_core::ByteOut;
 use std::alloc::Global;
 use stock_list::RunFault;
 
-/// What the desk says of a number of which nothing is known.
+/// The answer of a desk for an unknown number.
 const UNKNOWN_BODY: &[u8] = b"{\"detail\":\"\",\"refused\":404}";
 
-/// Whether an answer is that of a desk which knows nothing of a number.
 fn is_unknown(answer: &Answer) -> bool
     ensures { result ≡ is_unknown answer.now }
 {
     answer.status == 404 && answer.body() == UNKNOWN_BODY
 }
 
-/// Writes the object of an answer to a look-up, or that nothing is known.
+/// Writes the object in the answer to a look-up, or that the number is unknown.
 fn show_found<W: ByteOut>(answer: &Answer, output: &mut W) -> Result<bool, RunFault>
     ensures { HasShownFound answer.now (W.taken output.old) (W.taken output.new) result }
 {
@@ -42,7 +41,7 @@ fn show_found<W: ByteOut>(answer: &Answer, output: &mut W) -> Result<bool, RunFa
     }
 }
 
-/// Asks for a waybill or a number, and writes the object that is known of it, or that nothing is.
+/// Looks up a waybill or a number, and writes the object, or that the number is unknown.
 pub(crate) fn ask_number<S: Ask, W: ByteOut>(
     alloc: Global,
     service: &mut S,
@@ -59,7 +58,7 @@ pub(crate) fn ask_number<S: Ask, W: ByteOut>(
     }
 }
 
-/// The moves of a waybill, and then its trail.
+/// Writes the moves of a waybill, and then its trail.
 fn ask_moves<S: Ask, W: ByteOut>(
     alloc: Global,
     service: &mut S,
@@ -75,7 +74,7 @@ fn ask_moves<S: Ask, W: ByteOut>(
     }
 }
 
-/// `history AWB`: what is known of a waybill, its moves and its trail.
+/// Runs `history AWB`: writes the record of a waybill, its moves and its trail.
 pub(crate) fn ask_history<S: Ask, W: ByteOut>(
     alloc: Global,
     service: &mut S,

@@ -1,4 +1,4 @@
-//! The body of an order on the stock.
+//! The JSON body of a stock order.
 ghost use Rattle.std.specs.Prelude.{◌≡◌, IfOk, IsTrue, string_bytes};
 ghost use Rattle.serde_json.specs.View.{view};
 ghost use Rattle.agent_stock.specs.Code.{is_agent_code};
@@ -11,7 +11,6 @@ use desk_commands::Verb;
 use serde_json::{Value, json};
 use std::alloc::{AllocError, Global};
 
-/// The verb of an order.
 pub(crate) fn verb_of(order: &Order) -> Verb
     ensures { result ≡ order_verb order.now }
 {
@@ -23,7 +22,6 @@ pub(crate) fn verb_of(order: &Order) -> Verb
     }
 }
 
-/// The JSON object of a run.
 fn run_text(alloc: Global, count: u32, prefix: &str, serial: &str) -> Result<String, AllocError>
     ensures { IfOk result
         (λ text. IsTextOf (run_object count prefix.now serial.now) (string_bytes text)) }
@@ -31,7 +29,7 @@ fn run_text(alloc: Global, count: u32, prefix: &str, serial: &str) -> Result<Str
     json!(in alloc; {"count": count, "prefix": prefix, "serial": serial})?.to_string(alloc)
 }
 
-/// The JSON object of a run and an agent.
+/// Returns the JSON object of a run and an agent.
 fn agents_value(
     alloc: Global,
     agent: &str,
@@ -45,7 +43,6 @@ fn agents_value(
     json!(in alloc; {"agent": agent, "count": count, "prefix": prefix, "serial": serial})
 }
 
-/// Its text.
 fn agents_text(
     alloc: Global,
     agent: &str,
@@ -60,7 +57,7 @@ fn agents_text(
     value.to_string(alloc)
 }
 
-/// The body of an order that names no agent.
+/// Returns the body of an order without an agent.
 fn run_body(alloc: Global, run: &Run) -> Result<String, AllocError>
     ensures text { IfOk result (λ text. IsTextOf (run_data run.now) (string_bytes text)) }
     ensures run { IsRun run.now }
@@ -72,7 +69,6 @@ fn run_body(alloc: Global, run: &Run) -> Result<String, AllocError>
     run_text(alloc, count, prefix, serial)
 }
 
-/// The body of an order that names an agent.
 fn agents_body(alloc: Global, run: &Run, agent: &AgentCode) -> Result<String, AllocError>
     ensures text { IfOk result
         (λ text. IsTextOf (agents_data run.now agent.now) (string_bytes text)) }
@@ -87,9 +83,7 @@ fn agents_body(alloc: Global, run: &Run, agent: &AgentCode) -> Result<String, Al
     agents_text(alloc, code, count, prefix, serial)
 }
 
-/// The body of an order, as `act` takes it.
-///
-/// Returns [`AllocError`] when out of memory.
+/// Returns the body of an order, as `act` takes it.
 pub(crate) fn order_body(alloc: Global, order: &Order) -> Result<String, AllocError>
     ensures { IfOk result (λ text. IsOrderText order.now (string_bytes text)) }
 {

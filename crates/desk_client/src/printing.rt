@@ -1,4 +1,4 @@
-//! Printing a report as it comes.
+//! Printing a report as it arrives.
 ghost use Rattle.std.specs.Prelude.{◌≡◌};
 ghost use Rattle.desk_client.specs.Front.{IsFrontEnd};
 ghost use Rattle.desk_client.specs.Printed.{HasPrintedBody, HasPrintedLast, HasTurned, IsHeld};
@@ -12,17 +12,17 @@ use reports::Form;
 use station_core::{ByteIn, ByteOut};
 use std::alloc::Global;
 
-/// Why a report wasn't printed to its end.
+/// The reason why a report wasn't printed to its end.
 #[derive(Clone, Copy, Debug, PartialEq, Eq)]
 pub(crate) enum PrintFault {
-    /// The writer failed or took no byte.
+    /// The writer failed or wrote 0 bytes.
     Write,
-    /// The rest of the report didn't come.
+    /// The rest of the report wasn't received.
     Rest(AskFault),
 }
 
-/// Prints what may be printed of what is held, and holds the rest. It looks only for rows that end
-/// behind a place.
+/// Prints the printable prefix of the held text, and holds the rest. It considers only rows that
+/// end after `from`.
 fn print_more<O: ByteOut>(
     alloc: Global,
     output: &mut O,
@@ -48,7 +48,7 @@ fn print_more<O: ByteOut>(
     Ok(())
 }
 
-/// Prints what is held when the connection has ended, if it ends as a report does.
+/// Prints the held text at the end of the connection, if it ends like a report.
 fn print_last<O: ByteOut>(output: &mut O, held: &[u8]) -> Result<(), PrintFault>
     ensures { HasPrintedLast held.now (O.taken output.old) (O.taken output.new) result }
 {
@@ -61,8 +61,8 @@ fn print_last<O: ByteOut>(output: &mut O, held: &[u8]) -> Result<(), PrintFault>
     }
 }
 
-/// Prints a report of which a front has come, and then the rest of it as it comes. Its end is
-/// printed when the connection has ended.
+/// Prints a report of which a prefix was received, and then the rest as it arrives. The report's
+/// end is printed when the connection has ended.
 pub(crate) fn print_report<I: ByteIn, O: ByteOut>(
     alloc: Global,
     reader: &mut I,

@@ -1,4 +1,4 @@
-//! What is asked of a service, and the request that asks it.
+//! Questions to a service, and their requests.
 ghost use Rattle.std.specs.Prelude.{◌≡◌, ◌++◌, IfOk, length, string_bytes};
 ghost use Rattle.http_desk.specs.Paths.{report_path};
 ghost use Rattle.desk_client.specs.Request.{command_lines, key_line, command_head, get_request, holder_path, length_line, listing_path, most_of, request_of, rows_path, telegram_head, waybill_path};
@@ -9,25 +9,25 @@ use reports::{Form, Listing, Report};
 use station_core::Key;
 use std::alloc::{AllocError, Global};
 
-/// The most bytes of an answer that is one JSON object.
+/// The largest size of an answer that is one JSON object.
 const MOST_ANSWER: usize = 65_536;
 
-/// What is asked of a service.
+/// A question to a service.
 #[derive(Clone, Copy)]
 pub enum Question<'a> {
     /// A command's body under its key.
     Command(Verb, Key, &'a [u8]),
     /// A telegram.
     Telegram(&'a [u8]),
-    /// What is known of a waybill.
+    /// The record of a waybill.
     Waybill(Awb),
-    /// Who holds a number.
+    /// The holder of a number.
     Holder(Awb),
     /// A report, or a part of one.
     Rows(Listing, Form),
 }
 
-/// How many bytes the answer to a question may have. Only rows have no bound.
+/// Returns the largest size of the answer to a question. Only rows are unlimited.
 pub(crate) fn most_of(question: &Question<'_>) -> usize
     ensures { result ≡ most_of question.now }
 {
@@ -37,7 +37,6 @@ pub(crate) fn most_of(question: &Question<'_>) -> usize
     }
 }
 
-/// The path of a report.
 fn report_path(report: Report) -> &'static str
     ensures { result.now ≡ report_path report }
 {
@@ -53,7 +52,6 @@ fn report_path(report: Report) -> &'static str
     }
 }
 
-/// The path of rows as text.
 fn listing_path(alloc: Global, listing: &Listing) -> Result<String, AllocError>
     ensures { IfOk result (λ path. string_bytes path ≡ listing_path listing.now) }
 {
@@ -76,7 +74,6 @@ fn listing_path(alloc: Global, listing: &Listing) -> Result<String, AllocError>
     }
 }
 
-/// The path of rows in a form.
 fn rows_path(alloc: Global, listing: &Listing, form: Form) -> Result<String, AllocError>
     ensures { IfOk result (λ path. string_bytes path ≡ rows_path listing.now form) }
 {
@@ -87,28 +84,26 @@ fn rows_path(alloc: Global, listing: &Listing, form: Form) -> Result<String, All
     }
 }
 
-/// The first lines of a command's request.
 fn command_lines(alloc: Global, word: &str) -> Result<String, AllocError>
     ensures { IfOk result (λ text. string_bytes text ≡ command_lines word.now) }
 {
     format!(in alloc; "POST /v1/act/{word} HTTP/1.1\r\nHost: 127.0.0.1\r\nConnection: close\r\n")
 }
 
-/// The line of a key.
 fn key_line(alloc: Global, key: &Key) -> Result<String, AllocError>
     ensures { IfOk result (λ text. string_bytes text ≡ key_line key.now) }
 {
     format!(in alloc; "Request-Key: {key}\r\n")
 }
 
-/// The line of a body's length, and the empty line after it.
+/// Returns the line of a body's length, and the empty line after it.
 fn length_line(alloc: Global, len: usize) -> Result<String, AllocError>
     ensures { IfOk result (λ text. string_bytes text ≡ length_line len) }
 {
     format!(in alloc; "Content-Length: {len}\r\n\r\n")
 }
 
-/// What is before a command's body.
+/// Returns the head before a command's body.
 fn command_head(alloc: Global, word: &str, key: &Key, len: usize) -> Result<String, AllocError>
     ensures { IfOk result (λ text. string_bytes text ≡ command_head word.now key.now len) }
 {
@@ -118,7 +113,6 @@ fn command_head(alloc: Global, word: &str, key: &Key, len: usize) -> Result<Stri
     format!(in alloc; "{lines}{key}{length}")
 }
 
-/// What is before a telegram.
 fn telegram_head(alloc: Global, len: usize) -> Result<String, AllocError>
     ensures { IfOk result (λ text. string_bytes text ≡ telegram_head len) }
 {
@@ -127,28 +121,24 @@ fn telegram_head(alloc: Global, len: usize) -> Result<String, AllocError>
     )
 }
 
-/// The request that gets what is at a path.
 fn get_request(alloc: Global, path: &str) -> Result<String, AllocError>
     ensures { IfOk result (λ text. string_bytes text ≡ get_request path.now) }
 {
     format!(in alloc; "GET {path} HTTP/1.1\r\nHost: 127.0.0.1\r\nConnection: close\r\n\r\n")
 }
 
-/// The path of a waybill.
 fn waybill_path(alloc: Global, number: &Awb) -> Result<String, AllocError>
     ensures { IfOk result (λ text. string_bytes text ≡ waybill_path number.now) }
 {
     format!(in alloc; "/v1/waybills/{number}")
 }
 
-/// The path of a number in stock.
 fn holder_path(alloc: Global, number: &Awb) -> Result<String, AllocError>
     ensures { IfOk result (λ text. string_bytes text ≡ holder_path number.now) }
 {
     format!(in alloc; "/v1/stock/{number}")
 }
 
-/// A head and its body.
 fn with_body(alloc: Global, head: &str, body: &[u8]) -> Result<Vec<u8>, AllocError>
     ensures { IfOk result (λ bytes. bytes.items ≡ head.now ++ body.now) }
 {
@@ -158,7 +148,6 @@ fn with_body(alloc: Global, head: &str, body: &[u8]) -> Result<Vec<u8>, AllocErr
     Ok(bytes)
 }
 
-/// The request that asks a question.
 pub(crate) fn request_of(alloc: Global, question: &Question<'_>) -> Result<Vec<u8>, AllocError>
     ensures { IfOk result (λ bytes. bytes.items ≡ request_of question.now) }
 {

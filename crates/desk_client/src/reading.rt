@@ -7,11 +7,11 @@ use crate::ask::AskFault;
 use station_core::{ByteIn, ReadFault};
 use std::alloc::Global;
 
-/// The most bytes of one read.
+/// The size of one read.
 const CHUNK: usize = 16_384;
 
-/// One read behind the bytes that have come. `true`: the input has ended. An interrupted read
-/// brings nothing.
+/// Reads once and appends the bytes. Returns true at the end of the input. An interrupted read
+/// appends nothing.
 pub(crate) fn read_more<I: ByteIn>(reader: &mut I, bytes: &mut Vec<u8>) -> Result<bool, AskFault>
     ensures come { OnOk result
         (HasGrown (I.given reader.old) (I.given reader.new) bytes.old.items bytes.new.items) }
@@ -35,7 +35,7 @@ pub(crate) fn read_more<I: ByteIn>(reader: &mut I, bytes: &mut Vec<u8>) -> Resul
     }
 }
 
-/// Reads an input to its end, or until more than so many bytes have come.
+/// Reads an input to its end, or until more than `most` bytes were received.
 #[tactic(auto, using(cli_run::proofs::Grown::grown_more, crate::proofs::Grown::come_more, crate::proofs::Grown::come_over))]
 pub(crate) fn read_all<I: ByteIn>(
     alloc: Global,

@@ -1,4 +1,4 @@
-//! The answer to a question for rows, which is printed as it comes.
+//! Printing the answer to a question for rows.
 ghost use Rattle.std.specs.Prelude.{◌≡◌};
 ghost use Rattle.desk_client.specs.Again.{talk};
 ghost use Rattle.desk_client.specs.Front.{IsBegun};
@@ -16,7 +16,6 @@ use station_core::{ByteIn, ByteOut};
 use std::alloc::Global;
 use stock_list::RunFault;
 
-/// Writes the rows of an answer.
 fn show_rows<W: ByteOut>(answer: &Answer, output: &mut W) -> Result<bool, RunFault>
     ensures { HasShownRows answer.now (W.taken output.old) (W.taken output.new) result }
 {
@@ -29,7 +28,7 @@ fn show_rows<W: ByteOut>(answer: &Answer, output: &mut W) -> Result<bool, RunFau
     }
 }
 
-/// Prints a report that was begun, and the rest of it as it comes.
+/// Prints a report of which a prefix was received, and the rest as it arrives.
 #[tactic(auto, using(crate::proofs::RowsPrinted::printed, crate::proofs::RowsPrinted::broken))]
 fn print_begun<C: Connect, I: ByteIn, O: ByteOut, W: ByteOut>(
     alloc: Global,
@@ -55,7 +54,7 @@ fn print_begun<C: Connect, I: ByteIn, O: ByteOut, W: ByteOut>(
     }
 }
 
-/// Writes the rows of an answer: those of a whole one, or as they come.
+/// Writes the rows of an answer, of a whole one or as they arrive.
 pub(crate) fn show_answer<C: Connect, I: ByteIn, O: ByteOut, W: ByteOut>(
     alloc: Global,
     service: &mut Service<C, I, O>,

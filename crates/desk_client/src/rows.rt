@@ -19,7 +19,7 @@ use stock_list::{
     told_by,
 };
 
-/// Asks the service for an order under its key.
+/// Sends an order to the service under its key, and writes the line of its answer.
 fn answer_order<S: Ask, W: ByteOut, E: ByteOut>(
     alloc: Global,
     service: &mut S,
@@ -52,8 +52,8 @@ fn answer_order<S: Ask, W: ByteOut, E: ByteOut>(
     )
 }
 
-/// Asks the service for what a row asks, then writes its line. A row that asks nothing isn't sent:
-/// its reason follows its line on `errors`.
+/// Sends a row's order to the service, and writes the line of its answer. A row without an order
+/// isn't sent: the reason follows its line on `errors`.
 fn answer_row<S: Ask, W: ByteOut, E: ByteOut>(
     alloc: Global,
     service: &mut S,
@@ -74,7 +74,7 @@ fn answer_row<S: Ask, W: ByteOut, E: ByteOut>(
     }
 }
 
-/// Answers the rows that a reader gives up to its end, or up to an error.
+/// Answers the rows of a reader up to its end or an error.
 fn ask_rows<S: Ask, R: Read + Drop, W: ByteOut, E: ByteOut>(
     alloc: Global,
     service: &mut S,
@@ -108,8 +108,8 @@ fn ask_rows<S: Ask, R: Read + Drop, W: ByteOut, E: ByteOut>(
     Ok(good)
 }
 
-/// Asks the service for the rows of a stock list, each after the one before it, and writes the line
-/// of each when its answer came. `Ok` says whether all were accepted.
+/// Sends the rows of a stock list to the service one after another, and writes the line of each
+/// when its answer arrives. `Ok` says whether all were accepted.
 pub(crate) fn ask_stock<S: Ask, R: Watched + Read, W: ByteOut, E: ByteOut>(
     alloc: Global,
     service: &mut S,

@@ -1,4 +1,4 @@
-//! A line whose command is asked of a service.
+//! Running a command of the command line with a service.
 ghost use Rattle.cli_run.specs.InTurn.{come};
 ghost use Rattle.desk_client.specs.Done.{HasDone};
 
@@ -16,15 +16,18 @@ use std::alloc::Global;
 use std::io::Read;
 use stock_list::RunFault;
 
-/// Asks the service for what a command of the command line wants, with the inputs that a reader
-/// gives, and writes what the command writes over a file. `init`, `migrate`, `serve` and `read`
-/// aren't asked: nothing is done or written.
+/// Runs a command of the command line with a service, on the inputs of a reader, and writes what
+/// the command writes over a file. For `init`, `migrate`, `serve` and `read` it does nothing.
 ///
-/// `Ok` says whether all was accepted. Returns [`RunFault::Read`] where the reader fails,
-/// [`RunFault::Write`] where the writer fails or takes no byte, [`RunFault::Memory`] when out of
-/// memory, and [`RunFault::Store`] where the service didn't answer, or as no desk does: the lines
-/// before are answered, and of the last input it isn't known whether it acted. Ask again, under the
-/// same key: it acts once.
+/// `Ok` says whether everything was accepted.
+///
+/// # Errors
+///
+/// - [`RunFault::Read`]: the reader fails.
+/// - [`RunFault::Write`]: the writer fails or writes 0 bytes.
+/// - [`RunFault::Memory`]: memory runs out.
+/// - [`RunFault::Store`]: the service didn't answer, or not like a desk. The lines before are
+///   answered, and the last input may have acted. Ask again, under the same key: it acts once.
 pub fn ask_command<S: Ask, I: Inputs + Read, W: ByteOut, E: ByteOut>(
     alloc: Global,
     service: &mut S,

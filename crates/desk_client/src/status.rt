@@ -1,4 +1,4 @@
-//! How a call ends that asked a service.
+//! The exit status of a call to a service, and its fault line.
 ghost use Rattle.std.specs.Prelude.{◌≡◌, ◌++◌, ◌∷◌, [], Some, decimal, IfErr, OnOk, option_map};
 ghost use Rattle.station_core.specs.Ends.{SendsLine};
 ghost use Rattle.desk_client.specs.Status.{fault_line, fault_text, fault_why, last_why, service_text, status_of};
@@ -22,10 +22,9 @@ const LONG: &str = "the answer is longer than a cargo desk's; pass the port of t
 
 const FOREIGN: &str = "the answer isn't a cargo desk's; pass the port of the service to --at";
 
-/// The status of a desk that can't answer now. Its own output says why.
+/// The status of a desk that is unavailable. Its own output says why.
 const UNAVAILABLE: u16 = 503;
 
-/// The line of a fault.
 fn fault_line(fault: RunFault) -> &'static str
     ensures { result.now ≡ fault_line fault }
 {
@@ -37,7 +36,6 @@ fn fault_line(fault: RunFault) -> &'static str
     }
 }
 
-/// What went wrong at a try, and what to do.
 fn fault_why(fault: AskFault) -> Option<&'static str>
     ensures { option_map (λ why. why.now) result ≡ fault_why fault }
 {
@@ -51,7 +49,7 @@ fn fault_why(fault: AskFault) -> Option<&'static str>
     }
 }
 
-/// Why a service didn't answer, by how the last try ended.
+/// Returns the reason why a service didn't answer, from the outcome of the last try.
 fn last_why(last: LastTry) -> Option<&'static str>
     ensures { option_map (λ why. why.now) result ≡ last_why last }
 {
@@ -68,7 +66,8 @@ fn last_why(last: LastTry) -> Option<&'static str>
     }
 }
 
-/// The exit status: 0, all was accepted; 1, something wasn't; 3, the call ended before its end.
+/// Returns the exit status: 0 if everything was accepted, 1 if something wasn't, 3 if the call
+/// broke off.
 fn status_of(ended: Result<bool, RunFault>) -> u8
     ensures { result ≡ status_of ended }
 {
@@ -79,8 +78,7 @@ fn status_of(ended: Result<bool, RunFault>) -> u8
     }
 }
 
-/// Writes a line: all of it, or as much as the writer takes before it fails. There is nowhere left
-/// to report that failure.
+/// Writes a line, or as much of it as the writer takes. A failure can't be reported anywhere.
 fn tell_line<E: ByteOut>(errors: &mut E, line: &str)
     ensures { SendsLine line.now (E.taken errors.old) (E.taken errors.new) }
 {
@@ -112,7 +110,7 @@ fn tell_parts<E: ByteOut>(errors: &mut E, text: &str, head: &str, word: &str)
     }
 }
 
-/// Writes the line of a service that didn't answer, and then why, in the same way.
+/// Writes the line of a service that didn't answer, and the reason, in the same way.
 fn tell_why<E: ByteOut>(errors: &mut E, port: u16, why: &str)
     ensures { SendsLine (service_text port (Some why.now)) (E.taken errors.old)
         (E.taken errors.new) }
@@ -125,7 +123,7 @@ fn tell_why<E: ByteOut>(errors: &mut E, port: u16, why: &str)
     }
 }
 
-/// Writes the line of a service that didn't answer, and then why, where that is known.
+/// Writes the line of a service that didn't answer, and the reason if it is known.
 fn tell_service<E: ByteOut>(errors: &mut E, port: u16, last: LastTry)
     ensures { SendsLine (service_text port (last_why last)) (E.taken errors.old)
         (E.taken errors.new) }
@@ -136,7 +134,7 @@ fn tell_service<E: ByteOut>(errors: &mut E, port: u16, last: LastTry)
     }
 }
 
-/// Writes the line of a fault, and why the service on a port didn't answer.
+/// Writes the line of a fault, and the reason why the service on a port didn't answer.
 fn tell_fault<E: ByteOut>(errors: &mut E, fault: RunFault, port: u16, last: LastTry)
     ensures { SendsLine (fault_text port last fault) (E.taken errors.old) (E.taken errors.new) }
 {
@@ -146,9 +144,9 @@ fn tell_fault<E: ByteOut>(errors: &mut E, fault: RunFault, port: u16, last: Last
     }
 }
 
-/// Ends a call that asked the service on a port: its fault is reported, and the exit status is
-/// returned. Where the service didn't answer the fault is `fault service`, and a second line says
-/// why, by how the last try ended, and what to do.
+/// Ends a call to the service on a port: reports its fault, and returns the exit status. If the
+/// service didn't answer, the fault is `fault service`, and a second line has the reason, from the
+/// outcome of the last try, and what to do.
 pub fn end_asked<E: ByteOut>(
     errors: &mut E,
     ended: Result<bool, RunFault>,

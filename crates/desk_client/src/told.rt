@@ -1,4 +1,4 @@
-//! What an answer tells, as the line that the command line prints.
+//! The line in an answer, as the command line prints it.
 ghost use Rattle.std.specs.Prelude.{◌≡◌, IfOk, option_map, string_bytes, Some, None};
 ghost use Rattle.serde_json.specs.View.{view};
 ghost use Rattle.desk_client.specs.Told.{ok_line, refused_line, refusal_told, told_line, Tells};
@@ -6,24 +6,24 @@ ghost use Rattle.desk_client.specs.Told.{ok_line, refused_line, refusal_told, to
 use serde_json::Value;
 use std::alloc::{AllocError, Global};
 
-/// What an answer to a command or a telegram tells.
+/// The content of an answer to a command or a telegram.
 #[derive(Debug, Drop)]
 pub enum Told {
-    /// The line without its end, `ok 10`, `refused 102 020-12345723` or `body bad`, and whether it
-    /// was accepted.
+    /// The line without its end, `ok 10`, `refused 102 020-12345723` or `body bad`, and whether the
+    /// input was accepted.
     Line { good: bool, text: String },
-    /// No line: it isn't an answer that a desk gives to a command.
+    /// The answer isn't one of a desk to a command.
     Nothing,
 }
 
-/// `ok 10`.
+/// Returns a line such as `ok 10`.
 fn ok_line(alloc: Global, count: u64) -> Result<String, AllocError>
     ensures { IfOk result (λ line. string_bytes line ≡ ok_line count) }
 {
     format!(in alloc; "ok {count}")
 }
 
-/// `refused 102 020-12345723`, or `refused 501`.
+/// Returns a line such as `refused 102 020-12345723` or `refused 501`.
 fn refused_line(alloc: Global, number: u64, detail: &str) -> Result<String, AllocError>
     ensures { IfOk result (λ line. string_bytes line ≡ refused_line number detail.now) }
 {
@@ -33,7 +33,6 @@ fn refused_line(alloc: Global, number: u64, detail: &str) -> Result<String, Allo
     format!(in alloc; "refused {number} {detail}")
 }
 
-/// The number and the detail of a refusal.
 fn refusal_told(value: &Value) -> Option<(u64, &str)>
     ensures { option_map (λ told. (told.0, told.1.now)) result ≡ refusal_told (view value.now) }
 {
@@ -42,7 +41,7 @@ fn refusal_told(value: &Value) -> Option<(u64, &str)>
     Some((number, detail))
 }
 
-/// The line that an object under a status tells.
+/// Returns the line for an object under a status.
 fn told_line(alloc: Global, status: u16, value: &Value) -> Result<Option<String>, AllocError>
     ensures { IfOk result
         (λ line. option_map (λ line. string_bytes line) line ≡ told_line status (view value.now)) }
@@ -68,9 +67,7 @@ fn told_line(alloc: Global, status: u16, value: &Value) -> Result<Option<String>
     Ok(None)
 }
 
-/// What an answer to a command or a telegram tells, by its status and its body.
-///
-/// Returns [`AllocError`] when out of memory.
+/// Returns the content of an answer to a command or a telegram, from its status and its body.
 pub fn told_answer(alloc: Global, status: u16, body: &[u8]) -> Result<Told, AllocError>
     ensures { IfOk result (Tells status body.now) }
 {

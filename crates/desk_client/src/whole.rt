@@ -1,4 +1,4 @@
-//! Whether an answer has come whole.
+//! Recognising whole answers.
 ghost use Rattle.std.specs.Prelude.{◌≡◌, ◌≤◌, ◌∷◌, [], codes, drop, length, map, true, All, IfSome};
 ghost use Rattle.httparse.specs.Spans.{header_bytes, IsHeaderWithin};
 ghost use Rattle.http_desk.specs.Request.{values_of};
@@ -9,39 +9,39 @@ use http_desk::{Values, number_told, values_of};
 use httparse::Status;
 use httparse::spans::{EMPTY_HEADER_SPAN, HeaderSpan, parse_response};
 
-/// The most fields of an answer's head.
+/// The largest number of fields in an answer's head.
 const MOST_FIELDS: usize = 16;
 
-/// The status of an answer, and where its body starts.
+/// The status of an answer, and the start of its body.
 #[derive(Clone, Copy, Debug, PartialEq, Eq)]
 pub(crate) struct Place {
     pub(crate) status: u16,
     pub(crate) start: usize,
 }
 
-/// What the bytes behind a head are of the body that it tells.
+/// The received part of the body that the head announces.
 #[derive(Clone, Copy, Debug, PartialEq, Eq)]
 pub(crate) enum Extent {
     /// All of it.
     Whole,
-    /// A beginning of it.
+    /// A prefix of it.
     Short,
-    /// Neither, whatever follows.
+    /// Neither. More bytes don't help.
     Never,
 }
 
-/// What bytes are of an answer.
+/// The part of an answer that bytes are.
 #[derive(Clone, Copy, Debug, PartialEq, Eq)]
 pub(crate) enum Found {
-    /// A whole one.
+    /// A whole answer.
     Whole(Place),
-    /// They end before the whole answer.
+    /// A prefix of an answer.
     Cut,
-    /// Nothing that a desk answers, whatever follows.
+    /// Not a prefix of any answer of a desk.
     Foreign,
 }
 
-/// What a body is of one whose length is told.
+/// Returns the extent of a body with a given length.
 #[tactic(auto, using(crate::proofs::Bodies::as_told, crate::proofs::Bodies::less_than_told, crate::proofs::Bodies::more_than_told, crate::proofs::Bodies::untold))]
 fn extent_by(value: &[u8], body: &[u8]) -> Extent
     ensures { IsExtent (value.now ∷ []) body.now result }
@@ -61,7 +61,7 @@ fn extent_by(value: &[u8], body: &[u8]) -> Extent
     }
 }
 
-/// What a body is of one whose length isn't told: a report, which ends as a report does.
+/// Returns the extent of a body without a given length: a report, which must end like one.
 fn extent_of_report(body: &[u8]) -> Extent
     ensures { IsExtent [] body.now result }
 {
@@ -72,7 +72,7 @@ fn extent_of_report(body: &[u8]) -> Extent
     }
 }
 
-/// What a body is of the one that its head tells. A body in parts is none that a desk sends.
+/// Returns the extent of a body by its head. A desk never sends a chunked body.
 #[tactic(auto, using(crate::proofs::Bodies::by_lengths, crate::proofs::Bodies::in_parts, crate::proofs::Bodies::of_several))]
 fn extent_of(buf: &[u8], fields: &[HeaderSpan], body: &[u8]) -> Extent
     requires { All (IsHeaderWithin (length buf.now)) fields.now }
@@ -88,7 +88,7 @@ fn extent_of(buf: &[u8], fields: &[HeaderSpan], body: &[u8]) -> Extent
     }
 }
 
-/// Whether a head gives no length, as a desk's before a report.
+/// Returns whether a head gives no length, like a desk's before a report.
 fn is_untold(buf: &[u8], fields: &[HeaderSpan]) -> bool
     requires { All (IsHeaderWithin (length buf.now)) fields.now }
     ensures plain { result ≡ true → values_of (codes "transfer-encoding")
@@ -105,7 +105,7 @@ fn is_untold(buf: &[u8], fields: &[HeaderSpan]) -> bool
     true
 }
 
-/// Where the body starts if the bytes begin a report.
+/// Returns the start of the body if the bytes are a prefix of a report.
 pub(crate) fn report_in(bytes: &[u8]) -> Option<usize>
     ensures within { IfSome result (λ start. start ≤ length bytes.now) }
     ensures report { IfSome result (λ start. IsReport bytes.now (drop start bytes.now)) }
@@ -123,7 +123,7 @@ pub(crate) fn report_in(bytes: &[u8]) -> Option<usize>
     }
 }
 
-/// What bytes are of an answer, and where the parts of a whole one are.
+/// Returns how much of an answer the bytes are, and the parts of a whole one.
 pub(crate) fn found_in(bytes: &[u8]) -> Found
     ensures { IsFound bytes.now result }
 {

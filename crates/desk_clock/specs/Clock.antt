@@ -1,4 +1,4 @@
--- What a clock shows in a zone, and the moment that it is.
+-- Local time in a zone, and its moment.
 use Rattle.std.specs.Prelude.{◌≡◌, ℕ, ◌+◌, ◌*◌, ℤ, pos, ◌+ℤ◌, List}
 use Rattle.station_days.specs.Date.{LocalMinute, first_moment_day, last_moment_day}
 use Rattle.jiff.specs.Placed.{IsPosixZone}
@@ -11,16 +11,14 @@ use Rattle.jiff_core.specs.declared.civil.datetime.DateTime.{DateTime}
 use Rattle.jiff_tz.specs.Zone.{offset_at}
 use Rattle.desk_clock.specs.declared.zone.Zone.{Zone}
 
--- the zone is that of the rule's text
 abbrev pub FollowsRule : List ℕ → Zone → Type 0
 FollowsRule rule zone = IsPosixZone rule (plain_zone zone.zone)
 
--- a clock in the zone shows this date and time at the instant, in nanoseconds since 1970-01-01 in
--- UTC
+-- the local date and time at the instant, in nanoseconds since 1970-01-01 in UTC
 abbrev pub Shows : Zone → ℤ → DateTime → Type 0
 Shows zone instant local = civil_nanos local ≡ instant +ℤ nanos_of_seconds (offset_at (plain_zone zone.zone) instant)
 
--- the moment has that day, and that minute of it
+-- the moment has this day and this minute
 abbrev pub IsMinuteOf : DateTime → LocalMinute → Type 0
 IsMinuteOf local m = (pos m.day ≡ epoch_day local.date) × (m.minute ≡ local.time.hour * 60 + local.time.minute)
 

@@ -16,8 +16,8 @@ pub struct Zone {
 }
 
 impl Zone {
-    /// The zone of a rule such as `UTC0` or `CET-1CEST,M3.5.0,M10.5.0/3`; `None` for any other
-    /// text, a name such as `Europe/Berlin` too.
+    /// Reads a rule such as `UTC0` or `CET-1CEST,M3.5.0,M10.5.0/3`. It is `None` for any other
+    /// text, including names such as `Europe/Berlin`.
     pub fn read(rule: &str) -> Option<Zone>
         ensures read { IsSome result ↔ IsSome (read_whole rule.now) }
         ensures rule { IfSome result (FollowsRule rule.now) }
@@ -28,7 +28,6 @@ impl Zone {
         }
     }
 
-    /// What a clock in this zone shows at an instant.
     fn local(&self, now: Timestamp) -> DateTime
         ensures { Shows self.now now.nanosecond result }
     {
@@ -36,7 +35,7 @@ impl Zone {
     }
 }
 
-/// The minute of a day that a clock shows, in minutes since midnight.
+/// Returns the minutes since midnight.
 fn minute_of(local: DateTime) -> u16
     ensures value { result ≡ local.time.hour * 60 + local.time.minute }
     ensures bound { result < 1440 }
@@ -45,7 +44,7 @@ fn minute_of(local: DateTime) -> u16
     u16::from(time.hour) * 60 + u16::from(time.minute)
 }
 
-/// The moment of a date and a time; `None` before 2000-01-01 and after 2099-12-31.
+/// Returns the moment of a date and a time, or `None` before 2000-01-01 and after 2099-12-31.
 fn moment_at(local: DateTime) -> Option<Moment>
     ensures within { IsSome result ↔ IsWithinDays local }
     ensures value { IfSome result (IsMinuteOf local) }
@@ -57,8 +56,8 @@ fn moment_at(local: DateTime) -> Option<Moment>
     Moment::new(day, minute_of(local))
 }
 
-/// The moment that a clock in a zone shows at an instant: its local day and minute. `None` where
-/// that day is before 2000-01-01 or after 2099-12-31.
+/// Returns the local day and minute in a zone at an instant, or `None` if the day is before
+/// 2000-01-01 or after 2099-12-31.
 pub fn moment_of(zone: &Zone, now: Timestamp) -> Option<Moment>
     ensures { (local : AnyDateTime) × Shows zone.now now.nanosecond local
         × (IsSome result ↔ IsWithinDays local) × IfSome result (IsMinuteOf local) }
@@ -66,10 +65,10 @@ pub fn moment_of(zone: &Zone, now: Timestamp) -> Option<Moment>
     moment_at(zone.local(now))
 }
 
-/// The moment that a clock shows now, in a zone. `None` where the clock can't be read, or shows a
-/// day before 2000-01-01 or after 2099-12-31.
+/// Returns the current moment in a zone, or `None` if the clock can't be read, or its day is before
+/// 2000-01-01 or after 2099-12-31.
 pub fn moment_now(clock: &impl Clock, zone: &Zone) -> Option<Moment>
-    // It is what a clock in the zone shows at some instant; no contract says which one it is.
+    // It is the local time at some instant; no contract says at which.
     ensures { IfSome result (λ moment. (instant : ℤ) × (local : AnyDateTime)
         × Shows zone.now instant local × IsMinuteOf local moment) }
 {

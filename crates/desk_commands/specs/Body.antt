@@ -1,4 +1,4 @@
--- What a body of JSON says.
+-- Commands in JSON bodies.
 use Rattle.std.specs.Prelude.{◌≡◌, ℕ, suc, ◌==◌, nat_lt, List, [], ◌∷◌, Option, Some, None, option_map, option_and_then, count_by, ⊤}
 use Rattle.serde_json.specs.Data.{Data, Members, number, unsigned, string, member, no_members}
 use Rattle.serde_json.specs.Find.{as_object, as_str, as_number, as_u64, get}
@@ -15,7 +15,6 @@ use Rattle.desk_commands.specs.Command.{verb_of, values_of, command_of, IsComman
 use Rattle.desk_commands.specs.Verb.{row, places, name, kind_of}
 use Rattle.desk_commands.specs.FieldValue.{is_present}
 
--- how many members an object has
 abbrev pub members_len : Members → ℕ
 members_len no_members = 0
 members_len (member k d ms) = suc (members_len ms)
@@ -31,7 +30,6 @@ IsMember d key (Flight f) =
     (text : List ℕ) × (get key d ≡ Some (string text)) × (flight_of text ≡ Some f)
 IsMember d key Absent = get key d ≡ None
 
--- the fields' keys have these values
 abbrev pub AreMembers : Data → List Field → List FieldValue → Type 0
 AreMembers d [] [] = ⊤
 AreMembers d [] (value ∷ values) = ⊥
@@ -39,15 +37,14 @@ AreMembers d (field ∷ fields) [] = ⊥
 AreMembers d (field ∷ fields) (value ∷ values) =
     IsMember d (name field) value × AreMembers d fields values
 
--- the body is an object with the keys of the verb's row and no other, and they hold the
--- command's fields
+-- the body is an object with exactly the keys of the verb's fields, with the command's values
 pub record IsBodyOf (verb : Verb) (d : Data) (command : Command) : Type 0 where
   pub in_range : IsCommand command
   pub verb_is : verb_of command ≡ verb
   pub members : AreMembers d (row verb) (values_of command)
   pub no_other : member_count d ≡ Some (count_by is_present (values_of command))
 
--- ---- the same, read one field after the other
+-- ---- the same, read one field after another
 
 abbrev pub text_member : Data → Option FieldValue
 text_member d = as_str d >>= λ text. Some (Text text)

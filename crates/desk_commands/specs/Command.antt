@@ -1,4 +1,4 @@
--- Commands: their verbs, their fields, the ranges of these, and their texts.
+-- Commands: their verbs, fields, ranges and texts.
 use Rattle.std.specs.Prelude.{◌≡◌, ◌<◌, ℕ, Option, Some, None, Result, String, List, [], ◌∷◌, map, string_bytes, IsTrue, IfSome, IfOk}
 use Rattle.std.specs.declared.alloc.Global.{Global}
 use Rattle.std.specs.List.{join_with_byte}
@@ -59,7 +59,7 @@ abbrev pub verb_of : Command → Verb
 verb_of (Stock order) = order_verb order
 verb_of (Cargo command) = desk_verb command
 
--- the first number of a run, and the fields of a flight of one day, which may be left out
+-- the first number of a run, and the fields of a flight on a day, which may be absent
 abbrev pub prefix_text : Run → FieldValue
 prefix_text run = Text (padded 3 (prefix_of run.first))
 
@@ -83,7 +83,7 @@ abbrev pub day_if_any : Option FlightDate → FieldValue
 day_if_any None = Absent
 day_if_any (Some f) = day f
 
--- what the fields hold, in the order of the verb's row
+-- the values of the fields, in the order of the verb's row
 abbrev pub order_values : Order → List FieldValue
 order_values (TakeIn run) = prefix_text run ∷ serial_text run ∷ Number run.count ∷ []
 order_values (Issue run agent) =
@@ -119,9 +119,9 @@ abbrev pub values_of : Command → List FieldValue
 values_of (Stock order) = order_values order
 values_of (Cargo command) = desk_values command
 
--- ---- the ranges of the fields
+-- ---- ranges of the fields
 
--- a run's first number, and a count as an order may state it
+-- a run's first number, and a count that an order may have
 abbrev pub IsRun : Run → Type 0
 IsRun run = IsNumber run.first × IsRunCount run.count
 
@@ -169,15 +169,13 @@ IsCommand (Cargo command) = IsDeskCommand command
 
 -- ---- texts
 
--- a function that writes a text wrote this one, unless it ran out of memory
+-- a function that writes this text, unless memory runs out
 abbrev pub Writes : {E : Type 0} → Result (String Global) E → List ℕ → Type 0
 Writes result text = IfOk result (λ made. string_bytes made ≡ text)
 
--- fields, one a line
 abbrev pub fields_text : List FieldValue → List ℕ
 fields_text values = join_with_byte 10 (map line_of values)
 
--- the verb and the fields, one a line
 abbrev pub text_of : Verb → List FieldValue → List ℕ
 text_of verb values = join_with_byte 10 (word verb ∷ map line_of values)
 
@@ -190,16 +188,16 @@ desk_text command = text_of (desk_verb command) (desk_values command)
 abbrev pub command_text : Command → List ℕ
 command_text command = text_of (verb_of command) (values_of command)
 
--- a function that writes an order's text, or that of a command on cargo, whose fields are in range
+-- a function that writes the text of an order or of a cargo command, whose fields are in range
 abbrev pub WritesOrder : {E : Type 0} → Result (String Global) E → Order → Type 0
 WritesOrder result order = Writes result (order_text order) × IsOrder order
 
 abbrev pub WritesDesk : {E : Type 0} → Result (String Global) E → DeskCommand → Type 0
 WritesDesk result command = Writes result (desk_text command) × IsDeskCommand command
 
--- ---- what the fields of a verb make
+-- ---- commands from fields
 
--- the command of a verb and of what its fields hold, in their order
+-- the command of a verb, from the values of its fields in order
 abbrev pub command_in : Verb → FieldValue → FieldValue → FieldValue → FieldValue → FieldValue
     → FieldValue → Option Command
 command_in verb.TakeIn prefix serial count _ _ _ = do
@@ -300,7 +298,6 @@ command_in verb.Confirm upto _ _ _ _ _ = do
   n ← number_in upto
   Some (Cargo (Confirm n))
 
--- the same of six values in a list
 abbrev pub command_of : Verb → List FieldValue → Option Command
 command_of verb (a ∷ b ∷ c ∷ d ∷ e ∷ f ∷ []) = command_in verb a b c d e f
 command_of verb _ = None

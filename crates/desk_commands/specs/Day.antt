@@ -1,4 +1,4 @@
--- Days as texts of commands have them: `2026-01-12`.
+-- Days in texts of commands: `2026-01-12`.
 use Rattle.std.specs.Prelude.{ℕ, Bool, ◌&&◌, ◌==◌, nat_le, List, length, take, drop, slice_range, Option}
 use Rattle.std.specs.List.{list_all}
 use Rattle.std.specs.Str.{bytes_eq}
@@ -38,7 +38,7 @@ named_day date text = day_in_year date (decimal_value (year_part text))
 abbrev pub if_written : ℕ → List ℕ → Option ℕ
 if_written day text = where_true (is_moment_day day && bytes_eq (day_line day) text) day
 
--- the day that its digits name, where that is a day of a moment and is written so
+-- the day of a text that is its written form, if a Moment can have it
 unfoldable pub day_of : List ℕ → Option ℕ
 day_of text = do
   date ← date_in text

@@ -1,4 +1,4 @@
--- What the fields of a command hold: how it is written, and what it says.
+-- Values of fields: their written form and their meaning.
 use Rattle.std.specs.Prelude.{ℕ, ◌&&◌, ◌==◌, nat_le, decimal, Bool, true, false, List, [], length, Option, Some, None}
 use Rattle.std.specs.List.{list_all}
 use Rattle.std.specs.Result.{result_ok}
@@ -18,7 +18,7 @@ use Rattle.desk_commands.specs.declared.field_value.FieldValue.TheVariants.{Text
 use Rattle.imp_fields.specs.Amount.{most_pieces, most_message_tenths}
 use Rattle.agent_stock.specs.Count.{largest_count}
 
--- numbers without leading zeros, flights in their written form, and nothing where there is none
+-- numbers without leading zeros, flights in their written form, and an empty text for absent values
 abbrev pub line_of : FieldValue → List ℕ
 line_of (Text text) = text
 line_of (Number n) = decimal n
@@ -31,7 +31,7 @@ is_present (Number n) = true
 is_present (Flight f) = true
 is_present Absent = false
 
--- ---- what one field says
+-- ---- the meaning of one field
 
 abbrev pub text_in : FieldValue → Option (List ℕ)
 text_in (Text text) = Some text
@@ -51,7 +51,7 @@ flight_in (Number n) = None
 flight_in (Flight f) = Some f
 flight_in Absent = None
 
--- so many digits
+-- exactly `width` digits
 abbrev pub digits_of : ℕ → List ℕ → Option ℕ
 digits_of width text =
     where_true ((length text == width) && list_all is_digit text) (decimal_value text)
@@ -59,7 +59,6 @@ digits_of width text =
 abbrev pub digits_in : ℕ → FieldValue → Option ℕ
 digits_in width value = text_in value >>= digits_of width
 
--- a waybill number
 abbrev pub awb_of : List ℕ → Option ℕ
 awb_of text = where_true (length text == 12) text >>= λ bytes. result_ok (number_of bytes)
 
@@ -96,7 +95,7 @@ counted_in value = number_in value >>= λ n. where_true (nat_le n most_pieces) n
 abbrev pub count_in : FieldValue → Option ℕ
 count_in value = number_in value >>= λ n. where_true (nat_le n largest_count) n
 
--- ---- what several say together
+-- ---- the meaning of several fields
 
 abbrev pub run_in : FieldValue → FieldValue → FieldValue → Option Run
 run_in prefix serial count = do
@@ -111,7 +110,7 @@ flight_date_in flight day = do
   d ← day_in day
   Some (record { flight = f; day = d })
 
--- both are absent, or none
+-- both are absent, or both present
 abbrev pub flight_if_any_in : FieldValue → FieldValue → Option (Option FlightDate)
 flight_if_any_in Absent Absent = Some None
 flight_if_any_in flight day = flight_date_in flight day >>= λ f. Some (Some f)

@@ -20,12 +20,11 @@ is_end b = b == 10
 abbrev pub lines_of : List ℕ → List (List ℕ)
 lines_of text = slice_split is_end text
 
--- the lines of a text that is left, or none
 abbrev pub lines_left : Option (List ℕ) → List (List ℕ)
 lines_left None = []
 lines_left (Some text) = lines_of text
 
--- one to ten digits without leading zeros, of a value below 2 to the 32nd
+-- one to ten digits without leading zeros, of a value below 2 ^ 32
 abbrev pub is_number : List ℕ → Bool
 is_number text =
     nat_le 1 (length text) && nat_le (length text) 10 && list_all is_digit text
@@ -35,7 +34,6 @@ is_number text =
 abbrev pub number_of : List ℕ → Option ℕ
 number_of text = where_true (is_number text) (decimal_value text)
 
--- a flight in its written form
 abbrev pub written_flight_of : List ℕ → Option Designator
 written_flight_of line = flight_of line >>= λ f. where_true (bytes_eq (flight_text f) line) f
 
@@ -53,7 +51,6 @@ abbrev pub text_value_if_any : List ℕ → Option FieldValue
 text_value_if_any [] = Some Absent
 text_value_if_any (b ∷ line) = Some (Text (b ∷ line))
 
--- what a line says
 abbrev pub line_says : Kind → List ℕ → Option FieldValue
 line_says kind.Text line = Some (Text line)
 line_says kind.Number line = number_value line
@@ -61,14 +58,14 @@ line_says kind.Flight line = flight_value line
 line_says kind.FlightIfAny line = flight_value_if_any line
 line_says kind.TextIfAny line = text_value_if_any line
 
--- what a place's field says, where it has a line exactly where it has a field
+-- the value of a place, if field and line are both present or both absent
 abbrev pub place_says : Option Field → Option (List ℕ) → Option FieldValue
 place_says None None = Some Absent
 place_says None (Some line) = None
 place_says (Some field) None = None
 place_says (Some field) (Some line) = line_says (kind_of field) line
 
--- what six places say, and the command of the verb in front of them
+-- the values of six places, and the command of the verb before them
 abbrev pub places_say : List (Option Field) → List (Option (List ℕ)) → Option (List FieldValue)
 places_say [] [] = Some []
 places_say [] (line ∷ lines) = None
@@ -78,20 +75,20 @@ places_say (field ∷ fields) (line ∷ lines) = do
   more ← places_say fields lines
   Some (value ∷ more)
 
--- the command of a verb's word and of what the lines behind it say
+-- the command of a verb's word and the lines after it
 abbrev pub lines_say : List ℕ → List (Option (List ℕ)) → Option Command
 lines_say word lines = do
   verb ← verb_called word
   values ← places_say (places verb) lines
   command_of verb values
 
--- so many places, of which the last may be empty
+-- `n` places, of which the last may be empty
 abbrev pub places_of : {A : Type 0} → ℕ → List A → List (Option A)
 places_of zero xs = []
 places_of (suc n) [] = None ∷ places_of n []
 places_of (suc n) (x ∷ xs) = Some x ∷ places_of n xs
 
--- the command of a verb's word and of at most six lines behind it
+-- the command of a verb's word and at most six lines
 abbrev pub lines_command : List (List ℕ) → Option Command
 lines_command [] = None
 lines_command (word ∷ lines) =
@@ -100,7 +97,7 @@ lines_command (word ∷ lines) =
 abbrev pub text_says : List ℕ → Option Command
 text_says text = lines_command (lines_of text)
 
--- a line is taken from what is left of a text
+-- a line is taken from the remaining text
 abbrev pub IsNext : Option (List ℕ) → Option (List ℕ) → Option (List ℕ) → Type 0
 IsNext left None after = (left ≡ None) × (after ≡ None)
 IsNext left (Some line) after = lines_left left ≡ line ∷ lines_left after

@@ -1,4 +1,4 @@
--- The verbs of commands: the word of each, and its fields, by their keys in a body.
+-- The verbs of commands: the word of each, and its fields with their keys in a body.
 use Rattle.std.specs.Prelude.{ℕ, Bool, List, [], ◌∷◌, codes, map, Option, slice_get}
 use Rattle.std.specs.List.{find}
 use Rattle.std.specs.Str.{bytes_eq}
@@ -31,7 +31,6 @@ word verb.Missing = codes "missing"
 word verb.Found = codes "found"
 word verb.Confirm = codes "confirm"
 
--- the fields, in their order
 abbrev pub row : Verb → List Field
 row verb.TakeIn = field.Prefix ∷ field.Serial ∷ field.Count ∷ []
 row verb.Issue = field.Prefix ∷ field.Serial ∷ field.Count ∷ field.Agent ∷ []
@@ -78,7 +77,6 @@ name field.Counted = codes "counted"
 name field.Airline = codes "airline"
 name field.Upto = codes "upto"
 
--- what a field is
 abbrev pub kind_of : Field → Kind
 kind_of field.Prefix = kind.Text
 kind_of field.Serial = kind.Text
@@ -114,6 +112,5 @@ verbs =
 abbrev pub is_word : List ℕ → Verb → Bool
 is_word text verb = bytes_eq (word verb) text
 
--- the verb whose word the text is
 abbrev pub verb_called : List ℕ → Option Verb
 verb_called text = find (is_word text) verbs

@@ -1,4 +1,4 @@
-//! Commands as bodies of JSON.
+//! Commands as JSON bodies.
 
 ghost use Rattle.std.specs.Prelude.{◌≡◌, Ok, IfOk, IfErr, count_by};
 ghost use Rattle.serde_json.specs.View.{view};
@@ -13,18 +13,14 @@ use crate::verb::{Field, Kind, Verb, places};
 use imp_fields::Flight;
 use serde_json::Value;
 
-/// A body of JSON that isn't one of the verb.
+/// A JSON body that isn't a command of the verb.
 #[derive(Clone, Copy, Debug, PartialEq, Eq)]
 pub struct BadBody;
 
-/// The command of a verb that a body of JSON says: an object with the keys of the verb's fields and
-/// no other, each with a value in its range. Numbers are whole and written so; a flight may have
-/// zeros in front of its number; a flight and a date may be absent together where a piece is
-/// missing or found.
-///
-/// # Errors
-///
-/// `BadBody` where it says no command of the verb.
+/// Reads the command of a verb from a JSON body: an object with exactly the keys of the verb's
+/// fields, each with a value in range. Numbers are whole and written without fraction or exponent.
+/// A flight number may have leading zeros. For missing and found pieces, flight and date may both
+/// be absent. Returns [`BadBody`] for any other body.
 pub fn read_command(verb: Verb, value: &Value) -> Result<Command, BadBody>
     ensures ok { IfOk result (λ command. IsBodyOf verb (view value.now) command) }
     ensures only { (command : AnyCommand) → IsBodyOf verb (view value.now) command
@@ -55,14 +51,13 @@ fn is_present(value: &FieldValue<'_>) -> bool
     !matches!(value, FieldValue::Absent)
 }
 
-/// How many fields there are.
 fn present_count(values: &[FieldValue<'_>; 6]) -> usize
     ensures { result ≡ count_by is_present values.now }
 {
     values.iter().filter(|value| is_present(value)).count()
 }
 
-/// What a member of a body says.
+/// Returns the value of a member, read by its kind.
 fn member(kind: Kind, value: &Value) -> Option<FieldValue<'_>>
     ensures { result ≡ member_says kind (view value.now) }
 {
@@ -82,7 +77,7 @@ fn member(kind: Kind, value: &Value) -> Option<FieldValue<'_>>
     }
 }
 
-/// What a place's field says, where it has one.
+/// Returns the value of a field, or [`FieldValue::Absent`] without a field or a member.
 fn field_value(field: Option<Field>, body: &Value) -> Option<FieldValue<'_>>
     ensures { result ≡ field_says field (view body.now) }
 {
@@ -95,7 +90,6 @@ fn field_value(field: Option<Field>, body: &Value) -> Option<FieldValue<'_>>
     }
 }
 
-/// What the places say.
 fn field_values(places: [Option<Field>; 6], body: &Value) -> Option<[FieldValue<'_>; 6]>
     ensures { result ≡ fields_say places (view body.now) }
 {

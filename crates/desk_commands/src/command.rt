@@ -1,5 +1,4 @@
-//! Commands as values and as texts: for each verb the command that its fields make, and the text of
-//! that command.
+//! Commands as values and as texts.
 
 ghost use Rattle.std.specs.Prelude.{◌≡◌, ◌∷◌, [], IfOk, IfSome, IsTrue, string_bytes};
 ghost use Rattle.awb_number.specs.Number.{IsNumber, number_text};
@@ -17,16 +16,16 @@ use imp_fields::{Airport, Goods, Name, Pieces, Tenths};
 use shipment_machine::{Airline, DeskCommand, FlightDate, PieceCount};
 use std::alloc::{AllocError, Global};
 
-/// What a caller asks of a station.
+/// A command that a caller sends to a station.
 #[derive(Clone, Copy, Debug, PartialEq, Eq)]
 pub enum Command {
     /// An order on a run of waybill numbers.
     Stock(Order),
-    /// What the desk does with cargo.
+    /// A command about cargo.
     Cargo(DeskCommand),
 }
 
-/// The command of a verb and of what its fields hold, in their order.
+/// Returns the command of a verb, from the values of its fields in order.
 pub(crate) fn command_of(verb: Verb, values: &[FieldValue<'_>; 6]) -> Option<Command>
     ensures { result ≡ command_of verb values.now }
 {
@@ -54,9 +53,9 @@ pub(crate) fn command_of(verb: Verb, values: &[FieldValue<'_>; 6]) -> Option<Com
     }
 }
 
-/// A command as a text: its verb and its fields, one a line, numbers without leading zeros, flights
-/// in their written form, days as `2026-01-12`, and empty lines for a flight and a day that aren't
-/// named. Every command is in range, as its types keep it.
+/// Returns a command as a text: its verb and its fields, one a line. Numbers have no leading zeros,
+/// flights are in their written form, days are like `2026-01-12`, and an absent flight and day are
+/// empty lines. The types keep every command in range.
 pub fn command_text(alloc: Global, command: &Command) -> Result<String, AllocError>
     ensures text { IfOk result (λ text. string_bytes text ≡ command_text command.now) }
     ensures in_range { IsCommand command.now }
@@ -67,7 +66,7 @@ pub fn command_text(alloc: Global, command: &Command) -> Result<String, AllocErr
     }
 }
 
-/// Commands with one text are one command: a key is known by its command's text alone.
+/// Commands with the same text are the same, so the text of a command identifies it.
 pub fn command_text_law()
     ensures { (c d : AnyCommand) → IsCommand c → IsCommand d → command_text c ≡ command_text d
         → c ≡ d }
@@ -156,7 +155,6 @@ fn desk_text(alloc: Global, command: &DeskCommand) -> Result<String, AllocError>
     }
 }
 
-/// A waybill number as its text has it.
 fn number_bytes(awb: &Awb) -> [u8; 12]
     ensures text { result ≡ number_text awb.now }
     ensures in_range { IsNumber awb.now }
@@ -185,7 +183,7 @@ fn goods_text(goods: &Goods) -> &str
     ascii_text(goods.as_bytes())
 }
 
-/// The first number of a run and how many there are, one a line.
+/// Returns the first number of a run and its count, one a line.
 fn run_lines(alloc: Global, run: &Run) -> Result<String, AllocError>
     ensures text { Writes result (fields_text
         (prefix_text run.now ∷ serial_text run.now ∷ FieldValue.Number run.now.count ∷ [])) }
@@ -198,7 +196,7 @@ fn run_lines(alloc: Global, run: &Run) -> Result<String, AllocError>
     format!(in alloc; "{prefix}\n{serial}\n{count}")
 }
 
-/// A flight in its written form and its day, one a line.
+/// Returns a flight in its written form and its day, one a line.
 fn flight_lines(alloc: Global, flight: &FlightDate) -> Result<String, AllocError>
     ensures text { Writes result (fields_text
         (flight_field flight.now ∷ day_field flight.now ∷ [])) }
@@ -211,7 +209,7 @@ fn flight_lines(alloc: Global, flight: &FlightDate) -> Result<String, AllocError
     format!(in alloc; "{designator}\n{}", flight.day)
 }
 
-/// The same, or two empty lines where no flight is named.
+/// Returns the same, or two empty lines without a flight.
 fn lines_if_any(alloc: Global, flight: &Option<FlightDate>) -> Result<String, AllocError>
     ensures text { Writes result (fields_text
         (flight_if_any_field flight.now ∷ day_if_any flight.now ∷ [])) }

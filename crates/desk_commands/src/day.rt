@@ -1,4 +1,4 @@
-//! Days of commands, as `2026-01-12`.
+//! Days of commands, such as `2026-01-12`.
 
 ghost use Rattle.std.specs.Prelude.{◌≡◌, ◌≤◌, option_map, IfSome};
 ghost use Rattle.std.specs.Str.{IsAscii};
@@ -9,7 +9,7 @@ ghost use Rattle.desk_commands.specs.Day.{is_calendar_day, day_line, date_in, ye
 use awb_number::decimal;
 use station_days::{DayMonth, LocalDay, day_in_year};
 
-/// A day as `2026-01-12`, as texts of commands and of refusals have it.
+/// Returns a day like `2026-01-12`, as in texts of commands and refusals.
 pub fn day_text(day: LocalDay) -> [u8; 10]
     ensures value { result ≡ day_line day }
     ensures ascii { IsAscii result }
@@ -17,7 +17,7 @@ pub fn day_text(day: LocalDay) -> [u8; 10]
     day.write()
 }
 
-/// The day and the month, two digits each.
+/// Returns the date of a day and a month, if both are in range.
 fn day_month(day: u32, month: u32) -> Option<DayMonth>
     ensures { result ≡ where_true (is_calendar_day (record { day = day; month = month }))
         (record { day = day; month = month }) }
@@ -32,7 +32,7 @@ fn day_month(day: u32, month: u32) -> Option<DayMonth>
     }
 }
 
-/// The date that ten bytes such as `2026-01-12` write, with its year.
+/// Returns date and year of ten bytes such as `2026-01-12`.
 fn read_date(text: &[u8]) -> Option<(DayMonth, u16)>
     ensures date { result ≡ option_map (λ date. (date, decimal_value (year_part text.now)))
         (date_in text.now) }
@@ -48,7 +48,7 @@ fn read_date(text: &[u8]) -> Option<(DayMonth, u16)>
     Some((date, year as u16))
 }
 
-/// The day of that number, where it is a day of a moment and is written so.
+/// Returns the day, if a `Moment` can have it and `text` is its written form.
 fn if_written(day: u32, text: &[u8]) -> Option<LocalDay>
     ensures { result ≡ if_written day text.now }
 {

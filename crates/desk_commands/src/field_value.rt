@@ -1,4 +1,4 @@
-//! What the fields of a command hold, before it is known of which command.
+//! Values of fields, before the command is known.
 
 ghost use Rattle.std.specs.Prelude.{◌≡◌, ◌≤◌, ◌<◌, ◌^◌, IfSome, option_map};
 ghost use Rattle.std.specs.Result.{result_ok};
@@ -13,17 +13,16 @@ use imp_fields::{Airport, Flight, Goods, Name, Pieces, Tenths};
 use shipment_machine::{Airline, FlightDate, PieceCount};
 use station_days::LocalDay;
 
-/// What a field holds.
 #[derive(Drop)]
 pub(crate) enum FieldValue<'a> {
     Text(Text<'a>),
     Number(u32),
     Flight(Flight),
-    /// There is no such field.
+    /// The field is absent.
     Absent,
 }
 
-/// The number that so many digits write.
+/// Reads a number of exactly `width` digits.
 fn digits(text: &[u8], width: usize) -> Option<u32>
     requires { width ≤ 9 }
     ensures value { result ≡ digits_of width text.now }
@@ -35,7 +34,6 @@ fn digits(text: &[u8], width: usize) -> Option<u32>
     decimal(text)
 }
 
-/// The waybill number that twelve bytes are.
 fn read_twelve(bytes: &[u8; 12]) -> Option<Awb>
     ensures { result ≡ result_ok (number_of bytes.now) }
 {
@@ -45,7 +43,7 @@ fn read_twelve(bytes: &[u8; 12]) -> Option<Awb>
     }
 }
 
-/// The waybill number that a text is.
+/// Returns the waybill number if the whole text is one.
 fn read_awb(text: &[u8]) -> Option<Awb>
     ensures { result ≡ awb_of text.now }
 {
@@ -71,7 +69,7 @@ impl FieldValue<'_> {
         digits(self.text()?, width)
     }
 
-    /// A number.
+    /// Returns the number.
     pub(crate) fn number(&self) -> Option<u32>
         ensures { result ≡ number_in self.now }
     {
@@ -81,7 +79,7 @@ impl FieldValue<'_> {
         }
     }
 
-    /// A flight, without its day.
+    /// Returns the flight, without its day.
     fn flight(&self) -> Option<Flight>
         ensures { result ≡ flight_in self.now }
     {
@@ -103,7 +101,6 @@ impl FieldValue<'_> {
         RunCount::new(self.number()?)
     }
 
-    /// A waybill number.
     pub(crate) fn awb(&self) -> Option<Awb>
         ensures { result ≡ awb_in self.now }
     {
@@ -159,7 +156,7 @@ impl FieldValue<'_> {
     }
 }
 
-/// The run of a prefix of three digits, a serial of seven, and a count.
+/// Returns the run of a three-digit prefix, a seven-digit serial and a count.
 pub(crate) fn run(
     prefix: &FieldValue<'_>,
     serial: &FieldValue<'_>,
@@ -174,7 +171,6 @@ pub(crate) fn run(
     Some(Run { first, count })
 }
 
-/// A flight on a day.
 pub(crate) fn flight_date(flight: &FieldValue<'_>, day: &FieldValue<'_>) -> Option<FlightDate>
     ensures { result ≡ flight_date_in flight.now day.now }
 {
@@ -183,7 +179,7 @@ pub(crate) fn flight_date(flight: &FieldValue<'_>, day: &FieldValue<'_>) -> Opti
     Some(FlightDate { flight, day })
 }
 
-/// A flight on a day, or neither.
+/// Returns the flight on its day, or `Some(None)` if both are absent.
 pub(crate) fn flight_if_any(
     flight: &FieldValue<'_>,
     day: &FieldValue<'_>,

@@ -1,4 +1,4 @@
-//! What a desk is asked: its commands, as values, as texts and as bodies of JSON.
+//! The commands of a desk, as values, texts and JSON bodies.
 #![tactic(auto)]
 
 mod body;

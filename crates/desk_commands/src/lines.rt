@@ -1,4 +1,4 @@
-//! The lines of a text, one field each.
+//! The lines of a text, one for each field.
 
 ghost use Rattle.std.specs.Prelude.{◌≡◌, ◌≤◌, ◌∷◌, [], length};
 ghost use Rattle.std.specs.List.{position_or_len};
@@ -10,7 +10,7 @@ use crate::verb::{Field, Kind};
 use awb_number::decimal;
 use imp_fields::Flight;
 
-/// How many bytes stand before the first end of a line, or in all where there is none.
+/// Returns the number of bytes before the first newline, or of all bytes without one.
 fn before_end(text: &[u8]) -> usize
     ensures place { result ≡ position_or_len is_end text.now }
     ensures bound { result ≤ length text.now }
@@ -18,7 +18,7 @@ fn before_end(text: &[u8]) -> usize
     text.iter().take_while(|b| **b != b'\n').count()
 }
 
-/// The first line of a text, and what is left behind it.
+/// Returns the first line of a text, and the text after it.
 #[tactic(auto, using(crate::proofs::Cuts::cut_at, crate::proofs::Cuts::uncut))]
 pub(crate) fn first_line<'a>(text: &'a [u8]) -> (Text<'a>, Option<Text<'a>>)
     ensures { lines_of text.now ≡ result.0 ∷ lines_left result.1 }
@@ -31,7 +31,7 @@ pub(crate) fn first_line<'a>(text: &'a [u8]) -> (Text<'a>, Option<Text<'a>>)
     (Text::new(&text[..place]), Some(Text::new(rest)))
 }
 
-/// The first line of what is left of a text, and what is left behind it.
+/// Returns the first line of the remaining text, and the text after it.
 pub(crate) fn next_line<'a>(left: Option<Text<'a>>) -> (Option<Text<'a>>, Option<Text<'a>>)
     ensures { IsNext left.entry result.0 result.1 }
 {
@@ -44,7 +44,7 @@ pub(crate) fn next_line<'a>(left: Option<Text<'a>>) -> (Option<Text<'a>>, Option
     }
 }
 
-/// The number that one to ten digits without leading zeros write.
+/// Reads one to ten digits without leading zeros.
 fn read_number(text: &[u8]) -> Option<u32>
     ensures { result ≡ number_of text.now }
 {
@@ -56,7 +56,7 @@ fn read_number(text: &[u8]) -> Option<u32>
     u32::try_from(u64::from(front) * 10 + u64::from(last)).ok()
 }
 
-/// The flight that a line is, in its written form.
+/// Returns the flight if the line is its written form.
 fn written_flight(line: &[u8]) -> Option<Flight>
     ensures { result ≡ written_flight_of line.now }
 {
@@ -88,7 +88,8 @@ fn line_value<'a>(kind: Kind, line: &'a [u8]) -> Option<FieldValue<'a>>
     }
 }
 
-/// What a place's field says. It has a line exactly where it has a field.
+/// Returns the value of a place. It is `None` unless field and line are both present or both
+/// absent.
 fn place<'a>(field: Option<Field>, line: Option<Text<'a>>) -> Option<FieldValue<'a>>
     ensures { result ≡ place_says field line.entry }
 {
@@ -99,7 +100,6 @@ fn place<'a>(field: Option<Field>, line: Option<Text<'a>>) -> Option<FieldValue<
     }
 }
 
-/// What the places say.
 pub(crate) fn field_values<'a>(
     places: [Option<Field>; 6],
     line_0: Option<Text<'a>>,

@@ -1,4 +1,4 @@
-//! The command of a text.
+//! Reading of command texts.
 
 ghost use Rattle.std.specs.Prelude.{◌≡◌, ◌∷◌, [], IfSome, Some};
 ghost use Rattle.desk_commands.specs.Command.{command_text, IsCommand};
@@ -10,9 +10,9 @@ use crate::lines::{field_values, first_line, next_line};
 use crate::text::Text;
 use crate::verb::{Verb, places};
 
-/// The command whose text this is, if it is one. It takes no memory.
+/// Returns the command whose text this is. It allocates nothing.
 pub fn read_command_text(text: &[u8]) -> Option<Command>
-    // What is read is a command with this text, and a command's text is read as that command.
+    // The result is a command with this text, and the text of any command is read as that command.
     ensures some { IfSome result (λ command. IsCommand command
         × (command_text command ≡ text.now)) }
     ensures only { (command : AnyCommand) → IsCommand command → command_text command ≡ text.now
@@ -21,7 +21,6 @@ pub fn read_command_text(text: &[u8]) -> Option<Command>
     read_text(text)
 }
 
-/// The same, line by line.
 fn read_text(text: &[u8]) -> Option<Command>
     ensures { result ≡ text_says text.now }
 {
@@ -38,7 +37,7 @@ fn read_text(text: &[u8]) -> Option<Command>
     }
 }
 
-/// The command of a verb's word and of the lines behind it.
+/// Reads a verb's word and the lines after it.
 fn read_lines<'a>(
     word: Text<'a>,
     line_0: Option<Text<'a>>,

@@ -2,7 +2,7 @@ ghost use Rattle.std.specs.Prelude.{◌≡◌};
 
 use std::marker::Model;
 
-/// Bytes of a text that someone else keeps.
+/// A borrowed text.
 #[derive(Drop)]
 pub(crate) struct Text<'a> {
     bytes: &'a [u8],
@@ -17,14 +17,13 @@ impl<'a> Model for Text<'a> {
 }
 
 impl<'a> Text<'a> {
-    /// The text of these bytes, as borrowed.
+    /// Wraps borrowed bytes.
     pub(crate) fn new(bytes: &'a [u8]) -> Text<'a>
         ensures { result ≡ bytes.now }
     {
         Text { bytes }
     }
 
-    /// The bytes of the text.
     pub(crate) fn as_bytes(&self) -> &'a [u8]
         ensures { result.now ≡ self.now }
     {

@@ -1,4 +1,4 @@
-//! The verbs of commands: the word of each, and its fields, by their keys in a body.
+//! The verbs of commands: the word of each, and its fields with their keys in a body.
 
 ghost use Rattle.std.specs.Prelude.{◌≡◌, IfSome, option_map};
 ghost use Rattle.std.specs.List.{find};
@@ -35,7 +35,7 @@ pub enum Verb {
     Confirm,
 }
 
-/// Each verb, in the order in which a desk names them.
+/// All verbs, in the order in which a desk names them.
 pub const VERBS: [Verb; 20] = [
     Verb::TakeIn,
     Verb::Issue,
@@ -60,7 +60,7 @@ pub const VERBS: [Verb; 20] = [
 ];
 
 impl Verb {
-    /// The verb that the text is, if it is one.
+    /// Returns the verb if the whole text is its word.
     pub fn read(text: &[u8]) -> Option<Verb>
         ensures some { IfSome result (λ verb. word verb ≡ text.now) }
         ensures only { (verb : Verb) → word verb ≡ text.now → result ≡ Some verb }
@@ -96,8 +96,8 @@ impl Verb {
         }
     }
 
-    /// For people: what the verb does, the fields of its body, a body, and its refusals in the
-    /// order in which they are tested.
+    /// Returns the help on a verb: what it does, the fields of its body, an example, and its
+    /// refusals in the order tested.
     pub fn about(self) -> &'static str {
         match self {
             Verb::TakeIn => TAKE_IN,
@@ -123,7 +123,7 @@ impl Verb {
         }
     }
 
-    /// The fields, in their order.
+    /// The fields, in order.
     pub fn fields(self) -> &'static [Field]
         ensures { result.now ≡ row self }
     {
@@ -157,14 +157,12 @@ impl Verb {
     }
 }
 
-/// The first of these verbs whose word the text is.
 fn word_among<'a>(verbs: &'a [Verb], text: &[u8]) -> Option<&'a Verb>
     ensures { option_map (λ verb. verb.now) result ≡ find (is_word text.now) verbs.now }
 {
     verbs.iter().find(|verb| is_word(**verb, text))
 }
 
-/// Whether a text is the verb's word.
 fn is_word(verb: Verb, text: &[u8]) -> bool
     ensures { result ≡ is_word text.now verb }
 {
@@ -187,9 +185,9 @@ pub enum Field {
     Name,
     Flight,
     Date,
-    /// A flight that may be left out, with its date.
+    /// A flight that may be absent, together with its date.
     FlightIfAny,
-    /// The date of such a flight.
+    /// The date of a flight that may be absent.
     DateIfAny,
     Unload,
     Counted,
@@ -197,7 +195,7 @@ pub enum Field {
     Upto,
 }
 
-/// What a field is in a body and in a text.
+/// The kind of a field's value.
 #[derive(Clone, Copy, Debug, PartialEq, Eq)]
 pub(crate) enum Kind {
     Text,
@@ -258,7 +256,6 @@ impl Field {
     }
 }
 
-/// The fields of a verb as six places, of which the last may be empty.
 pub(crate) fn places(verb: Verb) -> [Option<Field>; 6]
     ensures { result ≡ places verb }
 {

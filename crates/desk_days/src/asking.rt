@@ -1,5 +1,4 @@
-//! What a keeper is asked for as bytes: reports, what of the messages goes out to a writer that
-//! fails, and answers over HTTP.
+//! Bytes from a keeper: reports, messages written to a writer that fails, and answers over HTTP.
 use http_desk::serve_one;
 use reports::{Report, ReportCause, write_report};
 use station_core::{ActFault, Counted, Keeper};
@@ -7,7 +6,7 @@ use station_days::Moment;
 use std::alloc::Global;
 use test_kit::Narrow;
 
-/// The text of a report. Its writer is memory.
+/// Returns the text of a report.
 pub fn report_text<K: Keeper>(
     alloc: Global,
     keeper: &mut K,
@@ -23,8 +22,8 @@ pub fn report_text<K: Keeper>(
     }
 }
 
-/// What of the pending report goes out to a writer that takes so many bytes and then fails, and
-/// how many bytes the fault tells.
+/// Returns the bytes of the pending report that are written to a writer that fails after `room`
+/// bytes, and the number of bytes in the fault.
 pub fn cut_pending<K: Keeper>(
     alloc: Global,
     keeper: &mut K,
@@ -38,7 +37,7 @@ pub fn cut_pending<K: Keeper>(
     (writer.into_inner().into_taken(), sent)
 }
 
-/// The answer to a request over HTTP, unless it ends early. Its writer is memory.
+/// Returns the answer to an HTTP request, unless serving ends early.
 pub fn served<K: Keeper>(
     alloc: Global,
     keeper: &mut K,

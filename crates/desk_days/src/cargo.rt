@@ -1,5 +1,5 @@
-//! Cases about a waybill whose pieces left in part: sinks that take no more, and inputs that come
-//! as one list. Each case is played on the plain station and on one over tables.
+//! Cases about a waybill of which some pieces left: sinks that stop, and inputs as one list. Each
+//! case is played on the plain station and on one over tables.
 use crate::desk::{Desk, Kind};
 use crate::waybill::{all_done, at, booking, day, receipt};
 use imp_fields::Airport;
@@ -8,7 +8,7 @@ use station_days::Moment;
 use std::alloc::Global;
 use test_kit::{Answers, Job, Taken, answers_said, count_said, keyed, shown};
 
-/// The answers to inputs that come as one list. Nothing where the station fails.
+/// Returns the answers to inputs as one list, or `None` if the station fails.
 fn list_told<K: Keeper>(
     alloc: Global,
     station: &mut K,
@@ -21,8 +21,8 @@ fn list_told<K: Keeper>(
     }
 }
 
-/// The answers to a booking, a receipt, the receipt again, and another command under its key,
-/// which come as one list.
+/// Returns the answers to a booking, a receipt, the receipt again, and another command under its
+/// key, as one list.
 fn at_once<K: Keeper>(alloc: Global, station: &mut K) -> Option<String> {
     let inputs = [
         (booking()?, at(10, 0)?),
@@ -33,21 +33,21 @@ fn at_once<K: Keeper>(alloc: Global, station: &mut K) -> Option<String> {
     list_told(alloc, station, &inputs)
 }
 
-/// How many moves a sink is handed that takes so many at most.
+/// Returns the number of moves that a sink of this size takes.
 fn book_rows<K: Keeper>(alloc: Global, station: &mut K, most: usize) -> Option<String> {
     let mut sink: Taken<BookRow> = Taken::new(alloc, most);
     let is_given = station.book(&mut sink).is_ok();
     count_said(alloc, is_given, sink.rows.len())
 }
 
-/// The same of messages.
+/// Returns the same for messages.
 fn pending_rows<K: Keeper>(alloc: Global, station: &mut K, most: usize) -> Option<String> {
     let mut sink: Taken<Message> = Taken::new(alloc, most);
     let is_given = station.pending(&mut sink).is_ok();
     count_said(alloc, is_given, sink.rows.len())
 }
 
-/// What a case asks of a new station.
+/// A case for a new station.
 #[derive(Clone, Copy)]
 struct CargoCase<'a> {
     alloc: Global,
@@ -83,13 +83,13 @@ impl Job for CargoCase<'_> {
     }
 }
 
-/// What comes of a case on a new station at FRA.
+/// Runs one case on a new station at FRA.
 fn told(alloc: Global, kind: Kind, case: CargoCase<'_>) -> Option<String> {
     let mut desk = Desk::new(alloc, kind, Airport::read(b"FRA")?).ok()?;
     desk.ask(case)
 }
 
-/// What answers the cases.
+/// The answers to the cases.
 #[derive(Drop)]
 pub struct CargoAnswers {
     pub alloc: Global,

@@ -1,9 +1,8 @@
-//! What was printed, beside what a script says.
+//! Comparing the output with a script.
 use crate::day::Step;
 use crate::desk::Kind;
 use std::alloc::{AllocError, Global};
 
-/// A line without the CR at its end.
 fn without_cr(line: &[u8]) -> &[u8] {
     match line.split_last() {
         Some((b'\r', rest)) => rest,
@@ -11,7 +10,7 @@ fn without_cr(line: &[u8]) -> &[u8] {
     }
 }
 
-/// The next line of a text that isn't at its end, and what follows it.
+/// Returns the next line of a text and the text after it, or `None` at its end.
 fn next_line(text: &[u8]) -> Option<(&[u8], &[u8])> {
     if text.is_empty() {
         return None;
@@ -25,7 +24,7 @@ fn next_line(text: &[u8]) -> Option<(&[u8], &[u8])> {
     }
 }
 
-/// Where a line differs.
+/// The place of a difference.
 #[derive(Clone, Copy)]
 struct Place<'a> {
     name: &'a str,
@@ -33,12 +32,11 @@ struct Place<'a> {
     kind: Kind,
 }
 
-/// Bytes as a text.
 fn shown(bytes: &[u8]) -> &str {
     std::str::from_utf8(bytes).unwrap_or("bytes that are no text")
 }
 
-/// Writes a difference down.
+/// Records a difference.
 fn note(
     alloc: Global,
     log: &mut String,
@@ -53,7 +51,7 @@ fn note(
     log.push_str(text.as_str())
 }
 
-/// How many lines differ at a statement. Each is written down.
+/// Returns the number of lines that differ at a statement, and records each.
 pub fn compare(
     alloc: Global,
     name: &str,

@@ -1,4 +1,4 @@
-//! What a script asks of a station, and what it says will be printed.
+//! The statements of a script, and their expected output.
 use awb_number::Awb;
 use desk_commands::Verb;
 use imp_fields::Airport;
@@ -8,12 +8,12 @@ use station_days::Moment;
 use station_tables::AttachFault;
 use std::alloc::AllocError;
 
-/// Why a day can't be played.
+/// The reason why a day can't be played.
 #[derive(Clone, Copy, Debug, PartialEq, Eq)]
 pub enum DayFault {
-    /// A line of the script, counted from 1, is no line of one.
+    /// A line of the script, counted from 1, is malformed.
     Bad { line: u32, why: &'static str },
-    /// The tables that the statement of this line finds aren't a station's.
+    /// The tables at the statement on this line aren't a station's.
     Unopened { line: u32, fault: AttachFault },
     Memory,
 }
@@ -24,18 +24,18 @@ impl From<AllocError> for DayFault {
     }
 }
 
-/// How the lines of a telegram become bytes.
+/// The encoding of a telegram's lines.
 #[derive(Clone, Copy, Debug, PartialEq, Eq)]
 pub enum Form {
     /// Each ends in CR and LF.
     CrLf,
     /// Each ends in LF.
     Lf,
-    /// They are digits of bytes, two a byte.
+    /// They are hexadecimal digits, two for each byte.
     Hex,
 }
 
-/// What a statement asks.
+/// A statement.
 #[derive(Clone, Copy, Debug, PartialEq, Eq)]
 pub enum Ask {
     /// A new station.
@@ -48,13 +48,13 @@ pub enum Ask {
     Waybill(Awb),
     Holder(Awb),
     Report(Report),
-    /// The messages, to a writer that takes so many bytes and then fails.
+    /// Write the messages to a writer that fails after this many bytes.
     CutOutbox(usize),
     /// A request over HTTP.
     Request,
 }
 
-/// A line that stands so many times.
+/// A repeated line.
 #[derive(Clone, Copy)]
 pub struct Repeated<'a> {
     /// The line of the script.
@@ -63,7 +63,7 @@ pub struct Repeated<'a> {
     pub text: &'a str,
 }
 
-/// A line that must be printed.
+/// An expected line of output.
 #[derive(Clone, Copy)]
 pub struct Wanted<'a> {
     /// The line of the script.
@@ -87,13 +87,13 @@ pub struct Step<'a> {
 /// A day.
 #[derive(Drop)]
 pub struct Day<'a> {
-    /// Where its first station is.
+    /// The airport of its first station.
     pub here: Airport,
     pub steps: Vec<Step<'a>>,
 }
 
 impl Day<'_> {
-    /// How many lines must be printed.
+    /// Returns the number of expected lines.
     pub fn told(&self) -> u64 {
         let mut told: u64 = 0;
         for step in &self.steps {

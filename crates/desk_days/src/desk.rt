@@ -1,4 +1,4 @@
-//! The keepers of a station's state on which a day is played.
+//! The keepers on which a day is played.
 use imp_fields::Airport;
 use map_state::MapState;
 use plain_station::PlainStation;
@@ -18,13 +18,13 @@ pub enum Kind {
     Maps,
     /// The tables of a store in memory.
     Tables,
-    /// The same, where the station is given back and its tables are opened again in the midst of
-    /// the day.
+    /// The same, but the station is released and its tables are opened again in the middle of the
+    /// day.
     Reopened,
 }
 
 impl Kind {
-    /// What it is called where a line differs.
+    /// Returns the name that is printed with a difference.
     pub fn name(self) -> &'static str {
         match self {
             Kind::Plain => "the plain station",
@@ -43,7 +43,6 @@ pub enum Desk {
     Tables(Station<MemStore>),
 }
 
-/// A new station over tables in memory.
 fn tables(alloc: Global, here: Airport) -> Result<Desk, AttachFault> {
     let Ok(conn) = open_memory(alloc) else {
         return Err(AttachFault::Memory);
@@ -55,7 +54,7 @@ fn tables(alloc: Global, here: Airport) -> Result<Desk, AttachFault> {
 }
 
 impl Desk {
-    /// A new station. Where memory is out before there are tables, the fault is `Memory`.
+    /// Returns a new station. If memory runs out before there are tables, the fault is `Memory`.
     pub fn new(alloc: Global, kind: Kind, here: Airport) -> Result<Desk, AttachFault> {
         match kind {
             Kind::Plain => Ok(Desk::Plain(PlainStation::new(alloc, here))),
@@ -67,7 +66,7 @@ impl Desk {
         }
     }
 
-    /// The station over its tables as they are found, where it is over tables.
+    /// Opens the tables again, if the station is over tables.
     pub fn opened_again(self, alloc: Global) -> Result<Desk, AttachFault> {
         match self {
             Desk::Plain(station) => Ok(Desk::Plain(station)),
@@ -79,8 +78,8 @@ impl Desk {
         }
     }
 
-    /// Asks the keeper. Nothing else hands the station over tables on: each function that does
-    /// costs the check as much as twenty others.
+    /// Runs a job on the keeper. No other function hands out the station over tables: each that
+    /// does costs the check as much as twenty others.
     pub fn ask<J: Job>(&mut self, job: J) -> J::Out {
         match self {
             Desk::Plain(station) => job.run(station),

@@ -1,4 +1,4 @@
-//! First steps with the libraries: a station in memory is given telegrams.
+//! First steps with the libraries: a station in memory takes telegrams.
 use imp_fields::Airport;
 use plain_station::PlainStation;
 use station_core::{ActFault, Input, Keeper};
@@ -13,7 +13,7 @@ const WAYBILL: &[u8] = b"FWB/16\r\n020-12345675FRAJFK/T10K100\r\n";
 /// A line that ends too early.
 const DAMAGED: &[u8] = b"FWB/16\r\n020-12345675FRAJFK/T10\r\n";
 
-/// Gives a telegram to a station at a moment. What comes of it, in words.
+/// Passes a telegram to a station at a moment, and returns the outcome in words.
 fn take(alloc: Global, station: &mut PlainStation, text: &[u8], at: Moment) -> &'static str {
     let Ok(telegram) = read_telegram(alloc, text) else {
         return "it can't be read";
@@ -25,12 +25,8 @@ fn take(alloc: Global, station: &mut PlainStation, text: &[u8], at: Moment) -> &
     }
 }
 
-/// Gives a station a waybill's data, the same telegram once more and a damaged one, and prints what
-/// comes of each. Whether a station could be made.
-///
-/// # Errors
-///
-/// Where nothing can be printed.
+/// Passes a station a waybill's data, the same telegram again and a damaged one, and prints the
+/// outcomes. Returns whether the station could be made. It fails if printing fails.
 pub fn run(rt: &HostRuntime) -> io::Result<bool> {
     let (Some(here), Some(noon)) = (Airport::read(b"FRA"), Moment::new(20_465, 720)) else {
         return Ok(false);

@@ -1,40 +1,39 @@
-//! Days at a cargo station, as scripts. Each one is played on every keeper of a station's state,
-//! and each line that the station prints is compared with the line that the script says.
+//! Days at a cargo station, as scripts. Each script is played on every keeper of a station's state,
+//! and each line of output is compared with the one in the script.
 //!
 //! A script is plain text. Its statements, one a line:
 //!
-//! - `station FRA`: a new station with nothing in it;
+//! - `station FRA`: a new, empty station;
 //! - `at 2026-01-12 10:30`: the moment of all that follows;
 //! - `act VERB KEY BODY`: a command, its body one line of JSON;
 //! - `take`, `take lf`, `take hex`: a telegram, from the `|` lines below;
-//! - `beginnings`: each beginning of the bytes of the `|` lines, from none to all, as a telegram.
-//!   It prints a line for each run of equal answers;
+//! - `beginnings`: each prefix of the bytes of the `|` lines, from empty to all, as a telegram. It
+//!   prints a line for each run of equal answers;
 //! - `stock`: the `|` lines below as rows of a stock list: key, verb, prefix, serial, count and
 //!   agent;
-//! - `waybill NUMBER`, `holder NUMBER`: what is known of a waybill, and who has a number, as
-//!   objects of JSON, or `none`;
+//! - `waybill NUMBER`, `holder NUMBER`: the record of a waybill, and the holder of a number, as
+//!   JSON objects, or `none`;
 //! - `outbox`, `report NAME`: a report;
-//! - `outbox 20`: what of the messages goes out to a writer that takes so many bytes and then
-//!   fails, and how many bytes the fault tells;
-//! - `request`: a request over HTTP, from the `|` lines below, each ended by CR and LF. What
-//!   stands behind its body isn't read.
+//! - `outbox 20`: the messages as written to a writer that fails after this many bytes, and the
+//!   number of bytes in the fault;
+//! - `request`: an HTTP request, from the `|` lines below, each ended by CR LF. Anything after its
+//!   body isn't read.
 //!
-//! A line `| TEXT` belongs to the statement above it. `take` sends such lines ended by CR and LF,
-//! `take lf` and `beginnings` by LF, and `take hex` sends the bytes that their digits write. `|998
-//! TEXT` stands for 998 such lines. A line `= TEXT` is what must be printed, one for each line,
-//! where a CR at the end of a printed line doesn't count. Empty lines and those that begin with
-//! `#` are for the reader.
+//! A line `| TEXT` belongs to the statement above it. `take` sends such lines ended by CR LF, `take
+//! lf` and `beginnings` by LF, and `take hex` sends the bytes of their digits. `|998 TEXT` means
+//! 998 such lines. A line `= TEXT` is an expected line of output; a CR at the end of a printed line
+//! doesn't count. Empty lines and those that begin with `#` are ignored.
 //!
 //! One of the keepers has its tables opened again before each statement, and in a long day before
 //! each tenth.
 //!
-//! `run_by_rule` gives each keeper two hundred inputs by a fixed rule, one by one and as one list:
-//! their answers, and all that their readers hand out, have to be equal. Or it does so with two
-//! thousand orders on the stock.
+//! `run_by_rule` passes each keeper two hundred inputs by a fixed rule, or two thousand orders on
+//! the stock, one by one and as one list: their answers, and all rows of their readers, must be
+//! equal.
 //!
-//! `run_cases` goes through a file of cases about sinks that take no more and inputs that come as
-//! one list. `run_memory` goes through what wants memory alone: run it with each allocation failing
-//! in turn. `run_first_steps` has the first lines that a reader of the libraries writes.
+//! `run_cases` runs a file of cases about sinks that stop and inputs as one list. `run_memory` runs
+//! what may exhaust memory: run it with each allocation failing in turn. `run_first_steps` has the
+//! first lines that a user of the libraries writes.
 #![tactic(auto)]
 
 mod asking;
@@ -86,7 +85,7 @@ pub const FILES: &[&str] = &[
     "manifests",
 ];
 
-/// What is printed of a day that was played: its differences, or that there is none.
+/// Returns the output of a played day: its differences, or that there are none.
 fn verdict(
     alloc: Global,
     name: &str,
@@ -103,7 +102,6 @@ fn verdict(
     format!(in alloc; "{name}: {told} lines as told, opened again {openings} times\n")
 }
 
-/// Plays a day on each keeper.
 fn play_on_all(alloc: Global, name: &str, day: &Day<'_>) -> Result<Played, DayFault> {
     let mut played = Played::new(alloc);
     play::play(alloc, name, day, Kind::Plain, &mut played)?;
@@ -113,7 +111,7 @@ fn play_on_all(alloc: Global, name: &str, day: &Day<'_>) -> Result<Played, DayFa
     Ok(played)
 }
 
-/// Why a day wasn't played.
+/// Returns the output of a day that couldn't be played.
 fn fault_text(alloc: Global, name: &str, fault: &DayFault) -> Result<String, AllocError> {
     match fault {
         DayFault::Bad { line, why } => format!(in alloc; "{name}:{line}: {why}\n"),
@@ -124,7 +122,7 @@ fn fault_text(alloc: Global, name: &str, fault: &DayFault) -> Result<String, All
     }
 }
 
-/// Reads and plays a script: whether it went as it says, and what is printed of it.
+/// Reads and plays a script. Returns whether it went as expected, and the output.
 fn play_script(alloc: Global, name: &str, script: &str) -> Result<(bool, String), AllocError> {
     let day = match reading::read_day(alloc, script) {
         Ok(day) => day,
@@ -139,12 +137,9 @@ fn play_script(alloc: Global, name: &str, script: &str) -> Result<(bool, String)
     }
 }
 
-/// Plays a script on each keeper, and prints each line that differs, or how many went as the script
-/// says. Whether all did. A script that can't be read didn't.
-///
-/// # Errors
-///
-/// Where nothing can be printed, or memory is out.
+/// Plays a script on each keeper, and prints each line that differs, or how many were as expected.
+/// Returns whether all were. A script that can't be read wasn't. It fails if printing fails or
+/// memory runs out.
 pub fn run_file(rt: &HostRuntime, file: &str) -> Result<bool, io::Error> {
     let name = format!(in rt.alloc(); "{file}.day")?;
     let path = format!(in rt.alloc(); "days/{name}")?;
@@ -157,7 +152,6 @@ pub fn run_file(rt: &HostRuntime, file: &str) -> Result<bool, io::Error> {
     Ok(is_told)
 }
 
-/// What is printed of inputs by a rule.
 fn rule_told(given: Inputs, are_equal: Option<bool>) -> &'static str {
     match (are_equal, given) {
         (Some(true), Inputs::Mixed) => "200 inputs with equal answers and rows",
@@ -167,31 +161,23 @@ fn rule_told(given: Inputs, are_equal: Option<bool>) -> &'static str {
     }
 }
 
-/// Gives each keeper inputs by a rule, and prints what came of them. Whether all their answers and
-/// rows are equal.
-///
-/// # Errors
-///
-/// Where nothing can be printed, or memory is out.
+/// Passes each keeper inputs by a rule, and prints the outcome. Returns whether all their answers
+/// and rows are equal. It fails if printing fails or memory runs out.
 pub fn run_by_rule(rt: &HostRuntime, given: Inputs) -> Result<bool, io::Error> {
     let are_equal = rule::are_equal(rt.alloc(), given);
     println!(rt; "{}: {}", given.name(), rule_told(given, are_equal))?;
     Ok(are_equal == Some(true))
 }
 
-/// Goes through a file of cases of a folder, and prints those that came out otherwise, or how many
-/// there were. Whether all came out as they must.
-///
-/// # Errors
-///
-/// Where nothing can be printed, or memory is out.
+/// Runs the cases of a file in a folder, and prints the failed ones, or the number of cases.
+/// Returns whether all passed. It fails if printing fails or memory runs out.
 pub fn run_cases(rt: &HostRuntime, folder: &str, file: &str) -> Result<bool, io::Error> {
     let mut answers = CargoAnswers { alloc: rt.alloc() };
     go_through_file(rt, folder, file, &mut answers)
 }
 
-/// Reads a trail of two rows, whose first may be handed out before memory is refused, and prints
-/// what came of it. Whether it came out as it must.
+/// Reads a trail of two rows, of which the first may be handed out before memory runs out, and
+/// prints the outcome. Returns whether it is as expected.
 fn run_trail(rt: &HostRuntime) -> Result<bool, io::Error> {
     let Some(told) = memory::trail_at_last(rt.alloc()) else {
         return Ok(false);
@@ -200,12 +186,8 @@ fn run_trail(rt: &HostRuntime) -> Result<bool, io::Error> {
     Ok(told.starts_with("told"))
 }
 
-/// Gives stations what needs memory, and prints what came of each. Whether all came out as they
-/// must.
-///
-/// # Errors
-///
-/// Where nothing can be printed, or memory is out.
+/// Passes stations inputs that may exhaust memory, and prints the outcomes. Returns whether all are
+/// as expected. It fails if printing fails or memory runs out.
 pub fn run_memory(rt: &HostRuntime) -> Result<bool, io::Error> {
     let alloc = rt.alloc();
     let mut all = print_told(rt, "cargo in memory", memory::is_told_of_cargo(alloc))?;

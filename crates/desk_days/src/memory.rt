@@ -1,6 +1,6 @@
-//! Stations for which memory is refused: that is reported, changes nothing, and the input acts when
-//! it comes again. A station over tables may have to be opened again where memory was refused once
-//! its store had been asked.
+//! Stations for which memory runs out: that is reported, changes nothing, and the input acts when
+//! it is repeated. A station over tables may have to be opened again if memory ran out after its
+//! store was called.
 use crate::desk::{Desk, Kind};
 use crate::waybill::{all_done, at, book_told, booking, pieces_taken, receipt, trail_told};
 use imp_fields::Airport;
@@ -11,19 +11,18 @@ use std::alloc::Global;
 use telegrams::read_telegram;
 use test_kit::{Job, is_done, say};
 
-/// What came of an input.
+/// The outcome of an input.
 #[derive(Clone, Copy, Debug, PartialEq, Eq)]
 enum Outcome {
-    /// It was accepted, at the second attempt if memory was refused at the first, after which
-    /// nothing had changed.
+    /// It was accepted, in a second attempt if memory ran out in the first, which changed nothing.
     Accepted,
-    /// The station has to be opened again.
+    /// The station must be opened again.
     Broken,
     /// Anything else.
     Wrong,
 }
 
-/// Gives an input to a station, and again where memory was refused.
+/// Passes an input to a station, and again if memory ran out.
 fn give<K: Keeper>(station: &mut K, input: &Input<'_>, at: Moment) -> Outcome {
     let before = pieces_taken(station);
     match answer_one(station, input, at) {
@@ -43,8 +42,8 @@ fn give<K: Keeper>(station: &mut K, input: &Input<'_>, at: Moment) -> Outcome {
     }
 }
 
-/// Whether a station hands out its one move, at the second attempt if memory was refused at the
-/// first, when it had handed out so many at most.
+/// Returns whether a station hands out its one move, in a second attempt if memory ran out in the
+/// first, after at most `most` rows.
 fn is_book_told<K: Keeper>(station: &mut K, most: u64) -> bool {
     match book_told(station) {
         (rows, true) => rows == 1,
@@ -52,21 +51,22 @@ fn is_book_told<K: Keeper>(station: &mut K, most: u64) -> bool {
     }
 }
 
-/// Whether so many pieces are received, at the second attempt if memory was refused at the first.
+/// Returns whether this many pieces are received, in a second attempt if memory ran out in the
+/// first.
 fn has_taken<K: Keeper>(station: &mut K, pieces: u32) -> bool {
     pieces_taken(station) == Some(pieces) || pieces_taken(station) == Some(pieces)
 }
 
-/// Whether a station is given a booking and a receipt, and hands out its one move. It hands out
-/// none where memory is refused.
+/// Passes a station a booking and a receipt. Returns whether it hands out its one move, and none if
+/// memory runs out.
 fn is_cargo_told<K: Keeper>(station: &mut K) -> Option<bool> {
     let is_booked = give(station, &booking()?, at(10, 0)?) == Outcome::Accepted;
     let is_received = give(station, &receipt()?, at(10, 30)?) == Outcome::Accepted;
     Some(is_booked && is_received && is_book_told(station, 0))
 }
 
-/// Whether a station is given a booking, a receipt and the receipt again, has the pieces after
-/// each, and hands out its one move; or whether it may break.
+/// Passes a station a booking, a receipt and the receipt again. Returns whether it has the pieces
+/// after each, and hands out its one move, or whether it may break.
 fn is_told_in_turn<K: Keeper>(station: &mut K, may_break: bool) -> Option<bool> {
     let steps = [
         (booking()?, at(10, 0)?, 0),
@@ -90,7 +90,7 @@ fn is_told_in_turn<K: Keeper>(station: &mut K, may_break: bool) -> Option<bool> 
 const UPDATE: &[u8] =
     b"FSU/12\r\n020-12345675FRAJFK/T10K100.0\r\nRCS/12JAN1030/FRA/T10\r\nMAN/LH400/12JAN/FRAJFK/T10\r\n";
 
-/// What comes of a trail of two rows that is read, and of one that is read again where that failed.
+/// Returns the outcome of reading a trail of two rows, and of a second attempt if that failed.
 fn two_rows_told<K: Keeper>(alloc: Global, station: &mut K) -> Option<String> {
     let update = Input::Wire(read_telegram(alloc, UPDATE).ok()?);
     all_done(station, &[(booking()?, at(10, 0)?), (update, at(10, 30)?)])?;
@@ -104,17 +104,17 @@ fn two_rows_told<K: Keeper>(alloc: Global, station: &mut K) -> Option<String> {
     format!(in alloc; "told {rows}, then a fault, then told").ok()
 }
 
-/// What is tried on a station.
+/// A trial of a station.
 #[derive(Clone, Copy)]
 enum Trial {
     /// A booking and a receipt.
     Cargo,
-    /// A booking, a receipt, and the receipt again. The station may break if that is said.
+    /// A booking, a receipt, and the receipt again. With `may_break` the station may break.
     InTurn { may_break: bool },
 }
 
 impl Job for Trial {
-    /// Whether all came out as it must.
+    /// True if the outcome is as expected.
     type Out = Option<bool>;
 
     fn run<K: Keeper>(self, keeper: &mut K) -> Option<bool> {
@@ -125,8 +125,8 @@ impl Job for Trial {
     }
 }
 
-/// Whether a trial on a new station at FRA comes out as it must. Where memory is refused before
-/// there is a station, that is reported.
+/// Returns whether a trial on a new station at FRA has the expected outcome. If memory runs out
+/// before there is a station, that must be reported.
 fn is_told(alloc: Global, kind: Kind, trial: Trial) -> bool {
     let Some(here) = Airport::read(b"FRA") else {
         return false;
@@ -137,17 +137,17 @@ fn is_told(alloc: Global, kind: Kind, trial: Trial) -> bool {
     }
 }
 
-/// Whether the plain station reports that memory ran out for a booking and a receipt.
+/// Returns whether the plain station reports that memory ran out for a booking and a receipt.
 pub fn is_told_of_cargo(alloc: Global) -> bool {
     is_told(alloc, Kind::Plain, Trial::Cargo)
 }
 
-/// Whether the plain station reports that memory ran out, and goes on.
+/// Returns whether the plain station reports that memory ran out, and goes on.
 pub fn is_told_of_plain_station(alloc: Global) -> bool {
     is_told(alloc, Kind::Plain, Trial::InTurn { may_break: false })
 }
 
-/// The same of a station over tables, which may break.
+/// Returns the same for a station over tables, which may break.
 pub fn is_told_of_tables(alloc: Global) -> bool {
     is_told(alloc, Kind::Tables, Trial::InTurn { may_break: true })
 }
@@ -166,13 +166,13 @@ impl Job for TwoRows {
     }
 }
 
-/// What comes of a trail of two rows over tables.
+/// Returns the outcome of a trail of two rows over tables.
 fn try_trail(alloc: Global) -> Option<String> {
     let mut desk = Desk::new(alloc, Kind::Tables, Airport::read(b"FRA")?).ok()?;
     desk.ask(TwoRows { alloc })
 }
 
-/// The same, from the beginning where memory was refused before the trail was read.
+/// Returns the same, in a second attempt if memory ran out before the trail was read.
 pub fn trail_at_last(alloc: Global) -> Option<String> {
     match try_trail(alloc) {
         Some(told) => Some(told),

@@ -1,4 +1,4 @@
-//! What is known of a number, as objects of JSON. Their members stand in the order of their names.
+//! Records of numbers as JSON objects. Their members are in the order of their names.
 use agent_stock::Holder;
 use awb_number::Awb;
 use desk_commands::day_text;
@@ -8,7 +8,6 @@ use shipment_machine::{Amount, Declared};
 use station_core::Waybill;
 use std::alloc::{AllocError, Global};
 
-/// The word for who has a number.
 fn holder_word(holder: &Holder) -> &'static str {
     match holder {
         Holder::Desk => "desk",
@@ -18,7 +17,7 @@ fn holder_word(holder: &Holder) -> &'static str {
     }
 }
 
-/// Who has a number.
+/// Returns the object with the holder of a number.
 pub fn holder_object(alloc: Global, awb: &Awb, holder: &Holder) -> Result<String, AllocError> {
     let word = holder_word(holder);
     let name = match holder {
@@ -28,13 +27,12 @@ pub fn holder_object(alloc: Global, awb: &Awb, holder: &Holder) -> Result<String
     format!(in alloc; "{{\"awb\":\"{awb}\",\"holder\":\"{word}\",\"name\":\"{name}\"}}")
 }
 
-/// Pieces and tenths.
 fn pair(alloc: Global, amount: &Amount) -> Result<String, AllocError> {
     let (pieces, tenths) = (amount.pieces, amount.tenths);
     format!(in alloc; "[{pieces},{tenths}]")
 }
 
-/// A text of ASCII as JSON quotes it.
+/// Returns an ASCII text as a JSON string.
 fn quoted(alloc: Global, text: &[u8]) -> Result<String, AllocError> {
     match std::str::from_utf8(text) {
         Ok(text) => Value::String(String::from_str(alloc, text)?).to_string(alloc),
@@ -42,7 +40,6 @@ fn quoted(alloc: Global, text: &[u8]) -> Result<String, AllocError> {
     }
 }
 
-/// An airport's letters.
 fn letters(alloc: Global, airport: &Airport) -> Result<String, AllocError> {
     quoted(alloc, &airport.letters())
 }
@@ -51,7 +48,7 @@ fn goods(alloc: Global, goods: &Goods) -> Result<String, AllocError> {
     quoted(alloc, goods.as_bytes())
 }
 
-/// The day of the declaration, or an empty text.
+/// Returns the day of the declaration, or an empty text.
 fn since(alloc: Global, declared: &Declared) -> Result<String, AllocError> {
     match declared.since {
         Some(day) => quoted(alloc, &day_text(day)),
@@ -59,7 +56,7 @@ fn since(alloc: Global, declared: &Declared) -> Result<String, AllocError> {
     }
 }
 
-/// The members from `notified` to `since`.
+/// Returns the members from `notified` to `since`.
 fn route(alloc: Global, declared: &Declared) -> Result<String, AllocError> {
     let notified = declared.notified;
     let origin = letters(alloc, &declared.origin)?;
@@ -70,7 +67,7 @@ fn route(alloc: Global, declared: &Declared) -> Result<String, AllocError> {
     )
 }
 
-/// The members from `delivered` to `missing`.
+/// Returns the members from `delivered` to `missing`.
 fn left(alloc: Global, waybill: &Waybill) -> Result<String, AllocError> {
     let delivered = pair(alloc, &waybill.delivered)?;
     let departed = pair(alloc, &waybill.departed)?;
@@ -83,7 +80,7 @@ fn left(alloc: Global, waybill: &Waybill) -> Result<String, AllocError> {
     )
 }
 
-/// What is known of a waybill.
+/// Returns the object with the record of a waybill.
 pub fn waybill_object(alloc: Global, awb: &Awb, waybill: &Waybill) -> Result<String, AllocError> {
     let left = left(alloc, waybill)?;
     let route = route(alloc, &waybill.declared)?;

@@ -15,22 +15,22 @@ use std::alloc::{AllocError, Global};
 use telegrams::{TelegramFault, read_telegram};
 use test_kit::Job;
 
-/// A day that says more lines than these is a long one.
+/// The number of expected lines above which a day is long.
 const LONG: u64 = 300;
 
-/// What came of a day so far.
+/// The outcome of a day so far.
 #[derive(Drop)]
 pub struct Played {
-    /// How many lines differed.
+    /// The number of lines that differed.
     pub differences: u64,
     /// Each of them.
     pub log: String,
-    /// How often a station was opened again.
+    /// The number of times that a station was opened again.
     pub openings: u64,
 }
 
 impl Played {
-    /// Nothing was played yet.
+    /// Starts before the first statement.
     pub fn new(alloc: Global) -> Played {
         Played {
             differences: 0,
@@ -40,7 +40,7 @@ impl Played {
     }
 }
 
-/// What is printed of a fault that is no refusal.
+/// Returns the output for a fault other than a refusal.
 fn fault_word(fault: &ActFault) -> &'static str {
     match fault {
         ActFault::Store => "fault store",
@@ -49,7 +49,6 @@ fn fault_word(fault: &ActFault) -> &'static str {
     }
 }
 
-/// What is printed of a fault.
 fn fault_text(alloc: Global, fault: &ActFault) -> Result<String, AllocError> {
     match fault {
         ActFault::Refused(refusal) => refusal_text(alloc, refusal),
@@ -57,7 +56,6 @@ fn fault_text(alloc: Global, fault: &ActFault) -> Result<String, AllocError> {
     }
 }
 
-/// What is printed of an answer.
 fn answer_text(alloc: Global, answer: &Result<Answer, ActFault>) -> Result<String, AllocError> {
     match answer {
         Ok(Answer::Done(reply)) => reply_text(alloc, reply),
@@ -66,7 +64,6 @@ fn answer_text(alloc: Global, answer: &Result<Answer, ActFault>) -> Result<Strin
     }
 }
 
-/// An input of the desk.
 fn act<K: Keeper>(
     alloc: Global,
     keeper: &mut K,
@@ -77,7 +74,6 @@ fn act<K: Keeper>(
     answer_text(alloc, &answer)
 }
 
-/// A command by its body.
 fn act_body<K: Keeper>(
     alloc: Global,
     keeper: &mut K,
@@ -97,7 +93,6 @@ fn act_body<K: Keeper>(
     }
 }
 
-/// A telegram.
 fn take<K: Keeper>(
     alloc: Global,
     keeper: &mut K,
@@ -111,7 +106,7 @@ fn take<K: Keeper>(
     }
 }
 
-/// Appends the line of a run of beginnings.
+/// Appends the line of a run of prefixes.
 fn put_run(
     alloc: Global,
     out: &mut Vec<u8>,
@@ -123,7 +118,7 @@ fn put_run(
     out.extend_from_slice(line.as_bytes())
 }
 
-/// Each beginning of some bytes, as a telegram.
+/// Runs each prefix of some bytes as a telegram.
 fn take_beginnings<K: Keeper>(
     alloc: Global,
     keeper: &mut K,
@@ -144,8 +139,7 @@ fn take_beginnings<K: Keeper>(
     put_run(alloc, out, from, bytes.len(), before.as_str())
 }
 
-/// The key of a row of a stock list and the text of its command, where the row has six fields and
-/// a key.
+/// Returns the key of a stock row and the text of its command, if the row has six fields and a key.
 fn row_text(alloc: Global, row: &str) -> Result<Option<(Key, String)>, AllocError> {
     if row.split(',').count() != 6 {
         return Ok(None);
@@ -171,7 +165,7 @@ fn row_text(alloc: Global, row: &str) -> Result<Option<(Key, String)>, AllocErro
     Ok(Some((key, text)))
 }
 
-/// A row of a stock list, counted from 1.
+/// Runs a stock row, counted from 1.
 fn act_row<K: Keeper>(
     alloc: Global,
     keeper: &mut K,
@@ -188,7 +182,6 @@ fn act_row<K: Keeper>(
     format!(in alloc; "row {number} bad")
 }
 
-/// The rows of a stock list.
 fn act_rows<K: Keeper>(
     alloc: Global,
     keeper: &mut K,
@@ -207,7 +200,7 @@ fn act_rows<K: Keeper>(
     Ok(())
 }
 
-/// Who has a number.
+/// Returns the holder of a number.
 pub fn holder_text<K: Keeper>(
     alloc: Global,
     keeper: &mut K,
@@ -220,7 +213,7 @@ pub fn holder_text<K: Keeper>(
     }
 }
 
-/// What is known of a waybill.
+/// Returns the record of a waybill.
 pub fn waybill_text<K: Keeper>(
     alloc: Global,
     keeper: &mut K,
@@ -239,7 +232,6 @@ pub fn put_text(out: &mut Vec<u8>, text: &str) -> Result<(), AllocError> {
     out.extend_from_slice(b"\n")
 }
 
-/// The answer to a request over HTTP.
 fn answered<K: Keeper>(
     alloc: Global,
     keeper: &mut K,
@@ -253,8 +245,8 @@ fn answered<K: Keeper>(
     }
 }
 
-/// What goes out of the messages to a writer of so many bytes, and a line with the bytes that the
-/// fault tells.
+/// Returns the messages as written to a writer that fails after `room` bytes, and a line with the
+/// number of bytes in the fault.
 fn cut_outbox<K: Keeper>(
     alloc: Global,
     keeper: &mut K,
@@ -269,7 +261,6 @@ fn cut_outbox<K: Keeper>(
     Ok(out)
 }
 
-/// What is printed at a statement.
 fn printed<K: Keeper>(alloc: Global, keeper: &mut K, step: &Step<'_>) -> Result<Vec<u8>, DayFault> {
     let mut out = Vec::new(alloc);
     match &step.ask {
@@ -301,7 +292,7 @@ fn printed<K: Keeper>(alloc: Global, keeper: &mut K, step: &Step<'_>) -> Result<
     Ok(out)
 }
 
-/// What a keeper prints at a statement.
+/// The output of a keeper at a statement.
 #[derive(Drop)]
 struct Printing<'a> {
     alloc: Global,
@@ -316,7 +307,7 @@ impl Job for Printing<'_> {
     }
 }
 
-/// A new station for a statement at this line.
+/// Returns a new station for a statement on this line.
 fn new_desk(alloc: Global, kind: Kind, here: Airport, line: u32) -> Result<Desk, DayFault> {
     match Desk::new(alloc, kind, here) {
         Ok(desk) => Ok(desk),
@@ -327,13 +318,13 @@ fn new_desk(alloc: Global, kind: Kind, here: Airport, line: u32) -> Result<Desk,
     }
 }
 
-/// Whether the station is opened again before a statement, counted from 0: in a long day before
-/// each tenth one, since an opening reads all that the station has.
+/// Returns whether the station is opened again before a statement, counted from 0. In a long day
+/// that is each tenth one, since an opening reads the whole station.
 fn is_opened_again(kind: Kind, day_is_long: bool, statement: usize) -> bool {
     kind == Kind::Reopened && (!day_is_long || statement % 10 == 9)
 }
 
-/// The station as a statement finds it that opens it again.
+/// Opens the station again for a statement.
 fn opened_again(
     alloc: Global,
     desk: Desk,
@@ -352,7 +343,7 @@ fn opened_again(
     }
 }
 
-/// Plays a day on a kind of keeper, and adds what differed.
+/// Plays a day on a kind of keeper, and records the differences.
 pub fn play(
     alloc: Global,
     name: &str,

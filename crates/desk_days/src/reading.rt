@@ -5,7 +5,7 @@ use imp_fields::Airport;
 use station_days::Moment;
 use std::alloc::Global;
 
-/// What was read of a script.
+/// The part of a script read so far.
 #[derive(Drop)]
 struct Script<'a> {
     alloc: Global,
@@ -18,7 +18,8 @@ fn bad<T>(line: u32, why: &'static str) -> Result<T, DayFault> {
     Err(DayFault::Bad { line, why })
 }
 
-/// The line behind a `|`: a blank and the line, or how many times it stands, a blank and the line.
+/// Reads the line after a `|`: a space and the line, or a number of repetitions, a space and the
+/// line.
 fn repeated(line: u32, rest: &str) -> Option<Repeated<'_>> {
     let (times, text) = first_word(rest);
     let times = if times.is_empty() {
@@ -29,7 +30,7 @@ fn repeated(line: u32, rest: &str) -> Option<Repeated<'_>> {
     Some(Repeated { line, times, text })
 }
 
-/// The text behind a mark and a blank.
+/// Returns the text after a mark and a space.
 fn behind(rest: &str) -> Option<&str> {
     if rest.is_empty() {
         return Some(rest);
@@ -37,7 +38,7 @@ fn behind(rest: &str) -> Option<&str> {
     rest.strip_prefix(' ')
 }
 
-/// Whether lines may stand below a statement.
+/// Returns whether a statement may have lines below it.
 fn has_lines(ask: Ask) -> bool {
     matches!(
         ask,
@@ -46,7 +47,7 @@ fn has_lines(ask: Ask) -> bool {
 }
 
 impl<'a> Script<'a> {
-    /// The statement to which a line belongs.
+    /// Returns the statement to which a line belongs.
     fn above(&mut self, line: u32) -> Result<&mut Step<'a>, DayFault> {
         match self.steps.last_mut() {
             Some(step) => Ok(step),
@@ -57,7 +58,7 @@ impl<'a> Script<'a> {
         }
     }
 
-    /// A line of a telegram, of a stock list or of a request.
+    /// Adds a line of a telegram, of a stock list or of a request.
     fn add_line(&mut self, line: u32, rest: &'a str) -> Result<(), DayFault> {
         let Some(repeated) = repeated(line, rest) else {
             return bad(line, "no line stands behind the bar");
@@ -72,7 +73,6 @@ impl<'a> Script<'a> {
         Ok(())
     }
 
-    /// A line that must be printed.
     fn add_wanted(&mut self, line: u32, rest: &'a str) -> Result<(), DayFault> {
         let Some(text) = behind(rest) else {
             return bad(line, "a blank must stand behind the sign");
@@ -84,7 +84,7 @@ impl<'a> Script<'a> {
         Ok(())
     }
 
-    /// The first thing that is asked is a station.
+    /// Begins with a station, the first statement.
     fn begin(&mut self, line: u32, ask: Ask) -> Result<(), DayFault> {
         match ask {
             Ask::Station(here) => {
@@ -95,7 +95,6 @@ impl<'a> Script<'a> {
         }
     }
 
-    /// What a station is asked.
     fn add_ask(&mut self, line: u32, ask: Ask, body: &'a str) -> Result<(), DayFault> {
         if self.here.is_none() {
             return self.begin(line, ask);
@@ -117,12 +116,11 @@ impl<'a> Script<'a> {
         Ok(())
     }
 
-    /// The moment of what follows.
     fn set_moment(&mut self, at: Moment) {
         self.at = Some(at);
     }
 
-    /// A statement, with the body that it has if it is a command.
+    /// Adds a statement, with its body if it is a command.
     fn add_statement(
         &mut self,
         line: u32,
@@ -138,7 +136,6 @@ impl<'a> Script<'a> {
         }
     }
 
-    /// One line of the script.
     fn add(&mut self, line: u32, text: &'a str) -> Result<(), DayFault> {
         if text.is_empty() || text.starts_with('#') {
             return Ok(());
@@ -156,7 +153,7 @@ impl<'a> Script<'a> {
     }
 }
 
-/// The day that a script describes.
+/// Reads a script.
 pub fn read_day(alloc: Global, text: &str) -> Result<Day<'_>, DayFault> {
     let mut script = Script {
         alloc,

@@ -1,5 +1,5 @@
-//! Inputs by a fixed rule: each keeper has to give the same answers, one by one and to the list of
-//! all, and to hand out the same rows.
+//! Inputs by a fixed rule: each keeper must return the same answers, one by one and for the list of
+//! all, and hand out the same rows.
 use crate::asking::report_text;
 use crate::desk::{Desk, Kind};
 use crate::play::{holder_text, put_text, waybill_text};
@@ -15,7 +15,7 @@ use std::alloc::{AllocError, Global};
 use telegrams::read_telegram;
 use test_kit::Job;
 
-/// Which inputs are given.
+/// A set of inputs.
 #[derive(Clone, Copy, Debug, PartialEq, Eq)]
 pub enum Inputs {
     /// Two hundred of every kind.
@@ -25,7 +25,7 @@ pub enum Inputs {
 }
 
 impl Inputs {
-    /// What they are called where they are printed.
+    /// Returns the name that is printed.
     pub fn name(self) -> &'static str {
         match self {
             Inputs::Mixed => "by-rule",
@@ -34,25 +34,24 @@ impl Inputs {
     }
 }
 
-/// How many inputs of every kind there are.
+/// The number of inputs of every kind.
 const MIXED: u32 = 200;
 
-/// How many orders on the stock there are.
 const ORDERS: u32 = 2_000;
 
-/// The first serial of the waybills that they speak of, and the last one.
+/// The first and the last serial of their waybills.
 const FIRST: u32 = 1_234_560;
 
 const LAST: u32 = 1_234_565;
 
-/// Numbers that follow from one another.
+/// A sequence of numbers.
 #[derive(Drop)]
 struct Rule {
     state: u64,
 }
 
 impl Rule {
-    /// The next number from one to another, both included.
+    /// Returns the next number from `low` to `high`, inclusive.
     fn between(&mut self, low: u32, high: u32) -> u32 {
         self.state = self
             .state
@@ -63,7 +62,6 @@ impl Rule {
         low.saturating_add(step)
     }
 
-    /// A waybill's number.
     fn awb(&mut self) -> Option<Awb> {
         Awb::new(20, self.between(FIRST, LAST))
     }
@@ -76,7 +74,6 @@ struct Asked {
     text: String,
 }
 
-/// The text of an order on the stock.
 fn order_text(alloc: Global, rule: &mut Rule) -> Option<String> {
     let serial = rule.between(FIRST, FIRST + 11);
     let count = rule.between(1, 4);
@@ -88,7 +85,7 @@ fn order_text(alloc: Global, rule: &mut Rule) -> Option<String> {
     }
 }
 
-/// The text of a command that declares a waybill, out of Frankfurt or into it.
+/// Returns the text of a command that declares a waybill, out of Frankfurt or into it.
 fn booking_text(alloc: Global, awb: Awb) -> Option<String> {
     if awb.serial() % 2 == 0 {
         format!(in alloc; "book\n{awb}\nFRA\nJFK\n10\n1000\nCARGO").ok()
@@ -97,7 +94,8 @@ fn booking_text(alloc: Global, awb: Awb) -> Option<String> {
     }
 }
 
-/// The text of a command on an outbound flight or on what goes out, by it or with another airline.
+/// Returns the text of a command about an outbound flight, or about cargo that leaves by flight or
+/// with another airline.
 fn outbound_text(alloc: Global, rule: &mut Rule, awb: Awb) -> Option<String> {
     let pieces = rule.between(1, 5);
     let day = rule.between(12, 13);
@@ -113,7 +111,7 @@ fn outbound_text(alloc: Global, rule: &mut Rule, awb: Awb) -> Option<String> {
     }
 }
 
-/// The text of a command on what came in.
+/// Returns the text of a command about inbound cargo.
 fn inbound_text(alloc: Global, rule: &mut Rule, awb: Awb) -> Option<String> {
     let pieces = rule.between(1, 6);
     match rule.between(0, 7) {
@@ -127,7 +125,6 @@ fn inbound_text(alloc: Global, rule: &mut Rule, awb: Awb) -> Option<String> {
     }
 }
 
-/// The text of a telegram.
 fn telegram_text(alloc: Global, rule: &mut Rule, awb: Awb) -> Option<String> {
     let pieces = rule.between(1, 5);
     match rule.between(0, 3) {
@@ -139,8 +136,8 @@ fn telegram_text(alloc: Global, rule: &mut Rule, awb: Awb) -> Option<String> {
     }
 }
 
-/// The n-th input: the first ones declare the waybills, and each eighth one has the key of an
-/// earlier one.
+/// Returns the n-th input: the first ones declare the waybills, and each eighth one has the key of
+/// an earlier one.
 fn next_asked(alloc: Global, rule: &mut Rule, n: u32) -> Option<Asked> {
     if n <= LAST - FIRST {
         let text = booking_text(alloc, Awb::new(20, FIRST + n)?)?;
@@ -163,7 +160,6 @@ fn next_asked(alloc: Global, rule: &mut Rule, n: u32) -> Option<Asked> {
     Some(Asked { key, text })
 }
 
-/// The same input again.
 fn copied(alloc: Global, asked: &Asked) -> Option<Asked> {
     let key = match &asked.key {
         Some(key) => Some(String::from_str(alloc, key.as_str()).ok()?),
@@ -173,7 +169,7 @@ fn copied(alloc: Global, asked: &Asked) -> Option<Asked> {
     Some(Asked { key, text })
 }
 
-/// The text of an order on one of a thousand numbers and those behind it.
+/// Returns the text of an order on one of a thousand numbers and those after it.
 fn stock_text(alloc: Global, rule: &mut Rule) -> Option<String> {
     let serial = rule.between(FIRST, FIRST + 999);
     let count = rule.between(1, 3);
@@ -185,7 +181,7 @@ fn stock_text(alloc: Global, rule: &mut Rule) -> Option<String> {
     }
 }
 
-/// Orders on the stock as texts, each under a key of its own.
+/// Returns orders on the stock as texts, each under its own key.
 fn all_orders(alloc: Global) -> Option<Vec<Asked>> {
     let mut rule = Rule { state: 20_260_112 };
     let mut all = Vec::new(alloc);
@@ -197,7 +193,7 @@ fn all_orders(alloc: Global) -> Option<Vec<Asked>> {
     Some(all)
 }
 
-/// Inputs of every kind as texts. Some repeat the one before them.
+/// Returns inputs of every kind as texts. Some repeat the one before them.
 fn all_mixed(alloc: Global) -> Option<Vec<Asked>> {
     let mut rule = Rule { state: 20_260_112 };
     let mut all = Vec::new(alloc);
@@ -211,7 +207,6 @@ fn all_mixed(alloc: Global) -> Option<Vec<Asked>> {
     Some(all)
 }
 
-/// The input that a text stands for.
 fn input_of<'a>(alloc: Global, asked: &'a Asked) -> Option<Input<'a>> {
     match &asked.key {
         Some(key) => Some(Input::Keyed(
@@ -225,7 +220,8 @@ fn input_of<'a>(alloc: Global, asked: &'a Asked) -> Option<Input<'a>> {
     }
 }
 
-/// The inputs, each a minute after the one before it, from ten o'clock to midnight and again.
+/// Returns the inputs, each a minute after the one before it, from ten o'clock to midnight and
+/// again.
 fn inputs_of<'a>(alloc: Global, all: &'a [Asked]) -> Option<Vec<(Input<'a>, Moment)>> {
     let mut inputs = Vec::new(alloc);
     for (n, asked) in all.iter().enumerate() {
@@ -236,7 +232,7 @@ fn inputs_of<'a>(alloc: Global, all: &'a [Asked]) -> Option<Vec<(Input<'a>, Mome
     Some(inputs)
 }
 
-/// Appends the line of an answer. Whether it accepts.
+/// Appends the line of an answer. Returns whether it accepts.
 fn answer_told(alloc: Global, answer: &Answer, out: &mut Vec<u8>) -> Option<bool> {
     let text = match answer {
         Answer::Done(reply) => reply_text(alloc, reply).ok()?,
@@ -247,7 +243,7 @@ fn answer_told(alloc: Global, answer: &Answer, out: &mut Vec<u8>) -> Option<bool
     Some(matches!(answer, Answer::Done(_)))
 }
 
-/// An input, which a keeper has to answer.
+/// An input that a keeper must answer.
 #[derive(Drop)]
 struct Given<'a> {
     alloc: Global,
@@ -258,7 +254,7 @@ struct Given<'a> {
 impl Job for Given<'_> {
     type Out = Option<(Vec<u8>, bool)>;
 
-    /// The line of the answer, and whether it accepts.
+    /// Returns the line of the answer, and whether it accepts.
     fn run<K: Keeper>(self, keeper: &mut K) -> Option<(Vec<u8>, bool)> {
         let answer = answer_one(keeper, self.input, self.at).ok()?;
         let mut line = Vec::new(self.alloc);
@@ -267,7 +263,7 @@ impl Job for Given<'_> {
     }
 }
 
-/// Inputs, which a keeper has to answer as one list.
+/// Inputs that a keeper must answer as one list.
 #[derive(Drop)]
 struct List<'a> {
     alloc: Global,
@@ -286,7 +282,7 @@ impl Job for List<'_> {
     }
 }
 
-/// All rows that a keeper's readers hand out, and what it knows of each waybill and number.
+/// All rows of a keeper's readers, and its records of each waybill and number.
 #[derive(Drop)]
 struct AllRows {
     alloc: Global,
@@ -300,7 +296,8 @@ impl Job for AllRows {
     }
 }
 
-/// Gives the inputs one by one, and prints the answers. The station, and how many it accepts.
+/// Passes the inputs one by one, and prints the answers. Returns the station, and how many it
+/// accepts.
 fn one_by_one(
     alloc: Global,
     mut desk: Desk,
@@ -326,7 +323,8 @@ fn one_by_one(
     Some((desk, accepted))
 }
 
-/// Gives the inputs as one list, and prints the answers. The station, and how many it accepts.
+/// Passes the inputs as one list, and prints the answers. Returns the station, and how many it
+/// accepts.
 fn at_once(
     alloc: Global,
     mut desk: Desk,
@@ -343,7 +341,7 @@ fn at_once(
     Some((desk, accepted))
 }
 
-/// All rows that the readers hand out, and what is known of each waybill and number.
+/// Returns all rows of the readers, and the records of each waybill and number.
 fn rows_told<K: Keeper>(alloc: Global, keeper: &mut K) -> Result<Vec<u8>, ActFault> {
     let mut out = Vec::new(alloc);
     for report in [
@@ -369,12 +367,12 @@ fn rows_told<K: Keeper>(alloc: Global, keeper: &mut K) -> Result<Vec<u8>, ActFau
     Ok(out)
 }
 
-/// Whether a text is an object, or says that there is none: any other is a fault's.
+/// Returns whether a text is an object, or `none`. Any other is a fault's.
 fn is_told(text: &str) -> bool {
     matches!(text.as_bytes(), [b'{', ..] | b"none")
 }
 
-/// What is known of a number. On error the keeper failed, or memory is out.
+/// Appends the records of a number. It fails if the keeper fails, or memory runs out.
 fn number_told<K: Keeper>(
     alloc: Global,
     keeper: &mut K,
@@ -393,8 +391,8 @@ fn number_told<K: Keeper>(
     put_text(out, holder.as_str())
 }
 
-/// All that a keeper of a kind answers and hands out, where the inputs come one by one or as a
-/// list; nothing where too few of them are accepted or refused.
+/// Returns all answers and rows of a kind of keeper, for inputs one by one or as a list, or `None`
+/// if too few of them are accepted or refused.
 fn told(
     alloc: Global,
     kind: Kind,
@@ -416,14 +414,14 @@ fn told(
     Some(out)
 }
 
-/// Whether at least a fifth of the inputs are accepted, and at least a fifth are refused.
+/// Returns whether at least a fifth of the inputs are accepted, and at least a fifth are refused.
 fn is_mixed(inputs: usize, accepted: usize) -> bool {
     let fifth = inputs / 5;
     accepted >= fifth && inputs.saturating_sub(accepted) >= fifth
 }
 
-/// Whether each keeper answers these inputs alike, in either way. A station is opened again before
-/// each input where there are few.
+/// Returns whether all keepers answer these inputs alike, in both ways. If there are few inputs, a
+/// station is opened again before each.
 pub fn are_equal(alloc: Global, given: Inputs) -> Option<bool> {
     let all = match given {
         Inputs::Mixed => all_mixed(alloc)?,

@@ -8,16 +8,16 @@ use reports::Report;
 use station_core::Key;
 use station_days::Moment;
 
-/// What a line says that is neither empty nor a comment, and belongs to no statement above it.
+/// A line that is neither empty nor a comment, and doesn't belong to a statement above it.
 #[derive(Clone, Copy, Debug, PartialEq, Eq)]
 pub enum Statement {
     /// The moment of what follows.
     At(Moment),
-    /// What a station is asked.
+    /// A statement for a station.
     Ask(Ask),
 }
 
-/// The moment of a text such as `2026-01-12 10:30`.
+/// Reads a moment such as `2026-01-12 10:30`.
 fn moment(text: &str) -> Option<Moment> {
     let time = text.parse::<DateTime>().ok()?;
     let day = u32::try_from(time.date().to_plain().to_unix_epoch_day()).ok()?;
@@ -26,7 +26,7 @@ fn moment(text: &str) -> Option<Moment> {
     Moment::new(day, hour.checked_mul(60)?.checked_add(minute)?)
 }
 
-/// A command: its verb, its key and a body.
+/// Reads a command: its verb, its key and a body.
 fn act(rest: &str) -> Option<Ask> {
     let (verb, rest) = rest.split_once(' ')?;
     let (key, _body) = rest.split_once(' ')?;
@@ -35,7 +35,7 @@ fn act(rest: &str) -> Option<Ask> {
     Some(Ask::Act(verb, key))
 }
 
-/// How a telegram's lines are sent.
+/// Reads the encoding of a telegram's lines.
 fn form(rest: &str) -> Option<Form> {
     match rest {
         "" => Some(Form::CrLf),
@@ -45,13 +45,12 @@ fn form(rest: &str) -> Option<Form> {
     }
 }
 
-/// A waybill's number.
 fn number(rest: &str) -> Option<Awb> {
     let text = <[u8; 12]>::try_from(rest.as_bytes()).ok()?;
     Awb::read(&text).ok()
 }
 
-/// What a statement asks of a station.
+/// Reads a statement for a station.
 fn ask(word: &str, rest: &str) -> Option<Ask> {
     match (word, rest) {
         ("station", _) => Some(Ask::Station(Airport::read(rest.as_bytes())?)),
@@ -69,7 +68,7 @@ fn ask(word: &str, rest: &str) -> Option<Ask> {
     }
 }
 
-/// A line's first word, and what follows the blank behind it.
+/// Returns the first word of a line, and the text after its space.
 pub fn first_word(line: &str) -> (&str, &str) {
     match line.split_once(' ') {
         Some(parts) => parts,
@@ -77,7 +76,7 @@ pub fn first_word(line: &str) -> (&str, &str) {
     }
 }
 
-/// What follows the third blank of a line: the body of a command.
+/// Returns the text after the third space of a line: the body of a command.
 pub fn body(line: &str) -> &str {
     let (_word, rest) = first_word(line);
     let (_verb, rest) = first_word(rest);
@@ -85,7 +84,7 @@ pub fn body(line: &str) -> &str {
     body
 }
 
-/// The statement that a line is.
+/// Reads a line as a statement.
 pub fn read_statement(line: &str) -> Option<Statement> {
     let (word, rest) = first_word(line);
     if word == "at" {

@@ -2,7 +2,6 @@
 use crate::day::{DayFault, Form, Repeated};
 use std::alloc::{AllocError, Global};
 
-/// Appends a line, so many times.
 fn put_line(bytes: &mut Vec<u8>, line: &Repeated<'_>, end: &[u8]) -> Result<(), AllocError> {
     for _ in 0..line.times {
         bytes.extend_from_slice(line.text.as_bytes())?;
@@ -11,7 +10,6 @@ fn put_line(bytes: &mut Vec<u8>, line: &Repeated<'_>, end: &[u8]) -> Result<(), 
     Ok(())
 }
 
-/// Appends the bytes that digits write, so many times.
 fn put_digits(alloc: Global, bytes: &mut Vec<u8>, line: &Repeated<'_>) -> Result<(), DayFault> {
     let Ok(told) = hex::decode(alloc, line.text) else {
         return Err(DayFault::Bad {
@@ -25,7 +23,7 @@ fn put_digits(alloc: Global, bytes: &mut Vec<u8>, line: &Repeated<'_>) -> Result
     Ok(())
 }
 
-/// The bytes that are sent.
+/// Returns the bytes that are sent.
 pub fn bytes_of(alloc: Global, form: Form, lines: &[Repeated<'_>]) -> Result<Vec<u8>, DayFault> {
     let mut bytes = Vec::new(alloc);
     for line in lines {

@@ -1,11 +1,11 @@
-//! The tests of public calls, which go through data: days, requests over HTTP and files of cases.
-//! Libraries play them, each case in the lowest one that can. The words choose what is run:
+//! The tests of public calls from data: days, HTTP requests and files of cases. Libraries play
+//! them, each case in the lowest one that can. The words select what is run:
 //!
-//! - `days`, `messages`, `station`, `found`, `lines`, `http`: each file of the folder of that name;
-//! - such a name and a file, as `days/stock`: that file alone;
+//! - `days`, `messages`, `station`, `found`, `lines`, `http`: each file of the folder with that
+//!   name;
+//! - such a name and a file, such as `days/stock`: only that file;
 //! - `by-rule`, `orders-by-rule`: inputs by a fixed rule on each keeper;
-//! - `station-memory`, `found-memory`: what wants memory alone, to be run with each allocation
-//!   failing in turn;
+//! - `station-memory`, `found-memory`: runs to be repeated with each allocation failing in turn;
 //! - `service`: the service on a port of this machine;
 //! - `first-steps`: the lines of Rust of the README;
 //! - `bench`: how fast messages are written and read, by hand.
@@ -18,8 +18,7 @@ use std::{env, io};
 /// The files of the folder `station`.
 const STATION_FILES: &[&str] = &["rows", "tables", "counted-ends", "cargo"];
 
-/// The files of a part, in the order in which they are gone through; none where a word is no such
-/// part.
+/// Returns the files of a part, in the order in which they run, empty for an unknown part.
 fn files_of(part: &str) -> &'static [&'static str] {
     match part {
         "days" => desk_days::FILES,
@@ -32,7 +31,7 @@ fn files_of(part: &str) -> &'static [&'static str] {
     }
 }
 
-/// Goes through a file of the folder `station`. Whether all came out as it must.
+/// Runs a file of the folder `station`. Returns whether it passed.
 fn run_station_file(rt: &HostRuntime, file: &str) -> Result<bool, io::Error> {
     match file {
         "counted-ends" => message_tests::run_file(rt, "station", file),
@@ -41,7 +40,7 @@ fn run_station_file(rt: &HostRuntime, file: &str) -> Result<bool, io::Error> {
     }
 }
 
-/// Goes through a file of a part. Whether all came out as it must, if there is such a part.
+/// Runs a file of a part. Returns whether it passed, or `None` for an unknown part.
 fn run_file(rt: &HostRuntime, part: &str, file: &str) -> Result<Option<bool>, io::Error> {
     Ok(Some(match part {
         "days" => desk_days::run_file(rt, file)?,
@@ -54,7 +53,7 @@ fn run_file(rt: &HostRuntime, part: &str, file: &str) -> Result<Option<bool>, io
     }))
 }
 
-/// Goes through each file of a part. Whether all came out as they must, if there is such a part.
+/// Runs each file of a part. Returns whether all passed, or `None` for an unknown part.
 fn run_files(rt: &HostRuntime, part: &str) -> Result<Option<bool>, io::Error> {
     let files = files_of(part);
     let mut all = true;
@@ -64,7 +63,7 @@ fn run_files(rt: &HostRuntime, part: &str) -> Result<Option<bool>, io::Error> {
     Ok(if files.is_empty() { None } else { Some(all) })
 }
 
-/// Runs what a word names. Whether all came out as it must, if there is such a word.
+/// Runs the part in a word. Returns whether it passed, or `None` for an unknown word.
 fn run_word(rt: &HostRuntime, word: &str) -> Result<Option<bool>, io::Error> {
     if let Some((part, file)) = word.split_once('/') {
         return run_file(rt, part, file);
@@ -84,8 +83,8 @@ fn run_word(rt: &HostRuntime, word: &str) -> Result<Option<bool>, io::Error> {
     }))
 }
 
-/// Status 0: all came out as it must; 1: something came out otherwise; 2: a word that names
-/// nothing, or no word.
+/// Returns exit status 0 if everything passed, 1 if something failed, and 2 for an unknown word or
+/// none.
 fn main(rt: HostRuntime) -> Result<ExitCode, io::Error> {
     let words: Vec<String> = env::args(&rt)?.collect(rt.alloc())?;
     let mut status = 0;

@@ -20,14 +20,14 @@ use Rattle.ffm_text.specs.declared.FfmLine.{FfmLine}
 use Rattle.ffm_text.specs.declared.Load.{Load}
 use Rattle.ffm_text.specs.declared.flight_line.Part.{Part}
 
--- which part of which flight's manifest a message is, and where the flight was loaded
+-- the part and the flight of a manifest, and the airport of loading
 pub record FlightLine : Type 0 where
   pub sequence : ℕ
   pub flight : Designator
   pub date : CalendarDay
   pub loaded : List ℕ
 
--- a shipment, and where it is unloaded
+-- a shipment, with its point of unloading
 pub record Unloaded : Type 0 where
   pub unload : List ℕ
   pub shipment : Shipment
@@ -36,16 +36,16 @@ pub record Manifest : Type 0 where
   pub part : FlightLine
   pub cargo : List Unloaded
 
--- a field of a line that is cut at slashes
+-- a field of a line, cut at slashes
 abbrev pub field : List ℕ → ℕ → Option (List ℕ)
 field line k = slice_get (fields line) k
 
--- the date of a field, whose time is not kept
+-- the date of a field, without its time
 abbrev pub date_in : List ℕ → Option CalendarDay
 date_in text = option_and_then (λ both. Some both.0) (optional_time_of text)
 
--- `1/LH400/12JAN/FRA`: the fields are tested from the left, and what stands behind a further slash
--- is not read
+-- `1/LH400/12JAN/FRA`: the fields are tested from the left, and anything after a further slash is
+-- ignored
 abbrev pub flight_line_of : List ℕ → Result FlightLine Why
 flight_line_of line = do
   sequence ← need (option_and_then count_of (field line 0)) why.Flight
@@ -55,13 +55,13 @@ flight_line_of line = do
   loaded ← need (option_and_then airport_of (field line 3)) why.Flight
   Ok (record { sequence = sequence; flight = flight; date = date; loaded = loaded })
 
--- lines that look like a point of unloading and are none
+-- lines that look like a point of unloading and aren't
 abbrev pub is_remark : List ℕ → Bool
 is_remark line =
     list_any (starts_with nat_eq line)
     (codes "ULD/" ∷ codes "DIM/" ∷ codes "OSI/" ∷ codes "SCI/" ∷ codes "OCI/" ∷ codes "COR/" ∷ [])
 
--- what may follow a point of unloading: nothing, `/NIL`, or a slash, two digits, a month and
+-- the text that may follow a point of unloading: none, `/NIL`, or a slash, two digits, a month and
 -- anything
 abbrev pub may_follow_point : List ℕ → Bool
 may_follow_point rest =
@@ -77,12 +77,12 @@ unloading_point line =
 abbrev pub last_point : List (List ℕ) → Option (List ℕ)
 last_point above = last_or None (filter_map unloading_point above)
 
--- a line that begins with three digits and a hyphen has to be a consignment line
+-- a line that begins with three digits and a hyphen must be a consignment line
 abbrev pub is_cargo_line : List ℕ → Bool
 is_cargo_line line = list_all is_digit (take 3 line) && (slice_index line 3 == 45)
 
--- The cargo of the lines below those above: each line of cargo is a consignment line, and is
--- unloaded at the last point above it.
+-- The cargo of the lines after those above: each cargo line is a consignment line, and is unloaded
+-- at the last point above it.
 abbrev pub IsCargo : List (List ℕ) → List (List ℕ) → List Unloaded → Type 0
 IsCargo above [] [] = Unit {0}
 IsCargo above [] (u ∷ cargo) = ⊥
@@ -95,13 +95,12 @@ IsCargo above (line ∷ below) (u ∷ cargo) =
 abbrev pub is_last_line : List ℕ → Bool
 is_last_line line = bytes_eq line (codes "LAST") || bytes_eq line (codes "CONT")
 
--- the last of the lines below the flight line says whether another part follows
+-- the last line, after the flight line, says whether another part follows
 abbrev pub has_last_line : List (List ℕ) → Bool
 has_last_line [] = false
 has_last_line (line ∷ []) = is_last_line line
 has_last_line (line ∷ next ∷ below) = has_last_line (next ∷ below)
 
--- the lines are this part of a manifest
 abbrev pub IsFfm : List (List ℕ) → Manifest → Type 0
 IsFfm [] m = ⊥
 IsFfm (head ∷ []) m = ⊥
@@ -109,7 +108,7 @@ IsFfm (head ∷ flight ∷ below) m =
     IsTrue (is_head (codes "FFM") head) × (flight_line_of flight ≡ Ok m.part) × IsCargo [] below m.cargo
     × IsTrue (has_last_line below)
 
--- a consignment line above the first point of unloading is out of order; its form is tested first
+-- a consignment line above the first point of unloading is out of order, tested after its form
 abbrev pub ordered_fault : Result Shipment Why → Option (List ℕ) → Option Why
 ordered_fault (Err why) point = Some why
 ordered_fault (Ok s) point = unless_true (is_some point) why.Order
@@ -121,22 +120,19 @@ abbrev pub cargo_faults : List (List ℕ) → List (List ℕ) → List (Option W
 cargo_faults above [] = []
 cargo_faults above (line ∷ below) = cargo_fault above line ∷ cargo_faults (above ++ line ∷ []) below
 
--- the fault of each line that is read
 abbrev pub ffm_line_faults : List (List ℕ) → List (Option Why)
 ffm_line_faults [] = []
 ffm_line_faults (head ∷ []) = unless_true (is_head (codes "FFM") head) why.Head ∷ []
 ffm_line_faults (head ∷ flight ∷ below) =
     unless_true (is_head (codes "FFM") head) why.Head ∷ err_of (flight_line_of flight) ∷ cargo_faults [] below
 
--- the fault of lines that are no part of a manifest
+-- the fault of lines that aren't a part of a manifest
 abbrev pub ffm_fault : List (List ℕ) → Option TextFault
 ffm_fault lines = fault_in lines (ffm_line_faults lines) (has_last_line (drop 2 lines))
 
--- what a flight line that was read says
 abbrev pub part_of : Part → FlightLine
 part_of p = record { sequence = p.sequence; flight = p.flight; date = p.date; loaded = p.loaded }
 
--- what a message that was read says
 abbrev pub unloaded_of : FfmLine → Unloaded
 unloaded_of l = record { unload = l.unload; shipment = shipment_of l.consignment }
 
@@ -146,7 +142,7 @@ manifest_of m = record {
   cargo = map unloaded_of m.cargo.items;
 }
 
--- the written line of a load: code T where all declared pieces are on the flight, else P and the
+-- the written line of a load: code T if all declared pieces are on the flight, otherwise P and the
 -- declared total
 abbrev pub cargo_of : Load → WrittenLine
 cargo_of l = record {
@@ -168,13 +164,12 @@ abbrev pub ffm_lines : Designator → CalendarDay → List ℕ → List ℕ → 
 ffm_lines flight date here unload loads =
     (codes "FFM/8" ∷ flight_line_text flight date here ∷ unload ∷ map (λ l. consignment_text (cargo_of l)) loads) ++ codes "LAST" ∷ []
 
--- and what they say
 abbrev pub manifest_written : Designator → CalendarDay → List ℕ → List ℕ → List Load → Manifest
 manifest_written flight date here unload loads = record {
   part = record { sequence = 1; flight = flight; date = date; loaded = here };
   cargo = map (λ l. record { unload = unload; shipment = shipment_written (cargo_of l) }) loads;
 }
 
--- the fields of each consignment stand in its line
+-- the fields of each consignment are in its line
 abbrev pub HasFfmSpans : List (List ℕ) → Ffm → Type 0
 HasFfmSpans lines m = AllZip HasSpans (filter is_cargo_line (drop 2 lines)) (map (λ l. l.consignment) m.cargo.items)

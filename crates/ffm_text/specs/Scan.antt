@@ -1,4 +1,4 @@
--- What is known of a manifest once some of the lines behind its flight line were seen.
+-- The state of a scan over the lines after a manifest's flight line.
 use Rattle.std.specs.Prelude.{filter, ◌≡◌, ℕ, List, [], map}
 use Rattle.std.specs.List.{AllZip}
 use Rattle.imp_fields.specs.Consignment.{HasSpans}
@@ -7,16 +7,15 @@ use Rattle.ffm_text.specs.Ffm.{last_point, is_cargo_line, IsCargo, unloaded_of}
 use Rattle.ffm_text.specs.declared.FfmLine.{FfmLine}
 use Rattle.ffm_text.specs.declared.cargo.ManifestScan.{ManifestScan}
 
--- the lines of tokens
 abbrev pub texts_of : List Token → List (List ℕ)
 texts_of tokens = map (λ t. t.text.now) tokens
 
--- these are the consignment lines among some lines, and their fields stand in them
+-- exactly the consignment lines among some lines, with their fields
 pub record AreCargo (lines : List (List ℕ)) (cargo : List FfmLine) : Type 0 where
   pub read : IsCargo [] lines (map unloaded_of cargo)
   pub spans : AllZip HasSpans (filter is_cargo_line lines) (map (λ l. l.consignment) cargo)
 
--- these lines were seen
+-- the state after these lines
 pub record IsScan (lines : List (List ℕ)) (s : ManifestScan) : Type 0 where
   pub point : s.point ≡ last_point lines
   pub cargo : AreCargo lines s.cargo.items

@@ -1,4 +1,4 @@
--- What the calls that write a manifest append.
+-- The text that writing a manifest appends.
 use Rattle.std.specs.Prelude.{◌≡◌, ℕ, ◌≤◌, true, List, [], ◌∷◌, ◌++◌, length, take}
 use Rattle.awb_number.specs.Number.{IsNumber, number_text}
 use Rattle.imp_fields.specs.Amount.{IsPieces, IsBookTenths}
@@ -11,23 +11,19 @@ use Rattle.imp_fields.specs.Consignment.{consignment_text}
 use Rattle.ffm_text.specs.declared.Load.{Load}
 use Rattle.ffm_text.specs.Ffm.{cargo_of}
 
--- the second text begins with the first
+-- the first text is a prefix of the second
 abbrev pub Begins : List ℕ → List ℕ → Type 0
 Begins front text = take (length front) text ≡ front
 
--- a line and its end
 abbrev pub line_text : List ℕ → List ℕ
 line_text line = line ++ (13 ∷ 10 ∷ [])
 
--- the consignment line of a load
 abbrev pub load_line : Load → List ℕ
 load_line l = consignment_text (cargo_of l)
 
--- its number and route
 abbrev pub route_text : Load → List ℕ
 route_text l = number_text l.awb ++ l.origin ++ l.destination ++ (47 ∷ [])
 
--- and its quantity
 abbrev pub amount_text : Load → List ℕ
 amount_text l = quantity_text (cargo_of l).code l.pieces l.tenths (cargo_of l).total
 
@@ -45,7 +41,7 @@ abbrev pub AreLoads : List Load → Type 0
 AreLoads [] = Unit {0}
 AreLoads (l ∷ loads) = IsLoad l × AreLoads loads
 
--- what a written manifest is made of, as the types allow it
+-- the values of a written manifest, as the types allow them
 pub record AreWritten (flight : Designator) (date : CalendarDay) (here unload : List ℕ) (loads : List Load) : Type 0 where
   pub designator : IsDesignator flight
   pub calendar_day : IsCalendarDay date

@@ -1,5 +1,4 @@
-//! The lines behind the flight line: points of unloading, consignment lines, and lines that are not
-//! read.
+//! The lines after the flight line: points of unloading, consignment lines, and ignored lines.
 
 ghost use Rattle.std.specs.Prelude.{◌≡◌, ◌∷◌, ◌++◌, ◌≤◌, ◌<◌, ◌^◌, ℕ, List, [], length, map, Some, Ok, IfOk, IfErr, OnOk, option_map};
 ghost use Rattle.imp_fields.specs.Consignment.{consignment_of, shipment_of, HasSpans};
@@ -13,7 +12,6 @@ use crate::point::unloading_point;
 use imp_fields::{Airport, TextFault, Token, Why, fault_at, read_consignment};
 use std::alloc::{AllocError, Global};
 
-/// Whether a line begins with three digits and a hyphen, so that it has to be a consignment line.
 fn is_cargo_line(line: &[u8]) -> bool
     ensures { result ≡ is_cargo_line line.now }
 {
@@ -25,10 +23,10 @@ fn is_cargo_line(line: &[u8]) -> bool
     }
 }
 
-/// What a consignment line says, which stands below a point of unloading.
+/// Reads a consignment line.
 ///
-/// # Errors
-/// Those of a consignment line, and then `Order` where no point of unloading stands above it.
+/// Its errors are those of a consignment line, and then `Order` if there is no point of unloading
+/// above it.
 fn cargo_line<'a>(point: Option<Airport>, line: &'a [u8]) -> Result<FfmLine<'a>, Why>
     ensures read { IfOk result (λ l. (consignment_of line.now ≡ Ok (shipment_of l.consignment))
         × (point ≡ Some l.unload)) }
@@ -47,7 +45,7 @@ fn cargo_line<'a>(point: Option<Airport>, line: &'a [u8]) -> Result<FfmLine<'a>,
     }
 }
 
-/// What is known of a manifest once some of the lines behind its flight line were seen.
+/// The state of a scan over the lines after a manifest's flight line.
 #[derive(Drop)]
 pub(crate) struct ManifestScan<'a> {
     /// The last point of unloading.
@@ -57,7 +55,7 @@ pub(crate) struct ManifestScan<'a> {
 }
 
 impl<'a> ManifestScan<'a> {
-    /// No line was seen. There is room for so many.
+    /// Starts a scan, with room for `room` lines.
     fn new(alloc: Global, room: usize) -> Result<ManifestScan<'a>, AllocError>
         ensures { IfOk result (IsScan []) }
     {
@@ -67,7 +65,7 @@ impl<'a> ManifestScan<'a> {
         })
     }
 
-    /// Takes a line that has to be a consignment line, and no other.
+    /// Reads a line that must be a consignment line.
     fn take(&mut self, number: u32, line: &'a [u8]) -> Result<(), TextFault>
         ensures cargo { (above : List (List ℕ)) → IsScan above self.old
             → OnOk result (AreCargo (above ++ line.now ∷ []) self.new.cargo.items) }
@@ -88,7 +86,7 @@ impl<'a> ManifestScan<'a> {
         }
     }
 
-    /// One more line was seen.
+    /// Scans the next line.
     fn see(&mut self, number: u32, line: &'a [u8]) -> Result<(), TextFault>
         ensures seen { (above : List (List ℕ)) → IsScan above self.old
             → OnOk result (IsScan (above ++ line.now ∷ []) self.new) }
@@ -103,11 +101,10 @@ impl<'a> ManifestScan<'a> {
     }
 }
 
-/// The consignment lines among the lines behind a flight line. The first of these is line 3.
+/// Returns the consignment lines among the lines after a flight line. The first of these is line 3.
 ///
-/// # Errors
-/// The fault of the first line that has one: those of a consignment line, and `Order`. `Memory` of
-/// line 0 says nothing of the lines.
+/// The error is the fault of the first faulty line: that of a consignment line, or `Order`.
+/// `Memory`, line 0, says nothing about the lines.
 pub(crate) fn cargo<'a>(alloc: Global, lines: &[Token<'a>]) -> Result<Vec<FfmLine<'a>>, TextFault>
     requires { length lines.now ≤ most_lines }
     ensures read { IfOk result (λ cargo. AreCargo (texts_of lines.now) cargo.items) }

@@ -7,7 +7,7 @@ ghost use Rattle.ffm_text.specs.Ffm.{field, date_in, flight_line_of, part_of};
 use imp_fields::{Airport, Flight, PartNumber, Why, cut_at_slash, first_field};
 use station_days::{DayMonth, DayTime};
 
-/// What a flight line says.
+/// The values of a flight line.
 #[derive(Clone, Copy, Debug)]
 pub(crate) struct Part {
     pub(crate) sequence: PartNumber,
@@ -16,7 +16,7 @@ pub(crate) struct Part {
     pub(crate) loaded: Airport,
 }
 
-/// The fields of a flight line: the first three, and the fourth where there is one.
+/// The fields of a flight line: the first three, and the fourth if there is one.
 #[derive(Clone, Copy)]
 struct LineFields<'a> {
     sequence: &'a [u8],
@@ -25,7 +25,7 @@ struct LineFields<'a> {
     loaded: Option<&'a [u8]>,
 }
 
-/// The fields of a line that has at least three.
+/// Returns the fields of a line that has at least three.
 fn fields(line: &[u8]) -> Option<LineFields<'_>>
     ensures sequence { IfSome result (λ f. field line.now 0 ≡ Some f.sequence.now) }
     ensures flight { IfSome result (λ f. field line.now 1 ≡ Some f.flight.now) }
@@ -54,14 +54,13 @@ fn fields(line: &[u8]) -> Option<LineFields<'_>>
     }
 }
 
-/// The airport that the fourth field names.
 fn loaded(field: Option<&[u8]>) -> Option<Airport>
     ensures { result ≡ option_and_then airport_of (option_copied field.entry) }
 {
     Airport::read(field?)
 }
 
-/// The date of a field such as `12JAN` or `12JAN1030`, whose time is tested and not kept.
+/// Reads a date such as `12JAN` or `12JAN1030`. The time is tested and dropped.
 fn date(text: &[u8]) -> Option<DayMonth>
     ensures { result ≡ date_in text.now }
 {
@@ -72,11 +71,10 @@ fn date(text: &[u8]) -> Option<DayMonth>
     Some(time.date)
 }
 
-/// What a flight line says. What stands behind the fourth field is not read.
+/// Reads a flight line. Anything after the fourth field is ignored.
 ///
-/// # Errors
-/// The fields are tested from the left: `Date` for a date, or a time behind it, that cannot be
-/// read; `Flight` for any other field that cannot be read, and for a missing one.
+/// The fields are tested from the left. The error is `Date` for a bad date or time, and `Flight`
+/// for any other field that is bad or missing.
 pub(crate) fn flight_line(line: &[u8]) -> Result<Part, Why>
     ensures read { IfOk result (λ p. flight_line_of line.now ≡ Ok (part_of p)) }
     ensures fault { IfErr result (λ why. flight_line_of line.now ≡ Err why) }

@@ -1,5 +1,5 @@
-//! What the types of a written manifest keep, for the proof of what is read again. The functions do
-//! nothing else.
+//! Ranges that the types of a written manifest guarantee, for the proof that it is read back. The
+//! functions do nothing else.
 
 ghost use Rattle.std.specs.Prelude.{◌≤◌, All, length};
 ghost use Rattle.ffm_text.specs.Written.{IsLoad, AreWritten};

@@ -1,5 +1,5 @@
 //! Flight manifest messages (Cargo-IMP FFM): a head, a flight line, points of unloading and
-//! consignment lines among lines that are not read, and a last line.
+//! consignment lines among ignored lines, and a last line.
 #![tactic(auto)]
 
 ghost use Rattle.std.specs.Prelude.{◌≡◌, ℕ, List, None};
@@ -18,27 +18,27 @@ pub use reading::read;
 use station_days::DayMonth;
 pub use writing::write_ffm;
 
-/// A consignment line of a manifest, and the point at which its goods are unloaded. The source of
-/// the line's tokens is that line.
+/// A consignment line of a manifest, with its point of unloading. The source of the line's tokens
+/// is that line.
 #[derive(Clone, Copy, Debug)]
 pub struct FfmLine<'a> {
     pub unload: Airport,
     pub consignment: Consignment<'a>,
 }
 
-/// One part of a flight's manifest.
+/// A part of a flight's manifest.
 #[derive(Debug, Drop)]
 pub struct Ffm<'a> {
     pub sequence: PartNumber,
     pub flight: Flight,
     pub date: DayMonth,
-    /// The airport at which the flight was loaded.
+    /// The airport of loading.
     pub loaded: Airport,
     /// The consignment lines, in the order of the text.
     pub cargo: Vec<FfmLine<'a>>,
 }
 
-/// A waybill's load as a manifest that is sent states it.
+/// A waybill's load in a manifest to be sent.
 #[derive(Clone, Copy, Debug)]
 pub struct Load {
     pub awb: Awb,
@@ -48,12 +48,12 @@ pub struct Load {
     pub pieces: Pieces,
     /// Their weight.
     pub tenths: BookTenths,
-    /// The pieces that were declared in all.
+    /// The declared pieces.
     pub declared: Pieces,
     pub goods: Goods,
 }
 
-/// Lines are a part of a manifest exactly where they have no fault, and then one part only.
+/// Lines are a part of a manifest exactly if they have no fault, and then only one part.
 pub fn ffm_law()
     ensures read { (lines : List (List ℕ)) (m : Manifest) → IsFfm lines m → ffm_fault lines ≡ None }
     ensures faultless { (lines : List (List ℕ)) → ffm_fault lines ≡ None → (m : Manifest)

@@ -11,7 +11,7 @@ use crate::flight_line::flight_line;
 use imp_fields::{Lines, TextFault, Token, Why, fault_at, is_head};
 use std::alloc::Global;
 
-/// Whether the last of some lines is `LAST` or `CONT`.
+/// Returns whether the last line is `LAST` or `CONT`.
 fn has_last_line(lines: &[Token<'_>]) -> bool
     ensures { result ≡ has_last_line (texts_of lines.now) }
 {
@@ -21,15 +21,20 @@ fn has_last_line(lines: &[Token<'_>]) -> bool
     }
 }
 
-/// The part of a manifest that lines are.
+/// Reads a part of a manifest.
 ///
 /// # Errors
-/// The first line, from the top, that is faulty: `Head` where the first isn't `FFM/` and one to
-/// three digits; for the second, the flight line, `Flight` or `Date`; for a line below that begins
-/// with three digits and a hyphen the faults of a consignment line, and then `Order` where no point
-/// of unloading stands above it. Then `Ending`, at the last line, where there is no flight line, or
-/// none behind it, or the last is neither `LAST` nor `CONT`. `Memory` of line 0 says nothing of the
-/// lines.
+///
+/// The fault of the first faulty line:
+///
+/// - `Head`: the first line isn't `FFM/` and one to three digits.
+/// - `Flight` or `Date`: the second line, the flight line, is bad.
+/// - the fault of a consignment line, for a line after it that begins with three digits and a
+///   hyphen, and then `Order` if there is no point of unloading above it.
+/// - `Ending`, at the last line: there is no flight line, or no line after it, or the last one is
+///   neither `LAST` nor `CONT`.
+///
+/// `Memory`, line 0, says nothing about the lines.
 pub fn read<'a>(alloc: Global, lines: &Lines<'a>) -> Result<Ffm<'a>, TextFault>
     ensures read { IfOk result (λ m. IsFfm (line_texts lines.now) (manifest_of m)) }
     ensures fault { IfErr result (IsFaultOf (ffm_fault (line_texts lines.now))) }

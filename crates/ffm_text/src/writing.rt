@@ -24,7 +24,6 @@ fn put(out: &mut Vec<u8>, text: &[u8]) -> Result<(), AllocError>
     out.extend_from_slice(text)
 }
 
-/// Appends a line.
 fn put_line(out: &mut Vec<u8>, line: &[u8]) -> Result<(), AllocError>
     ensures text { OnOk result (out.new.items ≡ out.old.items ++ line_text line.now) }
     ensures begins { Begins out.old.items out.new.items }
@@ -33,7 +32,6 @@ fn put_line(out: &mut Vec<u8>, line: &[u8]) -> Result<(), AllocError>
     put(out, b"\r\n")
 }
 
-/// Appends the flight line.
 fn put_flight_line(
     out: &mut Vec<u8>,
     flight: Flight,
@@ -54,7 +52,7 @@ fn put_flight_line(
     put_line(out, &here.letters())
 }
 
-/// Appends the number and the route of a load, and the slash behind them.
+/// Appends the number and the route of a load, and a slash.
 fn put_route(out: &mut Vec<u8>, load: &Load) -> Result<(), AllocError>
     ensures text { OnOk result (out.new.items ≡ out.old.items ++ route_text load.now) }
     ensures begins { Begins out.old.items out.new.items }
@@ -65,7 +63,7 @@ fn put_route(out: &mut Vec<u8>, load: &Load) -> Result<(), AllocError>
     put(out, b"/")
 }
 
-/// Appends the quantity of a load: with code T where all declared pieces are on the flight, else
+/// Appends the quantity of a load: with code T if all declared pieces are on the flight, otherwise
 /// with code P and the declared pieces as the total.
 fn put_amount(out: &mut Vec<u8>, load: &Load) -> Result<(), AllocError>
     ensures text { OnOk result (out.new.items ≡ out.old.items ++ amount_text load.now) }
@@ -93,7 +91,7 @@ fn put_amount(out: &mut Vec<u8>, load: &Load) -> Result<(), AllocError>
     put(out, &quantity[..end])
 }
 
-/// Appends a slash and the goods, where there are any.
+/// Appends a slash and the goods, if there are any.
 fn put_goods(out: &mut Vec<u8>, goods: &Goods) -> Result<(), AllocError>
     ensures text { OnOk result (out.new.items ≡ out.old.items ++ goods_text goods.now) }
     ensures begins { Begins out.old.items out.new.items }
@@ -106,7 +104,6 @@ fn put_goods(out: &mut Vec<u8>, goods: &Goods) -> Result<(), AllocError>
     put(out, goods)
 }
 
-/// Appends the consignment line of a load.
 fn put_load(out: &mut Vec<u8>, load: &Load) -> Result<(), AllocError>
     ensures text { OnOk result (out.new.items ≡ out.old.items ++ line_text (load_line load.now)) }
     ensures begins { Begins out.old.items out.new.items }
@@ -117,7 +114,6 @@ fn put_load(out: &mut Vec<u8>, load: &Load) -> Result<(), AllocError>
     put(out, b"\r\n")
 }
 
-/// Appends the consignment lines of loads.
 fn put_loads(out: &mut Vec<u8>, loads: &[Load]) -> Result<(), AllocError>
     ensures text { OnOk result
         (out.new.items ≡ out.old.items ++ sent_text (map load_line loads.now)) }
@@ -129,7 +125,7 @@ fn put_loads(out: &mut Vec<u8>, loads: &[Load]) -> Result<(), AllocError>
     Ok(())
 }
 
-/// Appends a manifest; where there was no memory, a part of it.
+/// Appends a manifest, or a prefix if memory runs out.
 fn put_manifest(
     out: &mut Vec<u8>,
     flight: Flight,
@@ -149,13 +145,11 @@ fn put_manifest(
     put_line(out, b"LAST")
 }
 
-/// Appends the first part of a manifest, which is also its last: the loads that a flight takes on a
-/// date from one airport to one other. Each line ends with a carriage return and a newline. What is
-/// written is read as what was handed in. The memory is that of the buffer, so that no allocator is
-/// passed.
+/// Appends a manifest in one part: the loads of a flight on a date from one airport to another.
+/// Each line ends with CR LF. The text is read back as the values written. The buffer's allocator
+/// is used.
 ///
-/// # Errors
-/// Want of memory, which leaves the buffer as it was.
+/// If memory runs out, the buffer is unchanged.
 pub fn write_ffm(
     out: &mut Vec<u8>,
     flight: Flight,
@@ -169,7 +163,7 @@ pub fn write_ffm(
         (out.new.items ≡ out.old.items ++ sent_text (ffm_lines flight date here unload loads.now)) }
     ensures err { OnErr result (out.new.items ≡ out.old.items) }
 
-    // The lines that are sent are normal, and are read as what was written.
+    // The sent lines are normal, and are read back as the values written.
     ensures normal { normal_lines (sent_text (ffm_lines flight date here unload loads.now))
         ≡ Ok (ffm_lines flight date here unload loads.now) }
     ensures read_again { IsFfm (ffm_lines flight date here unload loads.now)

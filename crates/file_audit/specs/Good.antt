@@ -1,5 +1,5 @@
--- What it is that a database, read as of a version, holds the tables of a station, and that they
--- are lawful, table by table.
+-- A database, read as a version, that has the tables of a station, and their lawfulness, table by
+-- table.
 use Rattle.std.specs.Prelude.{◌≡◌, ℕ, ℤ, List, [], ◌∷◌}
 use Rattle.std.specs.List.{AllByRecursion}
 use Rattle.std.specs.FinMap.{entries}
@@ -11,12 +11,12 @@ use Rattle.table_audits.specs.declared.name.TableName.{TableName}
 use Rattle.table_audits.specs.declared.name.TableName.TheVariants.{Station, Waybill, Waybill2, Stock, Flight, Moves, Expected, Part, Trail, Outbox, KeptKey, KeptText, Counts, Build}
 use Rattle.table_audits.specs.Lawful.{IsLawfulTable}
 
--- the table `station` has one row, of the version as which it is read, and these tables have it as
--- version 2 has it
+-- the table `station` has one row, of the version as which it is read; in these tables it is of
+-- version 2
 abbrev pub HoldsStation : Reading → Tables → Type 0
 HoldsStation db t = (airport : List ℕ) × (confirmed : ℤ) × (station_read db ≡ one_row airport confirmed) × (t.stations ≡ new_row airport confirmed ∷ [])
 
--- the database holds the table of this name with the rows of these tables
+-- the database has the table with this name, with the rows of these tables
 abbrev pub IsHeld : TableName → Reading → Tables → Type 0
 IsHeld Station db t = HoldsStation db t
 IsHeld Waybill db t = HoldsOldWaybills db.version db.database t.old_waybills
@@ -33,7 +33,7 @@ IsHeld KeptText db t = HoldsKeptText db.database (entries t.kept_texts)
 IsHeld Counts db t = HoldsCounts db.database (entries t.counts)
 IsHeld Build db t = HoldsBuild db.database (entries t.builds)
 
--- the tables before a table, in the order in which they are audited, the nearest first
+-- the tables before a table, in the order of their audits, the nearest first
 abbrev pub before : TableName → List TableName
 before Station = []
 before Waybill = Station ∷ []
@@ -50,7 +50,7 @@ before KeptText = KeptKey ∷ Outbox ∷ Trail ∷ Part ∷ Expected ∷ Moves �
 before Counts = KeptText ∷ KeptKey ∷ Outbox ∷ Trail ∷ Part ∷ Expected ∷ Moves ∷ Flight ∷ Stock ∷ Waybill2 ∷ Waybill ∷ Station ∷ []
 before Build = Counts ∷ KeptText ∷ KeptKey ∷ Outbox ∷ Trail ∷ Part ∷ Expected ∷ Moves ∷ Flight ∷ Stock ∷ Waybill2 ∷ Waybill ∷ Station ∷ []
 
--- the table is held, and lawful beside those before it
+-- the table is there, and lawful with those before it
 pub record IsGood (db : Reading) (t : Tables) (name : TableName) : Type 0 where
   pub held : IsHeld name db t
   pub lawful : IsLawfulTable name t
@@ -62,7 +62,7 @@ AreGood db t = AllByRecursion (IsGood db t)
 abbrev pub IsStationOf : Reading → Tables → Type 0
 IsStationOf db t = AreGood db t (Build ∷ before Build)
 
--- the first table that isn't good: so far the database holds a station's tables, and no further
+-- the first bad table: up to it the database has a station's tables
 pub record IsFirstBad (db : Reading) (name : TableName) : Type 0 where
   pub tables : Tables
   pub so_far : AreGood db tables (before name)

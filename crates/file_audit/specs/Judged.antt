@@ -1,4 +1,4 @@
--- One table after another: what is known of a database of which some tables were judged.
+-- The audit of one table after another.
 use Rattle.std.specs.Prelude.{◌≡◌, ◌∷◌, ℕ, Bool, true, false, IsTrue, List, length, Option, Some, None, Result, Ok, Err}
 use Rattle.std.specs.FinMap.{entries}
 use Rattle.sqlite.specs.declared.error.Error.{Error}
@@ -19,20 +19,20 @@ use Rattle.table_audits.specs.Sums.{AreSums}
 use Rattle.table_audits.specs.Audited.{flights_of}
 use Rattle.file_audit.specs.Good.{before, AreGood, IsStationOf, IsFirstBad}
 
--- ---- what is known of the tables before a table
+-- ---- the tables before a table
 
--- the database holds the tables of a station before this table, all of them good
+-- the tables before this table are all good
 abbrev pub HasBefore : TableName → Reading → Type 0
 HasBefore name db = (t : Tables) × AreGood db t (before name)
 
--- this holds of the tables before this table, where they are good
+-- a property of the tables before this table, if they are good
 abbrev pub OfBefore : TableName → Reading → (Tables → Type 0) → Type 0
 OfBefore name db Is = (t : Tables) → AreGood db t (before name) → Is t
 
 abbrev pub HasAirport : List ℕ → Reading → Type 0
 HasAirport airport db = OfBefore table.Waybill db (λ t. airport_in t.stations ≡ airport)
 
--- the number of the last message that was confirmed
+-- the number of the last confirmed message
 abbrev pub HasMark : ℕ → Reading → Type 0
 HasMark confirmed db = OfBefore table.Waybill db (λ t. confirmed_in t.stations ≡ confirmed)
 
@@ -45,11 +45,10 @@ HasFlights flights db = OfBefore table.Moves db (λ t. entries t.flights ≡ fli
 abbrev pub HasParts : List (PartKey × List ℕ) → Reading → Type 0
 HasParts parts db = OfBefore table.Trail db (λ t. entries t.parts ≡ parts)
 
--- what the moves of the book come to
+-- the sums of the book's moves
 abbrev pub HasSums : BookSums → Reading → Type 0
 HasSums sums db = OfBefore table.Expected db (λ t. AreSums (flights_of (entries t.flights)) sums (running (book_in t.moves)))
 
--- how many moves, lines of the trail and messages there are
 abbrev pub HasMoves : ℕ → Reading → Type 0
 HasMoves count db = OfBefore table.Expected db (λ t. count ≡ length t.moves)
 
@@ -59,33 +58,32 @@ HasLines count db = OfBefore table.Outbox db (λ t. count ≡ length t.trail)
 abbrev pub HasMessages : ℕ → Reading → Type 0
 HasMessages count db = OfBefore table.KeptKey db (λ t. count ≡ length t.outbox)
 
--- ---- what is said of a table
+-- ---- one table
 
--- the table is good too, or it is the first that isn't
+-- the table is good too, or it is the first bad one
 abbrev pub IsJudged : TableName → Reading → Bool → Type 0
 IsJudged name db true = (t : Tables) × AreGood db t (name ∷ before name)
 IsJudged name db false = IsFirstBad db name
 
--- the table is good too, and this is kept of it; or it is the first that isn't
+-- the table is good too, with this property; or it is the first bad one
 abbrev pub HasJudged : {X : Type 0} → TableName → (X → Reading → Type 0) → Reading → Option X → Type 0
 HasJudged name Has db None = IsFirstBad db name
 HasJudged name Has db (Some x) = ((t : Tables) × AreGood db t (name ∷ before name)) × Has x db
 
--- how many rows the tables have
 pub record AreSizes (sizes : Sizes) (t : Tables) : Type 0 where
   pub moves : sizes.moves ≡ length t.moves
   pub lines : sizes.lines ≡ length t.trail
   pub messages : sizes.messages ≡ length t.outbox
 
--- all tables are good, and these are their sizes; or this is the first that isn't
+-- all tables are good, with these numbers of rows; or this is the first bad one
 abbrev pub AreJudged : Reading → Result Sizes TableName → Type 0
 AreJudged db (Ok sizes) = (t : Tables) × IsStationOf db t × AreSizes sizes t
 AreJudged db (Err name) = IsFirstBad db name
 
 -- ---- calls
 
--- A call that reads of a database whose tables before this one are good, where this is known of it,
--- returns what is said; and nothing is changed.
+-- A call that reads a database whose tables before this one are good, and that has this property,
+-- returns the stated result and changes nothing.
 abbrev pub JudgesOn : {S X : Type 0} → Ghosts S → Held S → Held S → Result X Error → TableName → (Reading → Type 0) → (Reading → X → Type 0) → Type 0
 JudgesOn g old new result name Knows Says =
     HasCleanDisk (state g new) → IsTrue (state g old).is_open → (db : Reading) → db.database ≡ (state g old).now → HasBefore name db → Knows db

@@ -1,4 +1,4 @@
--- What is said of a database that was found.
+-- The result of the audit of a database.
 use Rattle.std.specs.Prelude.{◌≡◌, Bool, true, false, IsTrue, length, Result, Ok, Err}
 use Rattle.table_load.specs.Reading.{Reading, station_read}
 use Rattle.station_schema.specs.Tables.{Tables}
@@ -9,7 +9,7 @@ use Rattle.file_audit.specs.declared.unfit.Unfit.TheVariants.{NoStation, OtherVe
 use Rattle.file_audit.specs.declared.state.FoundState.{FoundState}
 use Rattle.file_audit.specs.Good.{IsStationOf, IsFirstBad}
 
--- whether the table `station` has a row, and if it is the only one it is of the version as which it
+-- true if the table `station` has a row that, if it is the only one, is of the version as which it
 -- is read
 abbrev pub is_ours : Verdict → Bool
 is_ours no_station = false
@@ -17,13 +17,13 @@ is_ours damaged = true
 is_ours (other_version n) = false
 is_ours (one_row airport confirmed) = true
 
--- why a database is no station's
+-- the reason why a database isn't a station's
 abbrev pub IsUnfit : Reading → Unfit → Type 0
 IsUnfit db NoStation = station_read db ≡ no_station
 IsUnfit db (OtherVersion n) = station_read db ≡ other_version n
 IsUnfit db (Unlawful name) = IsTrue (is_ours (station_read db)) × IsFirstBad db name
 
--- what is said of the station besides its rows
+-- the findings besides the rows: the airport, the last confirmed message, and the numbers of rows
 pub record Tells (found : FoundState) (t : Tables) : Type 0 where
   pub here : found.here ≡ airport_in t.stations
   pub confirmed : found.confirmed ≡ confirmed_in t.stations
@@ -31,7 +31,7 @@ pub record Tells (found : FoundState) (t : Tables) : Type 0 where
   pub lines : found.sizes.lines ≡ length t.trail
   pub messages : found.sizes.messages ≡ length t.outbox
 
--- the database is a station's, and this is said of it; or why it isn't
+-- the database is a station's, with these findings; or the reason why it isn't
 abbrev pub Judges : Reading → Result FoundState Unfit → Type 0
 Judges db (Ok found) = (t : Tables) × IsStationOf db t × Tells found t
 Judges db (Err unfit) = IsUnfit db unfit

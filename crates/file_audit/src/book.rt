@@ -11,7 +11,7 @@ use std::alloc::Global;
 use table_audits::{Book, BookAudit, BookBeside};
 use table_load::fold_moves;
 
-/// Reads `moves`, row by row. `None`: it is missing or not lawful.
+/// Reads `moves`, row by row. Returns `None` if it is missing or unlawful.
 pub(crate) fn good_book<S: Alter>(
     alloc: Global,
     conn: &mut Connection<S>,

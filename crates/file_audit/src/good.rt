@@ -20,7 +20,7 @@ use table_load::{
     found_counts, found_expected, found_flights, found_kept_texts, found_parts, found_stock,
 };
 
-/// Reads `waybill`: whether it is there and lawful.
+/// Reads `waybill`. Returns whether it exists and is lawful.
 pub(crate) fn are_old_waybills_good<S: Alter>(
     alloc: Global,
     conn: &mut Connection<S>,
@@ -36,7 +36,7 @@ pub(crate) fn are_old_waybills_good<S: Alter>(
     Ok(are_old_waybills_lawful(&rows))
 }
 
-/// Reads the waybills. `None`: they are missing or not lawful.
+/// Reads the waybills. Returns `None` if they are missing or unlawful.
 pub(crate) fn good_waybills<S: Alter>(
     alloc: Global,
     conn: &mut Connection<S>,
@@ -56,7 +56,7 @@ pub(crate) fn good_waybills<S: Alter>(
     Ok(Some(rows))
 }
 
-/// Reads `stock`: whether it is there and lawful.
+/// Reads `stock`. Returns whether it exists and is lawful.
 pub(crate) fn are_stock_good<S: Alter>(
     alloc: Global,
     conn: &mut Connection<S>,
@@ -72,7 +72,7 @@ pub(crate) fn are_stock_good<S: Alter>(
     Ok(are_stock_lawful(&rows, waybills))
 }
 
-/// Reads the flights. `None`: `flight` is missing or not lawful.
+/// Reads the flights. Returns `None` if `flight` is missing or unlawful.
 pub(crate) fn good_flights<S: Alter>(
     alloc: Global,
     conn: &mut Connection<S>,
@@ -92,7 +92,7 @@ pub(crate) fn good_flights<S: Alter>(
     Ok(Some(rows))
 }
 
-/// Reads `expected`: whether it is there and lawful.
+/// Reads `expected`. Returns whether it exists and is lawful.
 pub(crate) fn are_expected_good<S: Alter>(
     alloc: Global,
     conn: &mut Connection<S>,
@@ -108,7 +108,7 @@ pub(crate) fn are_expected_good<S: Alter>(
     Ok(are_expected_lawful(&rows, waybills))
 }
 
-/// Reads the parts of manifests. `None`: `part` is missing or not lawful.
+/// Reads the parts of manifests. Returns `None` if `part` is missing or unlawful.
 pub(crate) fn good_parts<S: Alter>(
     alloc: Global,
     conn: &mut Connection<S>,
@@ -127,7 +127,7 @@ pub(crate) fn good_parts<S: Alter>(
     Ok(Some(rows))
 }
 
-/// Reads `trail`, row by row, and counts its lines. `None`: it is missing or not lawful.
+/// Reads `trail`, row by row, and counts its lines. Returns `None` if it is missing or unlawful.
 pub(crate) fn good_trail<S: Alter>(
     alloc: Global,
     conn: &mut Connection<S>,
@@ -145,7 +145,8 @@ pub(crate) fn good_trail<S: Alter>(
     Ok(lawful_lines(&lines))
 }
 
-/// Reads `outbox`, row by row, and counts its messages. `None`: it is missing or not lawful.
+/// Reads `outbox`, row by row, and counts its messages. Returns `None` if it is missing or
+/// unlawful.
 pub(crate) fn good_outbox<S: Alter>(
     alloc: Global,
     conn: &mut Connection<S>,
@@ -163,7 +164,7 @@ pub(crate) fn good_outbox<S: Alter>(
     Ok(lawful_messages(&messages, confirmed))
 }
 
-/// Reads `kept_key`, row by row: whether it is there and lawful.
+/// Reads `kept_key`, row by row. Returns whether it exists and is lawful.
 pub(crate) fn are_kept_keys_good<S: Alter>(
     alloc: Global,
     conn: &mut Connection<S>,
@@ -179,7 +180,7 @@ pub(crate) fn are_kept_keys_good<S: Alter>(
     Ok(are_kept_keys_lawful(&keys))
 }
 
-/// Reads `kept_text`: whether it is there and lawful.
+/// Reads `kept_text`. Returns whether it exists and is lawful.
 pub(crate) fn are_kept_texts_good<S: Alter>(
     alloc: Global,
     conn: &mut Connection<S>,
@@ -195,7 +196,7 @@ pub(crate) fn are_kept_texts_good<S: Alter>(
     Ok(are_kept_texts_lawful(&rows, &parts))
 }
 
-/// Reads `counts`: whether it is there and lawful.
+/// Reads `counts`. Returns whether it exists and is lawful.
 pub(crate) fn are_counts_good<S: Alter>(
     alloc: Global,
     conn: &mut Connection<S>,
@@ -211,7 +212,7 @@ pub(crate) fn are_counts_good<S: Alter>(
     Ok(are_counts(sums, &rows))
 }
 
-/// Reads `build`: whether it is there and lawful.
+/// Reads `build`. Returns whether it exists and is lawful.
 pub(crate) fn are_builds_good<S: Alter>(
     alloc: Global,
     conn: &mut Connection<S>,

@@ -19,7 +19,7 @@ use std::alloc::Global;
 use table_audits::{Book, BookBeside, TableName};
 use table_load::{FileVersion, FlightEntry, PartEntry};
 
-/// Reads and judges `build`.
+/// Audits `build`.
 fn judged_builds<S: Alter>(
     alloc: Global,
     conn: &mut Connection<S>,
@@ -39,7 +39,7 @@ fn judged_builds<S: Alter>(
     Ok(Ok(sizes))
 }
 
-/// Reads and judges the tables from `counts` on.
+/// Audits the tables from `counts` on.
 fn judged_counts<S: Alter>(
     alloc: Global,
     conn: &mut Connection<S>,
@@ -59,7 +59,7 @@ fn judged_counts<S: Alter>(
     judged_builds(alloc, conn, book, flights, sizes)
 }
 
-/// Reads and judges the tables from `kept_text` on.
+/// Audits the tables from `kept_text` on.
 fn judged_kept_texts<S: Alter>(
     alloc: Global,
     conn: &mut Connection<S>,
@@ -81,7 +81,7 @@ fn judged_kept_texts<S: Alter>(
     judged_counts(alloc, conn, book, flights, sizes)
 }
 
-/// Reads and judges the tables from `kept_key` on.
+/// Audits the tables from `kept_key` on.
 fn judged_kept_keys<S: Alter>(
     alloc: Global,
     conn: &mut Connection<S>,
@@ -103,7 +103,7 @@ fn judged_kept_keys<S: Alter>(
     judged_kept_texts(alloc, conn, parts, book, flights, sizes)
 }
 
-/// Reads and judges the tables from `outbox` on.
+/// Audits the tables from `outbox` on.
 fn judged_outbox<S: Alter>(
     alloc: Global,
     conn: &mut Connection<S>,
@@ -130,7 +130,7 @@ fn judged_outbox<S: Alter>(
     judged_kept_keys(alloc, conn, parts, book, flights, sizes)
 }
 
-/// Reads and judges the tables from `trail` on.
+/// Audits the tables from `trail` on.
 fn judged_trail<S: Alter>(
     alloc: Global,
     conn: &mut Connection<S>,
@@ -152,7 +152,7 @@ fn judged_trail<S: Alter>(
     judged_outbox(alloc, conn, confirmed, parts, book, flights, lines)
 }
 
-/// Reads and judges the tables from `part` on.
+/// Audits the tables from `part` on.
 fn judged_parts<S: Alter>(
     alloc: Global,
     conn: &mut Connection<S>,
@@ -173,7 +173,7 @@ fn judged_parts<S: Alter>(
     judged_trail(alloc, conn, confirmed, waybills, parts, book, flights)
 }
 
-/// Reads and judges the tables from `expected` on.
+/// Audits the tables from `expected` on.
 fn judged_expected<S: Alter>(
     alloc: Global,
     conn: &mut Connection<S>,
@@ -194,7 +194,7 @@ fn judged_expected<S: Alter>(
     judged_parts(alloc, conn, confirmed, waybills, book, flights)
 }
 
-/// Reads and judges the tables from `moves` on.
+/// Audits the tables from `moves` on.
 fn judged_moves<S: Alter>(
     alloc: Global,
     conn: &mut Connection<S>,
@@ -213,7 +213,7 @@ fn judged_moves<S: Alter>(
     judged_expected(alloc, conn, confirmed, waybills, &book, &flights)
 }
 
-/// Reads and judges the tables from `flight` on.
+/// Audits the tables from `flight` on.
 fn judged_flights<S: Alter>(
     alloc: Global,
     conn: &mut Connection<S>,
@@ -232,7 +232,7 @@ fn judged_flights<S: Alter>(
     judged_moves(alloc, conn, confirmed, BookBeside { waybills, flights })
 }
 
-/// Reads and judges the tables from `stock` on.
+/// Audits the tables from `stock` on.
 fn judged_stock<S: Alter>(
     alloc: Global,
     conn: &mut Connection<S>,
@@ -251,7 +251,7 @@ fn judged_stock<S: Alter>(
     judged_flights(alloc, conn, airport, confirmed, waybills)
 }
 
-/// Reads and judges the waybills and the tables after them.
+/// Audits the waybills and the tables after them.
 fn judged_waybills<S: Alter>(
     alloc: Global,
     conn: &mut Connection<S>,
@@ -270,9 +270,8 @@ fn judged_waybills<S: Alter>(
     judged_stock(alloc, conn, airport, confirmed, waybills)
 }
 
-/// Reads and judges the tables after `station`, each against those before it: how many rows they
-/// have, or the first that is missing or not lawful. Of a table only what a later one is tested
-/// against is kept.
+/// Audits the tables after `station`, each with those before it. Returns their numbers of rows, or
+/// the first table that is missing or unlawful. It keeps only the rows that later tests need.
 pub(crate) fn judged_tables<S: Alter>(
     alloc: Global,
     conn: &mut Connection<S>,

@@ -9,15 +9,15 @@ ghost use Rattle.file_audit.specs.declared.unfit.Unfit.{Unfit};
 ghost use Rattle.file_audit.specs.Good.{IsStationOf};
 ghost use Rattle.file_audit.specs.Verdict.{IsUnfit};
 
-/// The law that a database with a station's tables, all of them lawful, is never unfit.
+/// A database with a station's tables, all of them lawful, is never unfit.
 #[tactic(auto, using(crate::proofs::Judged::fit))]
 pub fn station_is_fit()
     ensures { (db : Reading) (t : Tables) → IsStationOf db t → (unfit : Unfit)
         → ¬ IsUnfit db unfit }
 {}
 
-/// The law that a station's tables are lawful, each of them, and that in a database with the tables
-/// that a station declares they are its typed tables; in a file of version 1 those that it becomes.
+/// A station's tables are all lawful. In a database with the tables that a station declares, they
+/// are its typed tables; in a file of version 1 those after an upgrade.
 pub fn station_is_typed()
     ensures lawful { (db : Reading) (t : Tables) → IsStationOf db t → (name : TableName)
         → IsLawfulTable name t }
@@ -27,8 +27,8 @@ pub fn station_is_typed()
         → upgraded (old_tables_of db.trees) ≡ t }
 {}
 
-/// The law that a database with the tables that a station declares is a station's where its typed
-/// tables are lawful, each of them.
+/// A database with the tables that a station declares is a station's if its typed tables are all
+/// lawful.
 pub fn lawful_is_station()
     ensures { (db : Database) → IsStation db
         → ((name : TableName) → IsLawfulTable name (tables_of db.trees))

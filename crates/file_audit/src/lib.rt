@@ -1,5 +1,5 @@
-//! The audit of a database that was found: whether it is a station's, and if not, which table is
-//! the first that isn't good.
+//! The audit of a database that was found: whether it is a station's, and if not, the first bad
+//! table.
 #![tactic(auto)]
 
 mod book;

@@ -8,14 +8,14 @@ ghost use Rattle.table_audits.specs.declared.name.TableName.TheVariants as table
 use imp_fields::Airport;
 use table_audits::is_station_lawful;
 
-/// The station's own row: its airport, and the number of the last message that was confirmed.
+/// The station's own row: its airport, and the number of the last confirmed message.
 #[derive(Drop)]
 pub(crate) struct OwnRow {
     pub(crate) here: Airport,
     pub(crate) confirmed: u32,
 }
 
-/// Reads the station's own row. `None`: it isn't lawful.
+/// Returns the station's own row, or `None` if it is unlawful.
 pub(crate) fn own_row(airport: &str, confirmed: i64) -> Option<OwnRow>
     ensures exact { (t : Tables) → t.stations ≡ new_row airport.now confirmed ∷ []
         → (IsSome result ↔ IsLawfulTable table.Station t) }

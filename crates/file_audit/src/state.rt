@@ -16,18 +16,18 @@ use std::alloc::Global;
 use table_audits::TableName;
 use table_load::{FileVersion, StationFound, found_station};
 
-/// What is said of a station besides its rows.
+/// The findings about a station besides its rows.
 #[derive(Clone, Copy, Debug, PartialEq, Eq)]
 pub struct FoundState {
     /// The airport of the station.
     pub here: Airport,
-    /// The number of the last message that was confirmed.
+    /// The number of the last confirmed message.
     pub confirmed: u32,
-    /// How many moves, lines of the trail and messages there are.
+    /// The numbers of moves, trail lines and messages.
     pub sizes: Sizes,
 }
 
-/// Reads and judges a database whose table `station` has this one row, of this version.
+/// Audits a database whose table `station` has this one row, of this version.
 fn found_from<S: Alter>(
     alloc: Global,
     conn: &mut Connection<S>,
@@ -55,12 +55,13 @@ fn found_from<S: Alter>(
     }
 }
 
-/// Reads and judges any database as of a version: its tables are those of a station and lawful, or
-/// why they aren't. The table `station` is looked at first; the others are read in their order,
-/// each by one statement, and tested beside those before it, of which only what a later test needs
-/// is kept. It stops at the first that isn't good. The connection is open. On
-/// error memory is out, there is no number for a row, or the database could not be read: nothing
-/// was done, or the transaction that was open is undone.
+/// Audits any database as a version. Returns what was found, or the reason why it isn't a
+/// station's. The table `station` is read first; the others follow in their order, each read by one
+/// statement and tested with those before it, of which only what later tests need is kept. The
+/// audit stops at the first bad table.
+///
+/// Fails if memory runs out, a row can't be numbered, or the database can't be read. Then an open
+/// transaction may have been rolled back.
 pub fn found_state<S: Alter>(
     alloc: Global,
     conn: &mut Connection<S>,

@@ -1,12 +1,12 @@
 use table_audits::TableName;
 
-/// Why a database is no station's.
+/// The reason why a database isn't a station's.
 #[derive(Clone, Copy, Debug, PartialEq, Eq)]
 pub enum Unfit {
-    /// There is no table `station`, or it has no row.
+    /// The table `station` is missing or has no row.
     NoStation,
-    /// The station's file is of this version, which is not the one that is asked for.
+    /// The version of the file, which isn't the expected one.
     OtherVersion(i64),
-    /// This is the first table that is missing or isn't lawful.
+    /// The first table that is missing or unlawful.
     Unlawful(TableName),
 }

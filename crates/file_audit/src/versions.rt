@@ -11,7 +11,7 @@ use station_rows::WaybillRow;
 use std::alloc::{AllocError, Global};
 use table_load::{FileVersion, OldWaybillEntry, found_old_waybills, found_waybills};
 
-/// The waybills of a file of version 1, with no day.
+/// Returns the waybills of a file of version 1, without a day.
 fn undated_rows(alloc: Global, olds: Vec<OldWaybillEntry>) -> Result<Vec<WaybillRow>, AllocError>
     ensures { IfOk result (λ rows. rows.items ≡ map undated_row olds.items) }
 {
@@ -29,7 +29,7 @@ fn undated_rows(alloc: Global, olds: Vec<OldWaybillEntry>) -> Result<Vec<Waybill
         .collect(alloc)
 }
 
-/// Reads the rows of `waybill` that are to be none.
+/// Reads the rows of `waybill`, of which there must be none.
 pub(crate) fn read_old_waybills<S: Alter>(
     alloc: Global,
     conn: &mut Connection<S>,

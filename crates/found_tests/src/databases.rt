@@ -1,5 +1,5 @@
-//! Databases that were found: a station's tables, right or damaged, that no rule of the database
-//! guards, and stations that go on.
+//! Databases that are opened: a station's tables, right or damaged, without constraints of the
+//! database, and stations over them.
 use crate::disks::{FileBytes, found_in};
 use crate::faults::fault_said;
 use crate::listing::{all_rows, columns_of, rows_of};
@@ -12,7 +12,7 @@ use std::alloc::Global;
 use telegrams::read_telegram;
 use test_kit::{Job, answered, answers_said, holder, keyed, noon, say, shown, stock, waybill};
 
-/// What is asked of the readers of a station that tells what the day's does.
+/// The readers of a station compared with those over the day's tables.
 const ASKED: [(&str, &str); 9] = [
     ("waybill", "055-00000114"),
     ("waybill", "020-12345675"),
@@ -25,19 +25,18 @@ const ASKED: [(&str, &str); 9] = [
     ("trail", "100"),
 ];
 
-/// What the calls of a file are about: the tables of a day, and a station or the connection that
-/// was left of one.
+/// The state of a file's calls: the tables of a day, and a station, or the connection left by one.
 #[derive(Drop)]
 pub struct FoundAnswers<S: Fresh> {
     alloc: Global,
-    /// The statements that make the tables and fill them.
+    /// The statements that make and fill the tables.
     day: String,
     station: Option<Station<S>>,
     conn: Option<Connection<S>>,
 }
 
 impl<S: Fresh> FoundAnswers<S> {
-    /// No table, no station and no connection yet.
+    /// Starts without tables, station and connection.
     pub fn new(alloc: Global) -> FoundAnswers<S> {
         FoundAnswers {
             alloc,
@@ -47,7 +46,7 @@ impl<S: Fresh> FoundAnswers<S> {
         }
     }
 
-    /// What comes of what is asked of a database.
+    /// Runs one call on a database and returns its result as text.
     pub fn answer(&mut self, asked: &str, text: &[u8]) -> Option<String> {
         let alloc = self.alloc;
         match asked {
@@ -81,8 +80,8 @@ impl<S: Fresh> FoundAnswers<S> {
         }
     }
 
-    /// What comes of what is asked of a station. A word of no call names a damage of the day's
-    /// tables.
+    /// Runs one call on a station and returns its result as text. A word that isn't a call names a
+    /// damage of the day's tables.
     fn ask(&mut self, asked: &str, text: &[u8]) -> Option<String> {
         match asked {
             "act" => {
@@ -99,7 +98,7 @@ impl<S: Fresh> FoundAnswers<S> {
         }
     }
 
-    /// Notes the statements of a table.
+    /// Records the statements of a table.
     fn note(&mut self, text: &str) -> Option<String> {
         let text = statements(self.alloc, text.as_bytes())?;
         self.day.push_str(text.as_str()).ok()?;
@@ -107,12 +106,11 @@ impl<S: Fresh> FoundAnswers<S> {
         say(self.alloc, "noted")
     }
 
-    /// The day's tables.
     fn day_tables(&self) -> Option<Connection<S>> {
         database(self.alloc, self.day.as_str())
     }
 
-    /// The day's tables after further statements.
+    /// Returns the day's tables after further statements.
     fn damaged(&self, text: &[u8]) -> Option<Connection<S>> {
         let mut conn = self.day_tables()?;
         let text = statements(self.alloc, text)?;
@@ -132,7 +130,7 @@ impl<S: Fresh> FoundAnswers<S> {
         say(self.alloc, "ok")
     }
 
-    /// Declares a table otherwise. Its rows stay.
+    /// Declares a table differently, and keeps its rows.
     fn declare(&mut self, text: &str) -> Option<String> {
         let (table, declared) = text.split_once(' ')?;
         let columns = columns_of(table)?;
@@ -148,7 +146,7 @@ impl<S: Fresh> FoundAnswers<S> {
         say(self.alloc, "ok")
     }
 
-    /// The rows that a query gives. The station ends.
+    /// Ends the station, and returns the rows of a query.
     fn query(&mut self, text: &[u8]) -> Option<String> {
         let query = statements(self.alloc, text)?;
         let mut conn = self.connection()?;
@@ -157,7 +155,7 @@ impl<S: Fresh> FoundAnswers<S> {
         said
     }
 
-    /// The connection of the station, which ends, or the one that was left.
+    /// Ends the station and returns its connection, or the one that was left.
     fn connection(&mut self) -> Option<Connection<S>> {
         match self.station.take() {
             Some(station) => Some(station.release()),
@@ -182,7 +180,7 @@ impl<S: Fresh> FoundAnswers<S> {
         }
     }
 
-    /// Takes the tables of the connection to version 2.
+    /// Upgrades the tables of the connection to version 2.
     fn migrate_tables(&mut self) -> Option<String> {
         let conn = self.connection()?;
         match migrate(self.alloc, conn) {
@@ -202,7 +200,7 @@ impl<S: Fresh> FoundAnswers<S> {
         said
     }
 
-    /// Whether the rows of the station are those of the day's tables.
+    /// Returns whether the rows of the station are those of the day's tables.
     fn compare(&mut self) -> Option<String> {
         let mut day = self.day_tables()?;
         let mut conn = self.connection()?;
@@ -218,18 +216,17 @@ impl<S: Fresh> FoundAnswers<S> {
         }
     }
 
-    /// The answer to an input.
     fn give(&mut self, input: &Input<'_>) -> Option<String> {
         self.call(Call::Act(input))
     }
 
-    /// What the station says to a call.
+    /// Returns the station's answer to a call.
     fn call(&mut self, call: Call<'_>) -> Option<String> {
         let alloc = self.alloc;
         ask(self.station.as_mut()?, Calling { alloc, call })
     }
 
-    /// Whether the readers of the station tell what they tell over the day's tables.
+    /// Returns whether the readers of the station return the same as over the day's tables.
     fn tell_as_day(&mut self) -> Option<String> {
         let Ok(mut day) = attach(self.alloc, self.day_tables()?) else {
             return None;
@@ -245,19 +242,19 @@ impl<S: Fresh> FoundAnswers<S> {
     }
 }
 
-/// The statements of a case, whose texts stand between double quotes.
+/// Returns the statements of a case, with double quotes for single ones.
 pub fn statements(alloc: Global, text: &[u8]) -> Option<String> {
     shown(text).replace(alloc, '"', "'").ok()
 }
 
-/// A database in memory after these statements.
+/// Returns a database in memory after these statements.
 fn database<S: Fresh>(alloc: Global, statements: &str) -> Option<Connection<S>> {
     let mut conn = S::open(alloc)?;
     conn.execute_batch(statements).ok()?;
     Some(conn)
 }
 
-/// Why there is no station, and whether the connection came back inside a transaction.
+/// Returns why there is no station, and whether the connection is inside a transaction.
 fn refusal_said<S: Alter>(
     alloc: Global,
     conn: &Connection<S>,
@@ -271,7 +268,7 @@ fn refusal_said<S: Alter>(
     }
 }
 
-/// Whether a database is a station's, or why it is none.
+/// Returns whether a database is a station's, or why it isn't.
 fn found<S: Alter + Drop>(alloc: Global, conn: Connection<S>) -> Option<String> {
     match attach(alloc, conn) {
         Ok(_) => say(alloc, "ok"),
@@ -279,7 +276,7 @@ fn found<S: Alter + Drop>(alloc: Global, conn: Connection<S>) -> Option<String> 
     }
 }
 
-/// What is found in a database file, with no log beside it.
+/// Returns what an opening finds in a database file without a log.
 fn found_in_file(alloc: Global, bytes: &[u8]) -> Option<String> {
     let mut files = FileBytes::new(alloc);
     files.db.extend_from_slice(bytes).ok()?;
@@ -293,13 +290,13 @@ enum Call<'a> {
     Act(&'a Input<'a>),
     /// Commands under keys, as one list.
     List(&'a str),
-    /// One reader, with the text that says of what.
+    /// One reader, with its argument.
     Reader(&'a str, &'a [u8]),
-    /// Each reader that `ASKED` has.
+    /// Each reader in `ASKED`.
     AllReaders,
 }
 
-/// A call that a station has.
+/// A call of any keeper.
 #[derive(Drop)]
 struct Calling<'a> {
     alloc: Global,
@@ -307,7 +304,7 @@ struct Calling<'a> {
 }
 
 impl Job for Calling<'_> {
-    /// What the station says to it.
+    /// The station's answer as text.
     type Out = Option<String>;
 
     fn run<K: Keeper>(self, station: &mut K) -> Option<String> {
@@ -320,7 +317,7 @@ impl Job for Calling<'_> {
     }
 }
 
-/// The answers to commands under keys that come as one list, at noon. A bar parts their texts.
+/// Returns the answers to commands under keys, as one list at noon. A bar separates their texts.
 fn list_told<K: Keeper>(alloc: Global, station: &mut K, texts: &str) -> Option<String> {
     let mut inputs = Vec::new(alloc);
     for text in texts.split('|') {
@@ -334,7 +331,7 @@ fn list_told<K: Keeper>(alloc: Global, station: &mut K, texts: &str) -> Option<S
     }
 }
 
-/// What a reader tells of a number, or hands out to a sink of so many rows.
+/// Returns a reader's record of a number, or the rows that it hands out to a sink of this size.
 fn told<K: Keeper>(alloc: Global, station: &mut K, asked: &str, text: &[u8]) -> Option<String> {
     match asked {
         "waybill" => waybill(alloc, station, text),
@@ -347,7 +344,7 @@ fn told<K: Keeper>(alloc: Global, station: &mut K, asked: &str, text: &[u8]) -> 
     }
 }
 
-/// What the readers tell of the day's waybills and numbers, and hand out.
+/// Returns all that the readers return about the day's waybills and numbers.
 fn all_told<K: Keeper>(alloc: Global, station: &mut K) -> Option<String> {
     let mut said = String::new(alloc);
     for (asked, text) in ASKED {

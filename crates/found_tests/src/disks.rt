@@ -1,4 +1,4 @@
-//! Files in memory that fail from a call on, and what is done over them.
+//! Files in memory that fail from a call on, and work over them.
 use crate::errands::Came;
 use crate::work::Work;
 use awb_number::Awb;
@@ -6,12 +6,12 @@ use sqlite::{Connection, FileStore, Files, Options};
 use sqlite_disk::{Crash, Disk, Fuse, Memory};
 use std::alloc::Global;
 
-/// A file in memory that serves so many calls, and whose bytes are seen.
+/// A file in memory that serves a number of calls, and whose bytes can be read.
 trait FailingDisk: Crash + Drop {
-    /// A file that keeps these bytes. Nothing where memory is out.
+    /// Returns a file with these bytes, or `None` if memory runs out.
     fn holding(alloc: Global, bytes: &[u8], calls: u64) -> Option<Self>;
 
-    /// The bytes that it has after a crash.
+    /// Returns its bytes after a crash.
     fn crashed(self, alloc: Global) -> Option<Vec<u8>>;
 }
 
@@ -38,7 +38,7 @@ pub struct FileBytes {
 }
 
 impl FileBytes {
-    /// Files with nothing in them.
+    /// Returns empty files.
     pub fn new(alloc: Global) -> FileBytes {
         FileBytes {
             log: Vec::new(alloc),
@@ -46,13 +46,13 @@ impl FileBytes {
         }
     }
 
-    /// Whether both have the bytes of others.
+    /// Returns whether both files have the same bytes as others.
     pub fn is_same(&self, other: &FileBytes) -> bool {
         self.log.as_slice() == other.log.as_slice() && self.db.as_slice() == other.db.as_slice()
     }
 }
 
-/// How many calls each of two files serves.
+/// The number of calls that each of two files serves.
 #[derive(Clone, Copy)]
 pub struct Calls {
     log: u64,
@@ -60,7 +60,7 @@ pub struct Calls {
 }
 
 impl Calls {
-    /// All that are made.
+    /// Never fails.
     pub fn all() -> Calls {
         Calls {
             log: u64::MAX,
@@ -68,7 +68,7 @@ impl Calls {
         }
     }
 
-    /// So many of one file, and all of the other.
+    /// Fails one file after this many calls.
     pub fn of(file: FailingFile, calls: u64) -> Calls {
         match file {
             FailingFile::Log => Calls {
@@ -83,23 +83,23 @@ impl Calls {
     }
 }
 
-/// Which of two files fails.
+/// The file that fails.
 #[derive(Clone, Copy, Debug, PartialEq, Eq)]
 pub enum FailingFile {
     Log,
     Database,
 }
 
-/// What came of work over files, and what the files hold after a crash behind it.
+/// The result of work over files, and their bytes after a crash.
 #[derive(Drop)]
 pub struct Visited {
     pub came: Came,
-    /// Whether the log was copied into the database file.
+    /// True if the log was copied into the database file.
     pub is_closed: bool,
     pub bytes: FileBytes,
 }
 
-/// What files have after a crash.
+/// Returns the bytes of files after a crash.
 fn bytes_of<D: FailingDisk>(alloc: Global, files: Files<D>) -> Option<FileBytes> {
     let Files { log, db } = files;
     Some(FileBytes {
@@ -108,8 +108,8 @@ fn bytes_of<D: FailingDisk>(alloc: Global, files: Files<D>) -> Option<FileBytes>
     })
 }
 
-/// A connection over files with these bytes, or what a crash leaves where they can't be opened.
-/// Nothing where memory is out.
+/// Returns a connection over files with these bytes, or the crash state if they can't be opened. It
+/// is `None` if memory runs out.
 fn open_files<D: FailingDisk>(
     alloc: Global,
     bytes: &FileBytes,
@@ -128,8 +128,8 @@ fn open_files<D: FailingDisk>(
     }
 }
 
-/// The files of a connection that is closed, and whether its log was copied into the database file;
-/// or, where a crash is to end it, its files.
+/// Closes a connection. Returns its files, and whether the log was copied into the database file.
+/// If `is_closed` is false, a crash ends it.
 fn ended<D: FailingDisk>(conn: Connection<FileStore<D>>, is_closed: bool) -> (bool, Files<D>) {
     if !is_closed {
         return (false, conn.into_store().close());
@@ -140,9 +140,8 @@ fn ended<D: FailingDisk>(conn: Connection<FileStore<D>>, is_closed: bool) -> (bo
     }
 }
 
-/// Opens files with these bytes, does the work over them, with the waybills that are asked for, and
-/// closes them or lets a crash end it. What came of it, and what the files hold then. Nothing where
-/// memory is out.
+/// Opens files with these bytes, does the work over them, and closes them or lets a crash end it.
+/// Returns the result, and the bytes of the files. It is `None` if memory runs out.
 fn visit_over<D: FailingDisk>(
     alloc: Global,
     bytes: &FileBytes,
@@ -170,7 +169,7 @@ fn visit_over<D: FailingDisk>(
     })
 }
 
-/// The same over files in memory that serve so many calls.
+/// Does the same over files in memory that serve this many calls.
 pub fn visit(
     alloc: Global,
     bytes: &FileBytes,
@@ -181,7 +180,7 @@ pub fn visit(
     visit_over::<Fuse<Memory>>(alloc, bytes, calls, work, numbers)
 }
 
-/// What work over files says that nothing stops, and what a crash leaves then.
+/// Returns the result of work that nothing stops, and the crash state afterwards.
 pub fn said_of(
     alloc: Global,
     bytes: &FileBytes,
@@ -199,7 +198,7 @@ pub fn said_of(
     }
 }
 
-/// What is found in files.
+/// Returns what an opening finds in files.
 pub fn found_in(alloc: Global, bytes: &FileBytes, numbers: &[Awb]) -> Option<String> {
     Some(said_of(alloc, bytes, &Work::Find, numbers)?.0)
 }

@@ -1,4 +1,4 @@
-//! What a station is asked for once it is there, and what comes of it.
+//! Errands for a station, and their outcomes.
 use crate::readers::pending;
 use awb_number::Awb;
 use station_core::{ActFault, Input, Keeper, answer_one};
@@ -6,8 +6,8 @@ use station_days::Moment;
 use std::alloc::Global;
 use test_kit::{Job, answer_said, is_done, keyed, noon, say};
 
-/// The commands of a day, each with its key: numbers are taken in, and four of ten pieces that
-/// were received depart.
+/// The commands of a day, each with its key: numbers are taken in, and four of ten received pieces
+/// depart.
 const DAY: [(&str, &str); 5] = [
     ("t1", "take-in\n055\n0000010\n10"),
     ("b1", "book\n020-12345675\nFRA\nJFK\n10\n1000\nCARGO"),
@@ -16,33 +16,33 @@ const DAY: [(&str, &str); 5] = [
     ("d1", "depart\nLH400\n2026-01-12"),
 ];
 
-/// What a station is asked for.
+/// An errand for a station.
 #[derive(Clone, Copy)]
 pub enum Errand {
     /// Nothing.
     Nothing,
-    /// The first commands of the day, up to so many.
+    /// The first commands of the day.
     Day(usize),
-    /// That two of three pieces of each of so many waybills are built on a flight.
+    /// Build two of three pieces of each of this many waybills on a flight.
     BuildUp(u32),
-    /// How many messages aren't confirmed, and which.
+    /// List the unconfirmed messages.
     Outbox,
 }
 
-/// What came of work.
+/// The outcome of work.
 #[derive(Drop)]
 pub enum Came {
-    /// The files couldn't be opened, or the station in them couldn't be read.
+    /// The files couldn't be opened, or their station couldn't be read.
     NotBegun,
     /// The store failed.
     Stopped,
-    /// So many commands of the day were accepted.
+    /// This many commands of the day were accepted.
     Played(usize),
-    /// All was done, and this is what there is to say.
+    /// Everything was done, with this result.
     Done(String),
 }
 
-/// An errand that a station is asked for.
+/// An errand to run on a keeper.
 #[derive(Clone, Copy)]
 pub struct Asked {
     pub alloc: Global,
@@ -50,7 +50,7 @@ pub struct Asked {
 }
 
 impl Job for Asked {
-    /// What comes of it. Nothing where memory is out, or where what is asked can't be.
+    /// The outcome; `None` if memory runs out or the errand can't be done.
     type Out = Option<Came>;
 
     fn run<K: Keeper>(self, station: &mut K) -> Option<Came> {
@@ -67,7 +67,7 @@ impl Job for Asked {
     }
 }
 
-/// Whether a command is accepted at noon of 12 January 2026.
+/// Returns whether a command is accepted at noon of 12 January 2026.
 fn accepts<K: Keeper>(station: &mut K, key: &str, command: &str) -> bool {
     let (Some(input), Some(noon)) = (keyed(key, command), noon()) else {
         return false;
@@ -75,7 +75,7 @@ fn accepts<K: Keeper>(station: &mut K, key: &str, command: &str) -> bool {
     is_done(station, &input, noon)
 }
 
-/// How many of the day's first commands were accepted, one after another.
+/// Returns how many of the day's first commands were accepted, one after another.
 fn act_on_day<K: Keeper>(station: &mut K, wanted: usize) -> usize {
     for (done, (key, text)) in DAY.iter().take(wanted).enumerate() {
         if !accepts(station, key, text) {
@@ -85,7 +85,7 @@ fn act_on_day<K: Keeper>(station: &mut K, wanted: usize) -> usize {
     wanted.min(DAY.len())
 }
 
-/// An input that a station is given at a moment.
+/// An input to pass to a station at a moment.
 #[derive(Clone, Copy)]
 pub struct Giving<'a> {
     pub alloc: Global,
@@ -94,7 +94,7 @@ pub struct Giving<'a> {
 }
 
 impl Job for Giving<'_> {
-    /// Its answer. A failure that isn't the store's gives nothing.
+    /// The answer; `None` for a failure other than the store's.
     type Out = Option<Came>;
 
     fn run<K: Keeper>(self, station: &mut K) -> Option<Came> {
@@ -106,7 +106,7 @@ impl Job for Giving<'_> {
     }
 }
 
-/// Books, receives and builds a waybill on the flight LH400 of 12 January 2026.
+/// Books, receives and builds a waybill on flight LH400 of 12 January 2026.
 fn build_up<K: Keeper>(alloc: Global, station: &mut K, awb: Awb) -> Option<()> {
     let steps = [
         format!(in alloc; "book\n{awb}\nFRA\nJFK\n3\n100\nCARGO").ok()?,
@@ -122,7 +122,7 @@ fn build_up<K: Keeper>(alloc: Global, station: &mut K, awb: Awb) -> Option<()> {
     Some(())
 }
 
-/// Builds the first so many waybills of the prefix 020.
+/// Builds the first waybills of prefix 020.
 pub fn build_up_all<K: Keeper>(alloc: Global, station: &mut K, waybills: u32) -> Option<()> {
     for serial in 1..=waybills {
         build_up(alloc, station, Awb::new(20, serial)?)?;

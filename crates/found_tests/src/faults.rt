@@ -1,10 +1,10 @@
-//! Why there is no station, as a text.
+//! Faults of openings as texts.
 use station_tables::AttachFault;
 use std::alloc::Global;
 use test_kit::say;
 
-/// Why there is no station: `601` with the table that isn't good, `602` where there is none, `603`
-/// with the version, or a word.
+/// Returns a fault as text: `601` with the first bad table, `602` without a station, `603` with the
+/// version, or a word.
 pub fn fault_said(alloc: Global, fault: &AttachFault) -> Option<String> {
     match fault {
         AttachFault::Unlawful(table) => format!(in alloc; "601 {}", table.as_str()).ok(),

@@ -1,4 +1,4 @@
-//! What an opening finds in a database.
+//! The findings of an opening.
 use crate::faults::fault_said;
 use crate::listing::{all_rows, old_rows, rows_of};
 use crate::tables::ask;
@@ -9,7 +9,7 @@ use station_tables::{AttachFault, attach};
 use std::alloc::Global;
 use test_kit::{Job, known_said};
 
-/// Waybills of which a station is asked.
+/// Waybills to look up.
 #[derive(Clone, Copy)]
 struct Waybills<'a> {
     alloc: Global,
@@ -19,7 +19,7 @@ struct Waybills<'a> {
 impl Job for Waybills<'_> {
     type Out = Option<String>;
 
-    /// What a station says of them.
+    /// Returns the station's records of them.
     fn run<K: Keeper>(self, keeper: &mut K) -> Option<String> {
         let mut said = String::new(self.alloc);
         for number in self.numbers {
@@ -31,7 +31,7 @@ impl Job for Waybills<'_> {
     }
 }
 
-/// The rows of a table `notes` that stands beside a station's, if there is one.
+/// Returns the rows of another program's table `notes`, if there is one.
 fn notes_said<S: Alter>(alloc: Global, conn: &mut Connection<S>) -> Option<String> {
     let said = rows_of(
         alloc,
@@ -45,8 +45,7 @@ fn notes_said<S: Alter>(alloc: Global, conn: &mut Connection<S>) -> Option<Strin
     format!(in alloc; ", notes {rows}").ok()
 }
 
-/// The rows of a file of version 1, where that is why there is no station, and if it has all its
-/// tables.
+/// Returns the rows of a file of version 1, if the version is the fault and it has all its tables.
 fn old_rows_said<S: Alter>(
     alloc: Global,
     conn: &mut Connection<S>,
@@ -61,8 +60,8 @@ fn old_rows_said<S: Alter>(
     }
 }
 
-/// Why no station was found, how many tables and indexes there are, a table `notes`, and the rows
-/// of a file of version 1.
+/// Returns why no station was found, the number of tables and indexes, a table `notes`, and the
+/// rows of a file of version 1.
 pub fn fault_found<S: Alter>(
     alloc: Global,
     conn: &mut Connection<S>,
@@ -75,7 +74,7 @@ pub fn fault_found<S: Alter>(
     format!(in alloc; "{fault}, {count} tables and indexes{notes}{rows}").ok()
 }
 
-/// What a station says of waybills, followed by all rows of its tables, and of a table `notes`.
+/// Returns the records of waybills, all rows of the station's tables, and those of a table `notes`.
 fn rows_found<S: Alter>(
     alloc: Global,
     conn: &mut Connection<S>,
@@ -87,8 +86,8 @@ fn rows_found<S: Alter>(
     Some(said)
 }
 
-/// What is found over a connection, which comes back: what the station says of waybills, and all
-/// its rows, or why there is none. Nothing where memory is out.
+/// Opens a connection. Returns the records of waybills and all rows, or why there is no station,
+/// and the connection. The text is `None` if memory runs out.
 pub fn found<S: Alter>(
     alloc: Global,
     conn: Connection<S>,

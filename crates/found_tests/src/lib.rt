@@ -1,11 +1,11 @@
-//! Databases that are opened as a station's: found ones, right and damaged, and those of stations
-//! that were stopped; and the calls of stations over tables, and of the tables themselves.
+//! Databases that are opened as a station's: existing ones, right and damaged, and those of
+//! stations that were stopped; and the calls of stations over tables, and of the tables themselves.
 //!
-//! `run_memory` goes through inputs for which memory may be refused alone. Run it with each
-//! allocation failing in turn.
+//! `run_memory` runs inputs for which memory may run out. Run it with each allocation failing in
+//! turn.
 //!
-//! All is written for any store of tables. Only `run_file` and `run_memory` name the one in memory,
-//! and only `disks` names the one over files that fail.
+//! Everything is generic over stores of tables. Only `run_file` and `run_memory` name the one in
+//! memory, and only `disks` names the one over files that fail.
 #![tactic(auto)]
 
 mod databases;
@@ -34,10 +34,10 @@ use std::io;
 use tables::Fresh;
 use test_kit::{Answers, go_through_file};
 
-/// The files of the folder `found`, in the order in which they are gone through.
+/// The files of the folder `found`, in the order in which they run.
 pub const FILES: &[&str] = &["found", "stops", "repeats"];
 
-/// What answers the cases of a file.
+/// The answers to the cases of a file.
 #[derive(Drop)]
 struct FileAnswers<'a, S: Fresh> {
     alloc: Global,
@@ -63,8 +63,8 @@ impl<S: Fresh> Answers for FileAnswers<'_, S> {
     }
 }
 
-/// Gives each input for which memory may be refused, and takes a file to version 2; prints what
-/// came of each. Whether all came out as they must.
+/// Runs each input for which memory may run out, and an upgrade, and prints the outcomes. Returns
+/// whether all are as expected.
 fn run_memory_over<S: Fresh>(rt: &HostRuntime) -> Result<bool, io::Error> {
     let mut all = true;
     for run in Run::ALL {
@@ -77,17 +77,13 @@ fn run_memory_over<S: Fresh>(rt: &HostRuntime) -> Result<bool, io::Error> {
     Ok(all && told != Told::Otherwise)
 }
 
-/// The same over tables in memory.
-///
-/// # Errors
-///
-/// Where nothing can be printed, or memory is out.
+/// Does the same over tables in memory. It fails if printing fails or memory runs out.
 pub fn run_memory(rt: &HostRuntime) -> Result<bool, io::Error> {
     run_memory_over::<MemStore>(rt)
 }
 
-/// Goes through a file of cases of a folder, and prints those that came out otherwise, or how many
-/// there were. Whether all came out as they must.
+/// Runs the cases of a file in a folder, and prints the failed ones, or the number of cases.
+/// Returns whether all passed.
 fn run_file_over<S: Fresh>(rt: &HostRuntime, folder: &str, file: &str) -> Result<bool, io::Error> {
     let mut answers: FileAnswers<'_, S> = FileAnswers {
         alloc: rt.alloc(),
@@ -99,11 +95,7 @@ fn run_file_over<S: Fresh>(rt: &HostRuntime, folder: &str, file: &str) -> Result
     go_through_file(rt, folder, file, &mut answers)
 }
 
-/// The same over tables in memory.
-///
-/// # Errors
-///
-/// Where nothing can be printed, or memory is out.
+/// Does the same over tables in memory. It fails if printing fails or memory runs out.
 pub fn run_file(rt: &HostRuntime, folder: &str, file: &str) -> Result<bool, io::Error> {
     run_file_over::<MemStore>(rt, folder, file)
 }

@@ -1,8 +1,8 @@
-//! All rows of a station's tables, as a text.
+//! All rows of a station's tables, as text.
 use sqlite::{Alter, Connection, Row};
 use std::alloc::Global;
 
-/// The tables of a station, each with its columns, and with those that its key is made of.
+/// The tables of a station, each with its columns and those of its key.
 const TABLES: [(&str, &str, &str); 14] = [
     ("station", "id, airport, version, confirmed", "id"),
     (
@@ -44,7 +44,7 @@ const TABLES: [(&str, &str, &str); 14] = [
     ),
 ];
 
-/// The columns of a station's table.
+/// Returns the columns of a station's table.
 pub fn columns_of(table: &str) -> Option<&'static str> {
     for (name, columns, _) in TABLES {
         if name == table {
@@ -54,7 +54,7 @@ pub fn columns_of(table: &str) -> Option<&'static str> {
     None
 }
 
-/// A whole number, or a text between brackets.
+/// Returns a whole number, or a text in brackets.
 fn value_said(alloc: Global, row: &Row, at: usize) -> Option<String> {
     if let Ok(number) = row.get::<i64>(at) {
         return format!(in alloc; "{number}").ok();
@@ -63,7 +63,6 @@ fn value_said(alloc: Global, row: &Row, at: usize) -> Option<String> {
     format!(in alloc; "[{text}]").ok()
 }
 
-/// The values of a row.
 fn row_said(alloc: Global, row: &Row) -> Option<String> {
     let mut said = String::new(alloc);
     for at in 0..row.column_count() {
@@ -76,7 +75,7 @@ fn row_said(alloc: Global, row: &Row) -> Option<String> {
     Some(said)
 }
 
-/// The rows that a query gives.
+/// Returns the rows of a query.
 pub fn rows_of<S: Alter>(alloc: Global, conn: &mut Connection<S>, query: &str) -> Option<String> {
     let mut said = String::new(alloc);
     let rows = conn.query_all(query, &[]).ok()?;
@@ -90,7 +89,7 @@ pub fn rows_of<S: Alter>(alloc: Global, conn: &mut Connection<S>, query: &str) -
     Some(said)
 }
 
-/// The rows of a table in the order of their key.
+/// Returns the rows of a table in the order of their key.
 fn table_said<S: Alter>(
     alloc: Global,
     conn: &mut Connection<S>,
@@ -103,7 +102,7 @@ fn table_said<S: Alter>(
     format!(in alloc; "{table}: {rows}\n").ok()
 }
 
-/// The rows of each table of a station in the order of their keys, if there are all the tables.
+/// Returns the rows of each table of a station in the order of their keys, if all tables exist.
 pub fn all_rows<S: Alter>(alloc: Global, conn: &mut Connection<S>) -> Option<String> {
     let mut said = String::new(alloc);
     for (table, columns, key) in TABLES {
@@ -113,7 +112,7 @@ pub fn all_rows<S: Alter>(alloc: Global, conn: &mut Connection<S>) -> Option<Str
     Some(said)
 }
 
-/// The same of a file of version 1, which has no table `waybill2`.
+/// Returns the same for a file of version 1, which has no table `waybill2`.
 pub fn old_rows<S: Alter>(alloc: Global, conn: &mut Connection<S>) -> Option<String> {
     let mut said = String::new(alloc);
     for (table, columns, key) in TABLES {

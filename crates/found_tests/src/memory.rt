@@ -1,7 +1,7 @@
-//! Inputs for which a request for memory is refused: before the first call of the store all is as
-//! it was, and from then on the store is said to have failed, holds what was before or after, and
-//! the input that is repeated has its one reply. The same of a file that is taken to version 2: it
-//! is as it was where memory is told to be out, and of either version where the store is.
+//! Inputs for which an allocation fails. Before the first call of the store everything is
+//! unchanged. From then on the store counts as failed, has the state before or after, and repeating
+//! the input gets the same reply. An upgrade that fails for memory leaves the file unchanged, and
+//! one that fails for the store leaves either version.
 use crate::errands::build_up_all;
 use crate::fused::Fused;
 use crate::listing::{all_rows, old_rows};
@@ -17,7 +17,7 @@ use std::alloc::Global;
 use telegrams::read_telegram;
 use test_kit::{answer_said, is_done, keyed, noon, say};
 
-/// How many calls the tables serve: more than are made.
+/// The number of calls that the tables serve: more than are made.
 const CALLS: u32 = 1_000_000;
 
 /// An input, in the order of a day.
@@ -26,9 +26,9 @@ pub enum Run {
     TakeIn,
     /// A manifest of twenty waybills arrives.
     Manifest,
-    /// Of eight pieces five are counted.
+    /// Five of eight pieces are counted.
     CheckInShort,
-    /// Of eight pieces eleven are counted.
+    /// Eleven of eight pieces are counted.
     CheckInOver,
     /// A flight of twenty waybills departs.
     Departure,
@@ -37,7 +37,7 @@ pub enum Run {
 }
 
 impl Run {
-    /// Each of them, in the order in which they are gone through.
+    /// All inputs, in the order in which they run.
     pub const ALL: [Run; 6] = [
         Run::TakeIn,
         Run::Manifest,
@@ -48,23 +48,23 @@ impl Run {
     ];
 }
 
-/// What came of an input.
+/// The outcome of an input.
 #[derive(Clone, Copy, Debug, PartialEq, Eq)]
 pub enum Told {
     /// It was accepted.
     Accepted,
-    /// Memory was refused before the first call of the tables, and nothing changed.
+    /// Memory ran out before the first call of the tables, and nothing changed.
     Unbegun,
-    /// Memory was refused, and nothing changed.
+    /// Memory ran out, and nothing changed.
     Unchanged,
-    /// The tables failed, and have what was before or after. The repeat has the one reply.
+    /// The tables failed, and have the state before or after. The repeat gets the same reply.
     Broken,
     /// Anything else.
     Otherwise,
 }
 
 impl Told {
-    /// What is printed.
+    /// Returns the word that is printed.
     pub fn word(self) -> &'static str {
         match self {
             Told::Accepted => "accepted",
@@ -76,7 +76,7 @@ impl Told {
     }
 }
 
-/// The manifest of so many waybills of eight pieces.
+/// Returns the manifest of waybills of eight pieces.
 fn manifest(alloc: Global, waybills: u32) -> Option<String> {
     let mut text = String::from_str(alloc, "FFM/8\r\n1/LH401/12JAN/JFK\r\nFRA\r\n").ok()?;
     for serial in 1..=waybills {
@@ -88,7 +88,6 @@ fn manifest(alloc: Global, waybills: u32) -> Option<String> {
     Some(text)
 }
 
-/// The text of an input.
 fn text_of(alloc: Global, run: Run) -> Option<String> {
     match run {
         Run::TakeIn => say(alloc, "take-in\n020\n1234567\n10"),
@@ -100,7 +99,6 @@ fn text_of(alloc: Global, run: Run) -> Option<String> {
     }
 }
 
-/// The input of a text.
 fn input_of<'a>(alloc: Global, run: Run, text: &'a str) -> Option<Input<'a>> {
     match run {
         Run::Manifest => Some(Input::Wire(read_telegram(alloc, text.as_bytes()).ok()?)),
@@ -108,7 +106,7 @@ fn input_of<'a>(alloc: Global, run: Run, text: &'a str) -> Option<Input<'a>> {
     }
 }
 
-/// The reply that an input has.
+/// Returns the expected reply to an input.
 fn wanted(run: Run) -> &'static str {
     match run {
         Run::TakeIn => "ok 10",
@@ -120,7 +118,7 @@ fn wanted(run: Run) -> &'static str {
     }
 }
 
-/// Whether a station accepts an input.
+/// Returns `Some` if a station accepts an input.
 fn accepts<K: Keeper>(station: &mut K, input: &Input<'_>) -> Option<()> {
     if is_done(station, input, noon()?) {
         Some(())
@@ -129,7 +127,7 @@ fn accepts<K: Keeper>(station: &mut K, input: &Input<'_>) -> Option<()> {
     }
 }
 
-/// Gives a station what is there before an input.
+/// Gives a station the inputs that precede one.
 fn prepare<K: Keeper>(alloc: Global, station: &mut K, run: Run) -> Option<()> {
     match run {
         Run::TakeIn | Run::Manifest => Some(()),
@@ -146,15 +144,16 @@ fn prepare<K: Keeper>(alloc: Global, station: &mut K, run: Run) -> Option<()> {
     }
 }
 
-/// Gives a station over a store what is there before an input. Whether it could, and the store.
+/// Gives a station over a store the inputs that precede one. Returns whether that succeeded, and
+/// the store.
 fn prepare_over<T: StateStore>(alloc: Global, store: T, run: Run) -> (Option<()>, T) {
     let mut station = StoredStation::over(alloc, store);
     let prepared = prepare(alloc, &mut station, run);
     (prepared, station.into_store())
 }
 
-/// Gives an input to a station over a store: its answer, how many calls of the store were made for
-/// it, and the store.
+/// Passes an input to a station over a store. Returns its answer, the number of calls of the store,
+/// and the store.
 fn give_over<T: StateStore>(
     alloc: Global,
     store: T,
@@ -168,7 +167,7 @@ fn give_over<T: StateStore>(
     (answer, made, left.into_store())
 }
 
-/// What is there before an input.
+/// The inputs that precede one.
 #[derive(Drop)]
 struct Preparing {
     run: Run,
@@ -182,7 +181,7 @@ impl StoreJob for Preparing {
     }
 }
 
-/// What is there before an input, and the input.
+/// The inputs that precede one, and the input.
 #[derive(Drop)]
 struct Giving<'a> {
     run: Run,
@@ -191,7 +190,7 @@ struct Giving<'a> {
 }
 
 impl StoreJob for Giving<'_> {
-    /// Its answer, and how many calls of the store were made for it.
+    /// The answer, and the number of calls of the store.
     type Out = (Result<Answer, ActFault>, u32);
 
     fn run<T: StateStore>(
@@ -208,13 +207,11 @@ impl StoreJob for Giving<'_> {
     }
 }
 
-/// The tables before an input.
 fn tables<S: Fresh>(alloc: Global, run: Run) -> Option<Connection<S>> {
     Some(over_tables(alloc, Preparing { run })?.1)
 }
 
-/// What an input left: its answer, how many calls of the tables were made for it, and their
-/// connection.
+/// The outcome of an input: its answer, the number of calls of the tables, and their connection.
 #[derive(Drop)]
 struct Given<S: Fresh> {
     answer: Result<Answer, ActFault>,
@@ -222,19 +219,18 @@ struct Given<S: Fresh> {
     conn: Connection<S>,
 }
 
-/// Gives an input to a station over the tables that are there before it.
+/// Passes an input to a station over the tables before it.
 fn give<S: Fresh>(alloc: Global, run: Run, input: &Input<'_>) -> Option<Given<S>> {
     let at = noon()?;
     let ((answer, made), conn) = over_tables(alloc, Giving { run, input, at })?;
     Some(Given { answer, made, conn })
 }
 
-/// All rows before an input.
 fn rows_before<S: Fresh>(alloc: Global, run: Run) -> Option<String> {
     all_rows(alloc, &mut tables::<S>(alloc, run)?)
 }
 
-/// All rows that an input leaves where nothing is refused.
+/// Returns all rows after an input for which memory suffices.
 fn rows_after<S: Fresh>(alloc: Global, run: Run, input: &Input<'_>) -> Option<String> {
     let mut given = give::<S>(alloc, run, input)?;
     match given.answer {
@@ -243,7 +239,7 @@ fn rows_after<S: Fresh>(alloc: Global, run: Run, input: &Input<'_>) -> Option<St
     }
 }
 
-/// Whether the input that is repeated has its reply, and leaves these rows.
+/// Returns whether the repeated input gets its reply, and leaves these rows.
 fn is_repeated<S: Fresh>(
     alloc: Global,
     conn: Connection<S>,
@@ -259,7 +255,7 @@ fn is_repeated<S: Fresh>(
     Some(reply.as_str() == wanted(run) && rows.as_str() == after)
 }
 
-/// What came of an input that had no answer, after so many calls of the tables.
+/// Returns the outcome of an input without an answer, after a number of calls of the tables.
 fn after_fault<S: Fresh>(
     alloc: Global,
     run: Run,
@@ -288,8 +284,8 @@ fn after_fault<S: Fresh>(
     })
 }
 
-/// What came of an input that had an answer: its one reply, and the rows that it leaves where
-/// nothing is refused.
+/// Returns the outcome of an input with an answer: the same reply, and the same rows as if memory
+/// suffices.
 fn after_answer<S: Fresh>(
     alloc: Global,
     run: Run,
@@ -308,7 +304,7 @@ fn after_answer<S: Fresh>(
     })
 }
 
-/// What comes of an input. Nothing where memory was refused before it.
+/// Returns the outcome of an input, or `None` if memory ran out before it.
 fn try_run<S: Fresh>(alloc: Global, run: Run) -> Option<Told> {
     let text = text_of(alloc, run)?;
     let input = input_of(alloc, run, text.as_str())?;
@@ -319,7 +315,7 @@ fn try_run<S: Fresh>(alloc: Global, run: Run) -> Option<Told> {
     }
 }
 
-/// What comes of an input, from the beginning where memory was refused before it.
+/// Returns the outcome of an input, in a second attempt if memory ran out before it.
 pub fn told_at_last<S: Fresh>(alloc: Global, run: Run) -> Told {
     match try_run::<S>(alloc, run) {
         Some(told_first) => told_first,
@@ -327,20 +323,20 @@ pub fn told_at_last<S: Fresh>(alloc: Global, run: Run) -> Told {
     }
 }
 
-/// What makes a file of version 1 of one of version 2.
+/// The statements that make a file of version 2 one of version 1.
 const BACK: &str = "INSERT INTO waybill
     SELECT awb, origin, destination, pieces, tenths, goods, notified FROM waybill2;
     DROP TABLE waybill2;
     UPDATE station SET version = 1";
 
-/// The tables of version 1 of a station with twenty waybills on a flight.
+/// Returns the tables of version 1 of a station with twenty waybills on a flight.
 fn old_tables<S: Fresh>(alloc: Global) -> Option<Connection<S>> {
     let mut conn = tables::<S>(alloc, Run::Departure)?;
     conn.execute_batch(BACK).ok()?;
     Some(conn)
 }
 
-/// All rows of these tables in version 2, where nothing is refused.
+/// Returns all rows of these tables after an upgrade for which memory suffices.
 fn rows_migrated<S: Fresh>(alloc: Global) -> Option<String> {
     match migrate(alloc, old_tables::<S>(alloc)?) {
         Ok(conn) => {
@@ -351,7 +347,7 @@ fn rows_migrated<S: Fresh>(alloc: Global) -> Option<String> {
     }
 }
 
-/// Whether tables are of version 2, as those that nothing hindered.
+/// Returns whether tables are upgraded, with the same rows as if memory suffices.
 fn is_migrated<S: Fresh>(alloc: Global, conn: Connection<S>) -> Option<bool> {
     let after = rows_migrated::<S>(alloc)?;
     let mut conn = conn;
@@ -359,7 +355,7 @@ fn is_migrated<S: Fresh>(alloc: Global, conn: Connection<S>) -> Option<bool> {
     Some(rows.as_str() == after.as_str())
 }
 
-/// Whether tables have the rows of version 1.
+/// Returns whether tables have the rows of version 1.
 fn is_old<S: Fresh>(alloc: Global, conn: &mut Connection<S>) -> Option<bool> {
     let mut old = old_tables::<S>(alloc)?;
     let before = old_rows(alloc, &mut old)?;
@@ -367,7 +363,7 @@ fn is_old<S: Fresh>(alloc: Global, conn: &mut Connection<S>) -> Option<bool> {
     Some(rows.as_str() == before.as_str())
 }
 
-/// Whether tables that are taken to version 2 once more are so then, or are so already.
+/// Returns whether upgrading tables again succeeds, or they are upgraded already.
 fn is_migrated_again<S: Fresh>(alloc: Global, conn: Connection<S>) -> Option<bool> {
     match migrate(alloc, conn) {
         Ok(conn) => is_migrated(alloc, conn),
@@ -376,7 +372,7 @@ fn is_migrated_again<S: Fresh>(alloc: Global, conn: Connection<S>) -> Option<boo
     }
 }
 
-/// What came of tables that weren't taken to version 2.
+/// Returns the outcome for tables that weren't upgraded.
 fn after_unmigrated<S: Fresh>(
     alloc: Global,
     fault: &AttachFault,
@@ -396,7 +392,7 @@ fn after_unmigrated<S: Fresh>(
     })
 }
 
-/// What comes of a file that is taken to version 2. Nothing where memory was refused before it.
+/// Returns the outcome of an upgrade, or `None` if memory ran out before it.
 fn try_migration<S: Fresh>(alloc: Global) -> Option<Told> {
     match migrate(alloc, old_tables::<S>(alloc)?) {
         Ok(conn) => Some(if is_migrated(alloc, conn)? {
@@ -408,7 +404,7 @@ fn try_migration<S: Fresh>(alloc: Global) -> Option<Told> {
     }
 }
 
-/// The same, from the beginning where memory was refused before it.
+/// Returns the same, in a second attempt if memory ran out before it.
 pub fn migration_told_at_last<S: Fresh>(alloc: Global) -> Told {
     match try_migration::<S>(alloc) {
         Some(told_first) => told_first,

@@ -1,9 +1,9 @@
-//! What the readers of a station hand out to a sink that may take no more, as texts.
+//! Rows that the readers of a station hand out to a sink that may stop, as text.
 use station_core::{BookRow, Keeper, Message, TrailRow};
 use std::alloc::Global;
 use test_kit::{RowCount, Taken, shown};
 
-/// How many moves of the book a sink of so many rows is handed, and of each its number, its
+/// Returns the number of moves that a sink of this size takes, and for each its number, its
 /// waybill, its pieces and their weight.
 pub fn book<K: Keeper>(alloc: Global, station: &mut K, most: usize) -> Option<String> {
     let mut sink: Taken<BookRow> = Taken::new(alloc, most);
@@ -18,7 +18,7 @@ pub fn book<K: Keeper>(alloc: Global, station: &mut K, most: usize) -> Option<St
     Some(said)
 }
 
-/// How many messages that aren't confirmed a sink of so many rows is handed, and of each its
+/// Returns the number of unconfirmed messages that a sink of this size takes, and for each its
 /// number and its text.
 pub fn pending<K: Keeper>(alloc: Global, station: &mut K, most: usize) -> Option<String> {
     let mut sink: Taken<Message> = Taken::new(alloc, most);
@@ -32,7 +32,7 @@ pub fn pending<K: Keeper>(alloc: Global, station: &mut K, most: usize) -> Option
     Some(said)
 }
 
-/// How many lines of the trail a sink of so many rows is handed, and each with its waybill.
+/// Returns the number of trail lines that a sink of this size takes, and each with its waybill.
 pub fn trail<K: Keeper>(alloc: Global, station: &mut K, most: usize) -> Option<String> {
     let mut sink: Taken<TrailRow> = Taken::new(alloc, most);
     station.trail(&mut sink).ok()?;
@@ -45,7 +45,7 @@ pub fn trail<K: Keeper>(alloc: Global, station: &mut K, most: usize) -> Option<S
     Some(said)
 }
 
-/// How many rows the readers of cargo hand out in all.
+/// Returns the number of rows that the readers of cargo hand out in all.
 pub fn cargo_rows<K: Keeper>(alloc: Global, station: &mut K) -> Option<String> {
     let mut seen = RowCount { rows: 0 };
     station.irregular(&mut seen).ok()?;

@@ -13,20 +13,19 @@ use test_kit::{say, shown};
 /// The day of the calls: 12 January 2026.
 const DAY: u32 = 20_465;
 
-/// The minute of a call, 10:30, and that of one that is repeated, 10:45.
+/// The minute of a call, 10:30, and that of a repeat, 10:45.
 const CALLED: u16 = 630;
 
 const REPEATED: u16 = 645;
 
-/// The files of a station, between the calls of a file of cases, and the waybills whose state is
-/// compared.
+/// The files of a station between the calls of a file, and the waybills whose records are compared.
 #[derive(Drop)]
 pub struct RepeatAnswers {
     alloc: Global,
     before: Before,
 }
 
-/// Files with nothing in them, and no waybill to compare.
+/// Returns empty files, without waybills to compare.
 fn nothing(alloc: Global) -> Before {
     Before {
         bytes: FileBytes::new(alloc),
@@ -35,7 +34,7 @@ fn nothing(alloc: Global) -> Before {
 }
 
 impl RepeatAnswers {
-    /// Files with nothing in them.
+    /// Starts with empty files.
     pub fn new(alloc: Global) -> RepeatAnswers {
         RepeatAnswers {
             alloc,
@@ -43,7 +42,7 @@ impl RepeatAnswers {
         }
     }
 
-    /// What comes of what is asked.
+    /// Runs one call and returns its result as text.
     pub fn answer(&mut self, asked: &str, text: &[u8]) -> Option<String> {
         match asked {
             "empty" => self.forget(),
@@ -61,13 +60,12 @@ impl RepeatAnswers {
         }
     }
 
-    /// Executes statements.
     fn execute(&mut self, text: &[u8]) -> Option<String> {
         let statements = statements(self.alloc, text)?;
         self.work_on(&Work::Execute(statements.as_str()))
     }
 
-    /// An input that is given, stopped or repeated.
+    /// Runs an input that is given, stopped or repeated.
     fn ask(&mut self, asked: &str, text: &[u8]) -> Option<String> {
         let (word, form) = match asked.strip_suffix("-take") {
             Some(word) => (word, InputForm::Telegram),
@@ -81,26 +79,26 @@ impl RepeatAnswers {
         }
     }
 
-    /// Files with nothing in them, and no waybill to compare.
+    /// Empties the files, and forgets the waybills.
     fn forget(&mut self) -> Option<String> {
         self.before = nothing(self.alloc);
         say(self.alloc, "ok")
     }
 
-    /// Does work over the files, which stay as it leaves them.
+    /// Does work over the files, and keeps their new state.
     fn work_on(&mut self, work: &Work<'_>) -> Option<String> {
         let (said, left) = said_of(self.alloc, &self.before.bytes, work, &self.before.numbers)?;
         self.before.bytes = left;
         Some(said)
     }
 
-    /// Does work that is stopped at each call of a file. The files stay as they were.
+    /// Does work that is stopped at each call of a file. The files stay unchanged.
     fn stop(&self, work: &Work<'_>) -> Option<String> {
         stops(self.alloc, &self.before, work)
     }
 
-    /// The answer to an input that comes again through an opening, a quarter of an hour later, and
-    /// whether that changed anything.
+    /// Returns the answer to an input that is repeated by an opening a quarter of an hour later,
+    /// and whether that changed anything.
     fn repeat(&mut self, form: InputForm, text: &[u8]) -> Option<String> {
         let alloc = self.alloc;
         let before = found_in(alloc, &self.before.bytes, &self.before.numbers)?;
@@ -113,14 +111,14 @@ impl RepeatAnswers {
         }
     }
 
-    /// Notes a waybill whose state is compared.
+    /// Records a waybill whose record is compared.
     fn note(&mut self, text: &[u8]) -> Option<String> {
         let number = Awb::read(text.first_chunk()?).ok()?;
         self.before.numbers.push(number).ok()?;
         say(self.alloc, "noted")
     }
 
-    /// Builds two of three pieces of so many waybills on a flight, and notes them.
+    /// Builds two of three pieces of each of this many waybills on a flight, and records them.
     fn build_up(&mut self, waybills: u32) -> Option<String> {
         for serial in 1..=waybills {
             self.before.numbers.push(Awb::new(20, serial)?).ok()?;

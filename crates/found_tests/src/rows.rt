@@ -9,7 +9,7 @@ use std::alloc::Global;
 use std::str::SplitWhitespace;
 use test_kit::{count_said, next_whole, runs_said, say, shown};
 
-/// The tables on which the calls of a file act.
+/// The tables of a file's calls.
 #[derive(Drop)]
 pub struct RowAnswers<S: Fresh> {
     alloc: Global,
@@ -17,12 +17,12 @@ pub struct RowAnswers<S: Fresh> {
 }
 
 impl<S: Fresh> RowAnswers<S> {
-    /// No tables yet.
+    /// Starts without tables.
     pub fn new(alloc: Global) -> RowAnswers<S> {
         RowAnswers { alloc, rows: None }
     }
 
-    /// What comes of what is asked.
+    /// Runs one call and returns its result as text.
     pub fn answer(&mut self, asked: &str, text: &[u8]) -> Option<String> {
         let alloc = self.alloc;
         match asked {
@@ -53,7 +53,6 @@ impl<S: Fresh> RowAnswers<S> {
         say(self.alloc, "ok")
     }
 
-    /// Goes on with the tables of a connection, as they are.
     fn open(&mut self, conn: Connection<S>) -> Option<String> {
         match Rows::opened(conn) {
             Ok(rows) => {
@@ -72,7 +71,7 @@ impl<S: Fresh> RowAnswers<S> {
     }
 }
 
-/// Why no tables are made over a connection, and whether it is outside a transaction.
+/// Returns why no tables are made over a connection, and whether it is outside a transaction.
 fn fault_of<S: Alter + Drop>(alloc: Global, conn: Connection<S>) -> Option<String> {
     match Rows::create(conn, "FRA") {
         Ok(_) => say(alloc, "made"),
@@ -91,14 +90,15 @@ fn fault_of<S: Alter + Drop>(alloc: Global, conn: Connection<S>) -> Option<Strin
     }
 }
 
-/// The same after a statement.
+/// Returns the same after a statement.
 fn made_over<S: Fresh>(alloc: Global, statement: &str) -> Option<String> {
     let mut conn = S::open(alloc)?;
     conn.execute(statement, &[]).ok()?;
     fault_of(alloc, conn)
 }
 
-/// What a new station says of itself: its number, its airport, its version and its mark.
+/// Returns the row of a new station: its number, its airport, its version and the last confirmed
+/// message.
 fn station_row<S: Alter + Drop>(alloc: Global, mut conn: Connection<S>) -> Option<String> {
     let row = conn
         .query_row("SELECT id, airport, version, confirmed FROM station", &[])
@@ -110,7 +110,7 @@ fn station_row<S: Alter + Drop>(alloc: Global, mut conn: Connection<S>) -> Optio
     format!(in alloc; "{id} {airport} {version} {confirmed}").ok()
 }
 
-/// How many rows of stock there are, the least number and the least holder, where the connection is
+/// Returns the number of stock rows, the least number and the least holder, if the connection is
 /// outside a transaction.
 fn stock_summed<S: Alter + Drop>(alloc: Global, mut conn: Connection<S>) -> Option<String> {
     if !conn.is_autocommit() {
@@ -125,7 +125,7 @@ fn stock_summed<S: Alter + Drop>(alloc: Global, mut conn: Connection<S>) -> Opti
     format!(in alloc; "{count} {low} {holder}").ok()
 }
 
-/// What comes of a call on tables.
+/// Runs one call on tables and returns its result as text.
 fn called<R: TableStore>(alloc: Global, rows: &mut R, asked: &str, text: &str) -> Option<String> {
     let mut words = text.split_whitespace();
     match asked {
@@ -159,7 +159,7 @@ fn done(alloc: Global, done: Result<(), StoreFault>) -> Option<String> {
     }
 }
 
-/// The row of one number, given by its prefix, its serial, its holder and perhaps an agent.
+/// Reads the row of one number: its prefix, its serial, its holder and an optional agent.
 fn stock_row(alloc: Global, words: &mut SplitWhitespace<'_>) -> Option<StockRow> {
     let prefix = next_whole(words)?;
     let low = next_whole(words)?;
@@ -188,7 +188,7 @@ fn insert_kept<R: TableStore>(
     done(alloc, rows.write(kept))
 }
 
-/// The command and the count of a key.
+/// Returns the command and the count of a key.
 fn kept<R: TableStore>(alloc: Global, rows: &mut R, key: &str) -> Option<String> {
     match rows.read(KeptUnder { id: key }) {
         Ok(Some(kept)) => format!(in alloc; "{} {}", kept.command, kept.count).ok(),
@@ -197,7 +197,7 @@ fn kept<R: TableStore>(alloc: Global, rows: &mut R, key: &str) -> Option<String>
     }
 }
 
-/// The rows of a prefix from one serial to another.
+/// Returns the rows of a prefix from one serial to another.
 fn between<R: TableStore>(
     alloc: Global,
     rows: &mut R,
@@ -214,7 +214,6 @@ fn between<R: TableStore>(
     rows_said(alloc, rows.read(asked))
 }
 
-/// How many rows there are, and each.
 fn rows_said(alloc: Global, rows: Result<Vec<StockRow>, StoreFault>) -> Option<String> {
     let Ok(rows) = rows else {
         return say(alloc, "fault");
@@ -226,15 +225,15 @@ fn rows_said(alloc: Global, rows: Result<Vec<StockRow>, StoreFault>) -> Option<S
     Some(said)
 }
 
-/// A row: its prefix, its first and its last serial, its holder and its agent.
+/// Returns a row: its prefix, its first and last serial, its holder and its agent.
 fn row_said(alloc: Global, row: &StockRow) -> Option<String> {
     let (prefix, low, high) = (row.prefix, row.low, row.high);
     let (holder, agent) = (row.holder, row.agent.as_str());
     format!(in alloc; "; {prefix} {low}-{high} {holder} [{agent}]").ok()
 }
 
-/// The runs of a stock of one row, which is given by its prefix, its serial, its holder and perhaps
-/// an agent.
+/// Returns the runs of a stock of one row, given by its prefix, its serial, its holder and an
+/// optional agent.
 pub fn runs_of_row<S: Fresh>(alloc: Global, text: &[u8]) -> Option<String> {
     let row = stock_row(alloc, &mut shown(text).split_whitespace())?;
     match Rows::create(S::open(alloc)?, "FRA") {
@@ -243,7 +242,7 @@ pub fn runs_of_row<S: Fresh>(alloc: Global, text: &[u8]) -> Option<String> {
     }
 }
 
-/// The runs of the stock of tables after a row is inserted.
+/// Returns the runs of the stock after a row is inserted.
 fn runs_with<R: TableStore>(alloc: Global, rows: &mut R, row: &StockRow) -> Option<String> {
     rows.begin().ok()?;
     rows.write(InsertStock { row }).ok()?;

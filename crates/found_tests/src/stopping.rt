@@ -1,35 +1,34 @@
-//! A call that is stopped at each call of a file: what is found afterwards is the station before
-//! it or after it, and its repeat has the reply that it has where nothing stops it.
+//! A call that is stopped at each call of a file. An opening afterwards finds the station before it
+//! or after it, and its repeat gets the reply of a call that nothing stops.
 use crate::disks::{Calls, FailingFile, FileBytes, Visited, found_in, said_of, visit};
 use crate::errands::Came;
 use crate::work::Work;
 use awb_number::Awb;
 use std::alloc::Global;
 
-/// The last count of calls that is tried.
 const MOST_CALLS: u64 = 5_000;
 
-/// What there is before the work: the files, and the waybills whose state is compared.
+/// The state before the work: the files, and the waybills whose records are compared.
 #[derive(Drop)]
 pub struct Before {
     pub bytes: FileBytes,
     pub numbers: Vec<Awb>,
 }
 
-/// How far it came.
+/// The progress of an attempt.
 #[derive(Clone, Copy, Debug, PartialEq, Eq)]
 enum Attempt {
-    /// The files couldn't be opened, or the station in them couldn't be read.
+    /// The files couldn't be opened, or their station couldn't be read.
     NotBegun,
     /// It failed.
     Stopped,
-    /// It was acknowledged, and the log couldn't be copied into the database file.
+    /// It was acknowledged, but the log couldn't be copied into the database file.
     Done,
     /// Nothing failed.
     Closed,
 }
 
-/// An attempt, its reply if there was one, and what a crash leaves then.
+/// An attempt, its reply if there was one, and the crash state.
 #[derive(Drop)]
 struct Ended {
     attempt: Attempt,
@@ -37,7 +36,7 @@ struct Ended {
     bytes: FileBytes,
 }
 
-/// What an attempt left.
+/// The remains of an attempt.
 #[derive(Clone, Copy, Debug, PartialEq, Eq)]
 enum Remains {
     Before,
@@ -45,7 +44,7 @@ enum Remains {
     Other,
 }
 
-/// What comes of work that nothing stops: what is found before it and after it, and its reply.
+/// Work that nothing stops: the findings before and after it, and its reply.
 #[derive(Drop)]
 struct Whole {
     before: String,
@@ -53,8 +52,8 @@ struct Whole {
     reply: String,
 }
 
-/// What a stop left: the files, what is found in them, and whether the work that is repeated over
-/// them has its one reply.
+/// The outcome of a stop: the files, the findings, and whether repeating the work gets the same
+/// reply.
 #[derive(Drop)]
 struct Left {
     bytes: FileBytes,
@@ -83,7 +82,7 @@ fn try_work(alloc: Global, before: &Before, work: &Work<'_>, calls: Calls) -> Op
     })
 }
 
-/// Does the work where nothing stops it.
+/// Does the work without a stop.
 fn undisturbed(alloc: Global, before: &Before, work: &Work<'_>) -> Option<Whole> {
     let first = found_in(alloc, &before.bytes, &before.numbers)?;
     let ended = try_work(alloc, before, work, Calls::all())?;
@@ -98,7 +97,7 @@ fn undisturbed(alloc: Global, before: &Before, work: &Work<'_>) -> Option<Whole>
     })
 }
 
-/// What this is that was found.
+/// Classifies the findings.
 fn remains_of(whole: &Whole, found: &str) -> Remains {
     if found == whole.before.as_str() {
         Remains::Before
@@ -109,7 +108,6 @@ fn remains_of(whole: &Whole, found: &str) -> Remains {
     }
 }
 
-/// Whether an attempt may leave this.
 fn may_remain(attempt: Attempt, remains: Remains) -> bool {
     match attempt {
         Attempt::NotBegun => remains == Remains::Before,
@@ -118,7 +116,7 @@ fn may_remain(attempt: Attempt, remains: Remains) -> bool {
     }
 }
 
-/// Whether work over what was left has this reply, and leaves what is left where nothing stops it.
+/// Returns whether work over the remains gets this reply, and leaves the same as without a stop.
 fn is_replied(
     alloc: Global,
     before: &Before,
@@ -132,8 +130,8 @@ fn is_replied(
     Some(said.as_str() == reply && found.as_str() == whole.after.as_str())
 }
 
-/// Whether the work that is repeated has its one reply, and leaves what it leaves where nothing
-/// stops it. A station is made once. A file that is of version 2 already isn't taken there again.
+/// Returns whether repeating the work gets the same reply, and leaves the same as without a stop. A
+/// station can be made only once. A file of version 2 isn't upgraded again.
 fn is_repeated(
     alloc: Global,
     before: &Before,
@@ -156,7 +154,7 @@ fn is_repeated(
     }
 }
 
-/// What a stop left. Files that are as the last stop left them aren't opened again.
+/// Returns the outcome of a stop. Files like those of the last stop aren't opened again.
 fn looked_at(
     alloc: Global,
     before: &Before,
@@ -180,7 +178,7 @@ fn looked_at(
     })
 }
 
-/// What is otherwise than it must be after a stop, if anything is.
+/// Returns the failure after a stop, if there is one.
 fn difference(whole: &Whole, attempt: Attempt, reply: &str, left: &Left) -> Option<&'static str> {
     let is_answered = matches!(attempt, Attempt::Done | Attempt::Closed);
     if is_answered && reply != whole.reply.as_str() {
@@ -194,8 +192,8 @@ fn difference(whole: &Whole, attempt: Attempt, reply: &str, left: &Left) -> Opti
     }
 }
 
-/// One stop of a file after another, up to the first attempt that isn't stopped. What is otherwise
-/// than it must be, if anything is.
+/// Runs one stop of a file after another, up to the first attempt that isn't stopped. Returns the
+/// failure, if there is one.
 fn stops_of(
     alloc: Global,
     before: &Before,
@@ -223,7 +221,7 @@ fn stops_of(
     Some(Some(format!(in alloc; "{file:?}: it never came to its end").ok()?))
 }
 
-/// The stops of both files. The reply of the work that isn't stopped, where all is as it must be.
+/// Runs the stops of both files. Returns the reply of the work without a stop, if nothing failed.
 pub fn stops(alloc: Global, before: &Before, work: &Work<'_>) -> Option<String> {
     let whole = undisturbed(alloc, before, work)?;
     if !is_repeated(alloc, before, work, &whole, Remains::Before, &before.bytes)? {

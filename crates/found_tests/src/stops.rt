@@ -1,5 +1,5 @@
-//! A store that fails at its n-th call, for every n: what is found afterwards is the station
-//! before or after the interrupted step.
+//! A store that fails at its n-th call, for every n: an opening finds the station before or after
+//! the interrupted step.
 use crate::disks::{Calls, FailingFile, FileBytes, Visited, found_in, visit};
 use crate::errands::{Asked, Came, Errand};
 use crate::finding::found;
@@ -13,14 +13,14 @@ use station_engine::StoredStation;
 use std::alloc::Global;
 use test_kit::{Job, say};
 
-/// What is found where there is no station: no table, no index.
+/// The findings without a station: no table, no index.
 const NO_STATION: &str = "602, 0 tables and indexes";
 
-/// The steps of a day: a station is made, and each of five commands is accepted.
+/// The steps of a day: making a station, and five accepted commands.
 const STEPS: usize = 6;
 
-/// Takes up to so many steps over new files that serve so many calls. How many were done, and what
-/// a crash leaves.
+/// Runs at most this many steps over new files that serve a number of calls. Returns the number of
+/// steps done, and the crash state.
 fn play(alloc: Global, calls: Calls, wanted: usize) -> Option<(usize, FileBytes)> {
     let fresh = FileBytes::new(alloc);
     if wanted == 0 {
@@ -39,12 +39,12 @@ fn play(alloc: Global, calls: Calls, wanted: usize) -> Option<(usize, FileBytes)
     }
 }
 
-/// The waybill of the day.
+/// Returns the waybill of the day.
 fn number() -> Option<Awb> {
     Awb::new(20, 1_234_567)
 }
 
-/// What is found after so many steps that no failure stops.
+/// Returns the findings after this many steps without a stop.
 fn state(alloc: Global, wanted: usize) -> Option<String> {
     let (steps, left) = play(alloc, Calls::all(), wanted)?;
     if steps != wanted {
@@ -53,8 +53,8 @@ fn state(alloc: Global, wanted: usize) -> Option<String> {
     found_in(alloc, &left, &[number()?])
 }
 
-/// What is found after each number of such steps: first no station, and then one. Each step
-/// differs from the one before it.
+/// Returns the findings after each number of such steps: first no station, and then one. Each step
+/// changes them.
 fn states(alloc: Global) -> Option<Vec<String>> {
     let mut states = Vec::new(alloc);
     for wanted in 0..=STEPS {
@@ -70,7 +70,7 @@ fn states(alloc: Global) -> Option<Vec<String>> {
     Some(states)
 }
 
-/// Whether this is found after so many steps.
+/// Returns whether these are the findings after this many steps.
 fn is_state(states: &[String], steps: usize, found: &str) -> bool {
     match states.get(steps) {
         Some(state) => state.as_str() == found,
@@ -78,7 +78,7 @@ fn is_state(states: &[String], steps: usize, found: &str) -> bool {
     }
 }
 
-/// One stop after another, up to the first day that isn't stopped.
+/// Runs one stop after another, up to the first day that isn't stopped.
 fn stops(alloc: Global, file: FailingFile) -> Option<String> {
     let states = states(alloc)?;
     for calls in 0..5000 {
@@ -95,8 +95,8 @@ fn stops(alloc: Global, file: FailingFile) -> Option<String> {
     say(alloc, "no day came to its end")
 }
 
-/// How many commands of the day a station accepted. Nothing where it goes on after one that it
-/// didn't accept, and doesn't ask to be opened again.
+/// Returns how many commands of the day a station accepted. It is `None` if the station goes on
+/// after one that it didn't accept, and needn't be opened again.
 fn commands_done<K: Keeper>(alloc: Global, station: &mut K) -> Option<usize> {
     let errand = Errand::Day(STEPS - 1);
     let commands = match (Asked { alloc, errand }).run(station)? {
@@ -111,14 +111,14 @@ fn commands_done<K: Keeper>(alloc: Global, station: &mut K) -> Option<usize> {
     }
 }
 
-/// A day over a store that serves so many calls.
+/// A day over a store that serves a number of calls.
 #[derive(Drop)]
 struct FailingDay {
     calls: u32,
 }
 
 impl StoreJob for FailingDay {
-    /// How many steps were done.
+    /// The number of steps done.
     type Out = usize;
 
     fn run<T: StateStore>(self, alloc: Global, store: T) -> (Option<usize>, T) {
@@ -129,8 +129,8 @@ impl StoreJob for FailingDay {
     }
 }
 
-/// Plays the day over tables in memory that serve so many calls of the station. How many steps
-/// were done, and what is found then: nothing where the station goes on after a failed call.
+/// Plays the day over tables in memory that serve a number of calls of the station. Returns the
+/// number of steps done, and the findings, or `None` if the station goes on after a failed call.
 fn play_in_memory<S: Fresh>(alloc: Global, calls: u32) -> Option<(usize, String)> {
     let numbers = [number()?];
     let (steps, conn) = over_tables::<S, FailingDay>(alloc, FailingDay { calls })?;
@@ -138,7 +138,7 @@ fn play_in_memory<S: Fresh>(alloc: Global, calls: u32) -> Option<(usize, String)
     Some((steps, said?))
 }
 
-/// One failing call after another, up to the first day that has none: what is found is what was
+/// Runs one failing call after another, up to the first day without one. The findings are what was
 /// acknowledged.
 fn failing_calls<S: Fresh>(alloc: Global) -> Option<String> {
     let states = states(alloc)?;
@@ -155,7 +155,7 @@ fn failing_calls<S: Fresh>(alloc: Global) -> Option<String> {
     say(alloc, "no day came to its end")
 }
 
-/// What is found after stops at each call of a file, or of a store of tables.
+/// Returns the findings after stops at each call of a file, or of a store of tables.
 pub fn answer<S: Fresh>(alloc: Global, asked: &str) -> Option<String> {
     match asked {
         "calls" => failing_calls::<S>(alloc),

@@ -1,5 +1,5 @@
-//! New tables in memory, what is done over them as over any store of a station's state, and what a
-//! station over tables is asked.
+//! New tables in memory, jobs over them as over any store of a station's state, and jobs on a
+//! station over tables.
 use imp_fields::Airport;
 use sqlite::{Alter, Connection, MemStore};
 use state_store::StateStore;
@@ -10,7 +10,7 @@ use test_kit::Job;
 
 /// A store of tables in memory.
 pub trait Fresh: Alter + Drop {
-    /// A new database. Nothing where memory is out.
+    /// Returns a new database, or `None` if memory runs out.
     fn open(alloc: Global) -> Option<Connection<Self>>;
 }
 
@@ -20,24 +20,23 @@ impl Fresh for MemStore {
     }
 }
 
-/// The airport of the stations.
+/// Returns the airport of the stations.
 pub fn here() -> Option<Airport> {
     Airport::read(b"FRA")
 }
 
-/// What can be done over any store of a station's state.
+/// A job over any store of a station's state.
 pub trait StoreJob {
-    /// What comes of it.
+    /// The result.
     type Out;
 
-    /// Does it over a store, which comes back. Nothing comes of it where memory is out, or where
-    /// what is asked can't be.
+    /// Runs over a store, and returns the store. The result is `None` if memory runs out or the job
+    /// can't be done.
     fn run<T: StateStore>(self, alloc: Global, store: T) -> (Option<Self::Out>, T);
 }
 
-/// Does something over the new tables of a station at FRA: what comes of it, and their connection.
-/// Nothing else works over these tables: each function that does costs the check as much as forty
-/// others.
+/// Runs a job over the new tables of a station at FRA. Returns its result, and the connection. No
+/// other function works over these tables: each that does costs the check as much as forty others.
 pub fn over_tables<S: Fresh, J: StoreJob + Drop>(
     alloc: Global,
     job: J,
@@ -51,8 +50,8 @@ pub fn over_tables<S: Fresh, J: StoreJob + Drop>(
     Some((out?, conn))
 }
 
-/// Asks a station. Nothing else hands one over tables on: each function that does costs the check
-/// as much as twenty others.
+/// Runs a job on a station. No other function hands out one over tables: each that does costs the
+/// check as much as twenty others.
 pub fn ask<S: Alter, J: Job>(station: &mut Station<S>, job: J) -> J::Out {
     job.run(station)
 }

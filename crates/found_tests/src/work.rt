@@ -1,4 +1,4 @@
-//! What is done over a connection.
+//! Work over a connection.
 use crate::errands::{Asked, Came, Errand, Giving};
 use crate::faults::fault_said;
 use crate::finding::{fault_found, found};
@@ -13,16 +13,16 @@ use std::alloc::Global;
 use telegrams::read_telegram;
 use test_kit::{Job, answer_said, keyed, say, shown};
 
-/// How a case writes an input.
+/// The form in which a case writes an input.
 #[derive(Clone, Copy, Debug, PartialEq, Eq)]
 pub enum InputForm {
-    /// A key, a blank, and the text of a command.
+    /// A key, a space, and the text of a command.
     Command,
     Telegram,
 }
 
 impl InputForm {
-    /// The input of a text. Nothing where memory is out, or where it is none.
+    /// Reads an input. It is `None` if memory runs out, or the text isn't one.
     pub fn input<'a>(self, alloc: Global, text: &'a [u8]) -> Option<Input<'a>> {
         match self {
             InputForm::Telegram => Some(Input::Wire(read_telegram(alloc, text).ok()?)),
@@ -34,28 +34,28 @@ impl InputForm {
     }
 }
 
-/// What is done over a connection.
+/// Work over a connection.
 #[derive(Clone, Copy)]
 pub enum Work<'a> {
-    /// Statements are executed.
+    /// Execute statements.
     Execute(&'a str),
-    /// A station is made at an airport, and asked for something.
+    /// Make a station at an airport, and run an errand.
     Make(Airport, Errand),
-    /// The station is opened, and asked for something.
+    /// Open the station, and run an errand.
     Open(Errand),
-    /// The station is opened, and has an input at a moment.
+    /// Open the station, and pass it an input at a moment.
     Give(InputForm, &'a [u8], Moment),
-    /// An input is repeated through an opening at a moment.
+    /// Repeat an input by an opening at a moment.
     Repeat(InputForm, &'a [u8], Moment),
-    /// A file of version 1 is taken to version 2.
+    /// Upgrade a file of version 1.
     Migrate,
-    /// The station is opened: what it says of waybills, and all its rows, or why there is none.
+    /// Open the station, and return the records of waybills and all rows, or why there is none.
     Find,
 }
 
 impl Work<'_> {
-    /// What comes of it, with the waybills that are asked for, and the connection. Nothing comes of
-    /// it where memory is out, or where what is asked can't be.
+    /// Does the work. Returns the outcome, and the connection. The outcome is `None` if memory runs
+    /// out or the work can't be done.
     pub fn run<S: Alter>(
         &self,
         alloc: Global,
@@ -79,7 +79,7 @@ impl Work<'_> {
         }
     }
 
-    /// Whether the connection is closed after it. Else a crash ends it.
+    /// Returns whether the connection is closed afterwards. Otherwise a crash ends it.
     pub fn is_closed_after(&self, came: &Option<Came>) -> bool {
         match self {
             Work::Execute(_) | Work::Make(_, Errand::Nothing) | Work::Migrate => true,
@@ -89,12 +89,11 @@ impl Work<'_> {
     }
 }
 
-/// What there is to say, where there was memory for it.
+/// Returns the result, unless memory ran out for it.
 fn done(said: Option<String>) -> Option<Came> {
     Some(Came::Done(said?))
 }
 
-/// Executes statements.
 fn execute<S: Alter>(
     alloc: Global,
     conn: Connection<S>,
@@ -107,7 +106,7 @@ fn execute<S: Alter>(
     }
 }
 
-/// Makes a station, and asks it for something.
+/// Makes a station, and runs an errand.
 fn make<S: Alter>(
     alloc: Global,
     conn: Connection<S>,
@@ -121,7 +120,7 @@ fn make<S: Alter>(
     }
 }
 
-/// Takes a file of version 1 to version 2, or says why it is none.
+/// Upgrades a file of version 1, or returns why it can't.
 fn migrate_tables<S: Alter>(alloc: Global, conn: Connection<S>) -> (Option<Came>, Connection<S>) {
     match migrate(alloc, conn) {
         Ok(conn) => (done(say(alloc, "ok")), conn),
@@ -130,7 +129,7 @@ fn migrate_tables<S: Alter>(alloc: Global, conn: Connection<S>) -> (Option<Came>
     }
 }
 
-/// Opens the station, and asks it.
+/// Opens the station, and runs a job.
 fn serve_opened<S: Alter, J: Job<Out = Option<Came>> + Drop>(
     alloc: Global,
     conn: Connection<S>,
@@ -143,7 +142,7 @@ fn serve_opened<S: Alter, J: Job<Out = Option<Came>> + Drop>(
     }
 }
 
-/// Asks a station, and ends it.
+/// Runs a job on a station, and ends it.
 fn serve<S: Alter, J: Job<Out = Option<Came>>>(
     station: Station<S>,
     job: J,
@@ -153,7 +152,7 @@ fn serve<S: Alter, J: Job<Out = Option<Came>>>(
     (came, station.release())
 }
 
-/// Opens the station, and gives it an input.
+/// Opens the station, and passes it an input.
 fn act<S: Alter>(
     alloc: Global,
     conn: Connection<S>,
@@ -163,7 +162,6 @@ fn act<S: Alter>(
     serve_opened(alloc, conn, Giving { alloc, input, at })
 }
 
-/// The same with the input of a text.
 fn give<S: Alter>(
     alloc: Global,
     conn: Connection<S>,
@@ -177,7 +175,7 @@ fn give<S: Alter>(
     }
 }
 
-/// Repeats an input through an opening: the answer, or why there is no station.
+/// Repeats an input by an opening. Returns the answer, or why there is no station.
 fn repeat_input<S: Alter>(
     alloc: Global,
     conn: Connection<S>,
@@ -193,7 +191,6 @@ fn repeat_input<S: Alter>(
     }
 }
 
-/// The same with the input of a text.
 fn repeat<S: Alter>(
     alloc: Global,
     conn: Connection<S>,

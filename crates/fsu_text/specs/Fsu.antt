@@ -27,12 +27,11 @@ use Rattle.fsu_text.specs.declared.status.StatusLine.{StatusLine}
 use Rattle.fsu_text.specs.declared.message.Fsu.{Fsu}
 use Rattle.fsu_text.specs.Status.{Reading, Handled, ReceivedFromFlight, Carried, Differs, status_of, handling_code, carriage_code, discrepancy_code, amount_text, name_tail}
 
--- a message: the shipment, and the lines that join its trail, as they stand
+-- a message: the shipment, and the unchanged lines for its trail
 pub record StatusUpdate : Type 0 where
   pub shipment : Shipment
   pub trail : List (List ℕ)
 
--- the lines are this message
 abbrev pub IsFsu : List (List ℕ) → StatusUpdate → Type 0
 IsFsu [] u = ⊥
 IsFsu (head ∷ []) u = ⊥
@@ -40,18 +39,16 @@ IsFsu (head ∷ line ∷ []) u = ⊥
 IsFsu (head ∷ line ∷ next ∷ more) u =
     IsTrue (is_head (codes "FSU") head) × (consignment_of line ≡ Ok u.shipment) × (u.trail ≡ next ∷ more)
 
--- the fault of each line that is read
 abbrev pub fsu_line_faults : List (List ℕ) → List (Option Why)
 fsu_line_faults [] = []
 fsu_line_faults (head ∷ []) = unless_true (is_head (codes "FSU") head) why.Head ∷ []
 fsu_line_faults (head ∷ line ∷ trail) =
     unless_true (is_head (codes "FSU") head) why.Head ∷ err_of (consignment_of line) ∷ []
 
--- the fault of lines that are no status update message
+-- the fault of lines that aren't a status update message
 abbrev pub fsu_fault : List (List ℕ) → Option TextFault
 fsu_fault lines = fault_in lines (fsu_line_faults lines) (nat_le 3 (length lines))
 
--- what a message that was read says
 abbrev pub reading_of : Status → Reading
 reading_of (status.Handled event at airport quantity name) = Handled event at airport quantity name
 reading_of (status.ReceivedFromFlight flight at airport quantity) = ReceivedFromFlight flight at airport quantity
@@ -61,11 +58,11 @@ reading_of (status.Differs flight day airport discrepancy quantity) = Differs fl
 abbrev pub update_of : Fsu → StatusUpdate
 update_of m = record { shipment = shipment_of m.consignment; trail = map (λ l. l.text.text.now) m.trail.items }
 
--- a line of the trail was read where its layout is known
+-- a line of the trail is read if its layout is known
 abbrev pub IsRead : StatusLine → Type 0
 IsRead l = option_map reading_of l.status ≡ status_of l.text.text.now
 
--- the consignment line that is sent: all that is declared, without goods
+-- the sent consignment line with all that is declared, without goods
 abbrev pub declared_cargo : WaybillSummary → WrittenLine
 declared_cargo d = record {
   awb = d.awb;
@@ -78,7 +75,7 @@ declared_cargo d = record {
   goods = [];
 }
 
--- the quantity of the update: T where the pieces are all that were declared, else P
+-- the quantity of the update: T if the pieces are all that were declared, otherwise P
 abbrev pub amount_of : SentUpdate → List ℕ
 amount_of u = amount_text u.pieces u.tenths u.of.pieces
 
@@ -90,7 +87,6 @@ abbrev pub told_as : SentCarriage → Carriage
 told_as leaving.Manifested = carriage.Manifested
 told_as leaving.Departed = carriage.Departed
 
--- the status line that is sent
 abbrev pub sent_status_text : SentStatus → SentUpdate → List ℕ
 sent_status_text (sent.Handled what at name) u =
     slashed (handling_code what ∷ when_text at ∷ u.here ∷ amount_of u ∷ []) ++ name_tail name
@@ -100,11 +96,10 @@ sent_status_text (sent.Carried what flight date to) u =
 sent_status_text (sent.Differs what flight at) u =
     slashed (codes "DIS" ∷ flight_text flight ∷ when_text at ∷ u.here ∷ discrepancy_code what ∷ amount_of u ∷ [])
 
--- the lines that are sent
 abbrev pub fsu_lines : SentUpdate → List (List ℕ)
 fsu_lines u = codes "FSU/12" ∷ consignment_text (declared_cargo u.of) ∷ sent_status_text u.status u ∷ []
 
--- and what they say
+-- the values of the sent lines
 abbrev pub written_quantity : SentUpdate → Quantity
 written_quantity u = record { code = written_code u.pieces u.of.pieces; pieces = u.pieces; weight = Some u.tenths; total = None }
 
@@ -119,11 +114,11 @@ sent_status_reading (sent.Differs what flight at) u =
 abbrev pub update_written : SentUpdate → StatusUpdate
 update_written u = record { shipment = shipment_written (declared_cargo u.of); trail = sent_status_text u.status u ∷ [] }
 
--- each line of the trail was read where its layout is known
+-- each line of the trail is read if its layout is known
 abbrev pub AreRead : Fsu → Type 0
 AreRead m = All IsRead m.trail.items
 
--- the fields of the consignment stand in the second line, and the trail is the lines behind it
+-- the fields of the consignment are in the second line, and the trail is the lines after it
 pub record HasFsuSpans (lines : Lines) (m : Fsu) : Type 0 where
   pub consignment : HasSpans (unwrap_or (slice_get (line_texts lines) 1) []) m.consignment
   pub trail : map (λ l. l.text) m.trail.items ≡ drop 2 lines.lines.items

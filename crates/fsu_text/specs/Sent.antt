@@ -1,4 +1,4 @@
--- What the types of an update that is sent keep.
+-- Ranges that the types of a sent update guarantee.
 use Rattle.std.specs.Prelude.{◌<◌, IsTrue}
 use Rattle.awb_number.specs.Number.{IsNumber}
 use Rattle.imp_fields.specs.Airport.{is_airport}
@@ -11,14 +11,12 @@ use Rattle.fsu_text.specs.declared.sent.SentStatus.{SentStatus}
 use Rattle.fsu_text.specs.declared.sent.SentStatus.TheVariants as sent
 use Rattle.fsu_text.specs.declared.sent.SentUpdate.{SentUpdate}
 
--- each field of the status is one of its type's values
 abbrev pub IsSent : SentStatus → Type 0
 IsSent (sent.Handled what at name) = IsCalendarDay at.date × (at.minute < 1440) × IsTrue (is_name name)
 IsSent (sent.ReceivedFromFlight flight at) = IsDesignator flight × IsCalendarDay at.date × (at.minute < 1440)
 IsSent (sent.Carried what flight date to) = IsDesignator flight × IsCalendarDay date × IsTrue (is_airport to)
 IsSent (sent.Differs what flight at) = IsDesignator flight × IsCalendarDay at.date × (at.minute < 1440)
 
--- and so is each field of what is declared
 pub record IsDeclared (d : WaybillSummary) : Type 0 where
   pub awb : IsNumber d.awb
   pub origin : IsTrue (is_airport d.origin)
@@ -26,7 +24,6 @@ pub record IsDeclared (d : WaybillSummary) : Type 0 where
   pub pieces : IsPieces d.pieces
   pub tenths : IsBookTenths d.tenths
 
--- and each field of the update
 pub record IsUpdate (u : SentUpdate) : Type 0 where
   pub declared : IsDeclared u.of
   pub status : IsSent u.status

@@ -17,12 +17,11 @@ use Rattle.fsu_text.specs.declared.status.Carriage.TheVariants.{Booked, Manifest
 use Rattle.imp_fields.specs.declared.discrepancy.Discrepancy.{Discrepancy}
 use Rattle.imp_fields.specs.declared.discrepancy.Discrepancy.TheVariants.{Offloaded, Missing, Found}
 
--- a date, perhaps with a time
+-- a date with an optional time
 pub record Day : Type 0 where
   pub date : CalendarDay
   pub minute : Option ℕ
 
--- what a status line says
 pub data Reading : Type 0 where
   Handled : Handling → When → List ℕ → Quantity → List ℕ → Reading
   ReceivedFromFlight : Designator → When → List ℕ → Quantity → Reading
@@ -47,7 +46,7 @@ discrepancy_code Offloaded = codes "OFLD"
 discrepancy_code Missing = codes "MSCA"
 discrepancy_code Found = codes "FDCA"
 
--- the value that this text is the code of
+-- the value whose code this text is
 abbrev pub coded : {A : Type 0} → (A → List ℕ) → A → List ℕ → Option A
 coded code x text = where_true (bytes_eq (code x) text) x
 
@@ -73,8 +72,8 @@ day_of text = option_map (λ both. record { date = both.0; minute = both.1 }) (o
 abbrev pub name_of : List ℕ → Option (List ℕ)
 name_of text = where_true (is_name text) text
 
--- RCS, NFD and DLV: `CODE/12JAN1030/FRA/quantity`, and perhaps a slash and a name, which is all
--- that follows
+-- RCS, NFD and DLV: `CODE/12JAN1030/FRA/quantity`, and an optional slash and name, which is all the
+-- rest
 abbrev pub handled_by : (code at airport quantity name : List ℕ) → Option Reading
 handled_by code at airport quantity name = do
   event ← handling_of code
@@ -109,8 +108,8 @@ route_of text = do
   to ← airport_of (drop 3 text)
   Some (from, to)
 
--- BKD, MAN and DEP: `CODE/flight/12JAN/FRAJFK/quantity`, perhaps with a time; what stands behind a
--- further slash is not read
+-- BKD, MAN and DEP: `CODE/flight/12JAN/FRAJFK/quantity`, with an optional time; anything after a
+-- further slash is ignored
 abbrev pub carried_by : (code flight date route quantity : List ℕ) → Option Reading
 carried_by code flight date route quantity = do
   event ← carriage_of code
@@ -124,7 +123,7 @@ abbrev pub carried_of : List (List ℕ) → Option Reading
 carried_of (code ∷ flight ∷ date ∷ route ∷ quantity ∷ unread) = carried_by code flight date route quantity
 carried_of _ = None
 
--- `DIS/flight/12JAN/FRA/code/quantity`, perhaps with a time
+-- `DIS/flight/12JAN/FRA/code/quantity`, with an optional time
 abbrev pub differs_by : (code flight date airport discrepancy quantity : List ℕ) → Option Reading
 differs_by code flight date airport discrepancy quantity = do
   dis ← where_true (bytes_eq (codes "DIS") code) code
@@ -139,13 +138,13 @@ abbrev pub differs_of : List (List ℕ) → Option Reading
 differs_of (code ∷ flight ∷ date ∷ airport ∷ discrepancy ∷ quantity ∷ []) = differs_by code flight date airport discrepancy quantity
 differs_of _ = None
 
--- the reading of a status line, where it is of one of these layouts
+-- the reading of a status line, if it has one of these layouts
 abbrev pub status_of : List ℕ → Option Reading
 status_of line =
     or_else (handled_of (fields line))
     (or_else (received_of (fields line)) (or_else (carried_of (fields line)) (differs_of (fields line))))
 
--- a quantity as it is written of so many pieces declared
+-- the written quantity, if `declared` pieces were declared
 abbrev pub amount_text : ℕ → ℕ → ℕ → List ℕ
 amount_text pieces tenths declared = quantity_text (written_code pieces declared) pieces tenths None
 

@@ -1,5 +1,5 @@
-//! Status update messages (Cargo-IMP FSU): a head, a consignment line, and status lines that join
-//! the waybill's trail.
+//! Status update messages (Cargo-IMP FSU): a head, a consignment line, and status lines for the
+//! waybill's trail.
 #![tactic(auto)]
 
 ghost use Rattle.std.specs.Prelude.{◌≡◌, ℕ, List, None};
@@ -17,7 +17,7 @@ pub use sent::{SentCarriage, SentStatus, SentUpdate};
 pub use status::{Carriage, FlightDay, Handling, Status, StatusLine};
 pub use writing::write_fsu;
 
-/// Lines are a message exactly where they have no fault, and then one message only.
+/// Lines are a message exactly if they have no fault, and then only one message.
 pub fn fsu_law()
     ensures read { (lines : List (List ℕ)) (u : StatusUpdate) → IsFsu lines u
         → fsu_fault lines ≡ None }

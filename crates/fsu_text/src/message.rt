@@ -5,9 +5,9 @@ ghost use Rattle.fsu_text.specs.Trail.{is_plain};
 use crate::status::StatusLine;
 use imp_fields::Consignment;
 
-/// A status update message: what its consignment line says, and the lines behind it, at least one.
-/// The source of the consignment's tokens is its line; that of a status line's token is the
-/// telegram. Each line of the trail has at most 255 bytes of printable ASCII.
+/// A status update message: its consignment line, and at least one line after it. The source of the
+/// consignment's tokens is its line; that of a status line's token is the telegram. Each line of
+/// the trail has at most 255 bytes of printable ASCII.
 #[derive(Debug, Drop)]
 pub struct Fsu<'a> {
     pub consignment: Consignment<'a>,

@@ -1,5 +1,5 @@
-//! The reader of status update messages. Each layout's function stands apart in the built program:
-//! all in one would be slower.
+//! The reader of status update messages. Each layout has a function of its own in the built
+//! program: a single function would be slower.
 
 ghost use Rattle.std.specs.Prelude.{◌≡◌, ℕ, List, [], ◌∷◌, ◌++◌, All, OnOk, IfOk, IfErr, Some, map, option_map, codes};
 ghost use Rattle.imp_fields.specs.Characters.{fields};
@@ -17,7 +17,7 @@ use station_days::{DayMonth, DayTime};
 use std::alloc::{AllocError, Global};
 use std::slice;
 
-/// The code of RCS, NFD or DLV.
+/// Returns the event with code RCS, NFD or DLV.
 fn handling(code: &[u8]) -> Option<Handling>
     ensures { result ≡ handling_of code.now }
 {
@@ -29,7 +29,7 @@ fn handling(code: &[u8]) -> Option<Handling>
     }
 }
 
-/// The code of BKD, MAN or DEP.
+/// Returns the event with code BKD, MAN or DEP.
 fn carriage(code: &[u8]) -> Option<Carriage>
     ensures { result ≡ carriage_of code.now }
 {
@@ -41,7 +41,6 @@ fn carriage(code: &[u8]) -> Option<Carriage>
     }
 }
 
-/// The code of a discrepancy that is known.
 fn discrepancy(code: &[u8]) -> Option<Discrepancy>
     ensures { result ≡ discrepancy_of code.now }
 {
@@ -53,7 +52,7 @@ fn discrepancy(code: &[u8]) -> Option<Discrepancy>
     }
 }
 
-/// A date, perhaps with a time.
+/// Reads a date with an optional time.
 fn flight_day(text: &[u8]) -> Option<FlightDay>
     ensures { result ≡ day_of text.now }
 {
@@ -69,7 +68,7 @@ fn flight_day(text: &[u8]) -> Option<FlightDay>
     }
 }
 
-/// RCS, NFD or DLV, by the fields behind its code.
+/// Returns an RCS, NFD or DLV from the fields after its code.
 fn handled_by(
     event: Handling,
     at: &[u8],
@@ -93,7 +92,7 @@ fn handled_by(
     })
 }
 
-/// What follows the code of RCS, NFD or DLV and its slash.
+/// Reads the text after the code of RCS, NFD or DLV and its slash.
 #[inline(never)]
 fn handled(event: Handling, text: &[u8]) -> Option<Status>
     ensures { (code : List ℕ) → handling_of code ≡ Some event
@@ -105,7 +104,7 @@ fn handled(event: Handling, text: &[u8]) -> Option<Status>
     handled_by(event, at, airport, quantity, name)
 }
 
-/// RCF, by the fields behind its code.
+/// Returns an RCF from the fields after its code.
 fn received_by(flight: &[u8], at: &[u8], airport: &[u8], quantity: &[u8]) -> Option<Status>
     ensures { option_map reading_of result ≡ received_by (codes "RCF") flight.now at.now airport.now
         quantity.now }
@@ -122,7 +121,7 @@ fn received_by(flight: &[u8], at: &[u8], airport: &[u8], quantity: &[u8]) -> Opt
     })
 }
 
-/// What follows the code of RCF and its slash.
+/// Reads the text after the code of RCF and its slash.
 #[inline(never)]
 fn received(text: &[u8]) -> Option<Status>
     ensures { option_map reading_of result ≡ received_of (codes "RCF" ∷ fields text.now) }
@@ -136,7 +135,7 @@ fn received(text: &[u8]) -> Option<Status>
     }
 }
 
-/// The two airports of a route such as `FRAJFK`.
+/// Reads the two airports of a route such as `FRAJFK`.
 fn route(text: &[u8]) -> Option<(Airport, Airport)>
     ensures { result ≡ route_of text.now }
 {
@@ -145,7 +144,7 @@ fn route(text: &[u8]) -> Option<(Airport, Airport)>
     Some((from, to))
 }
 
-/// BKD, MAN or DEP, by the fields behind its code.
+/// Returns a BKD, MAN or DEP from the fields after its code.
 fn carried_by(
     event: Carriage,
     flight: &[u8],
@@ -171,8 +170,8 @@ fn carried_by(
     })
 }
 
-/// What follows the code of BKD, MAN or DEP and its slash. What stands behind the quantity is not
-/// read.
+/// Reads the text after the code of BKD, MAN or DEP and its slash. Anything after the quantity is
+/// ignored.
 #[inline(never)]
 fn carried(event: Carriage, text: &[u8]) -> Option<Status>
     ensures { (code : List ℕ) → carriage_of code ≡ Some event
@@ -185,7 +184,7 @@ fn carried(event: Carriage, text: &[u8]) -> Option<Status>
     carried_by(event, flight, day, stations, quantity)
 }
 
-/// DIS, by the fields behind its code.
+/// Returns a DIS from the fields after its code.
 fn differs_by(
     flight: &[u8],
     day: &[u8],
@@ -210,7 +209,7 @@ fn differs_by(
     })
 }
 
-/// What follows the code of DIS and its slash.
+/// Reads the text after the code of DIS and its slash.
 #[inline(never)]
 fn differs(text: &[u8]) -> Option<Status>
     ensures { option_map reading_of result ≡ differs_of (codes "DIS" ∷ fields text.now) }
@@ -225,7 +224,7 @@ fn differs(text: &[u8]) -> Option<Status>
     }
 }
 
-/// What a line says, where it is of one of these layouts: its code says of which.
+/// Reads a line of one of these layouts, by its code.
 fn status(line: &[u8]) -> Option<Status>
     ensures { option_map reading_of result ≡ status_of line.now }
 {
@@ -245,7 +244,7 @@ fn status(line: &[u8]) -> Option<Status>
     None
 }
 
-/// A line of a message as it joins the trail.
+/// Returns a line of a message for the trail.
 fn status_line<'a>(text: &Token<'a>) -> StatusLine<'a>
     ensures text { result.text ≡ text.now }
     ensures read { IsRead result }
@@ -256,7 +255,6 @@ fn status_line<'a>(text: &Token<'a>) -> StatusLine<'a>
     }
 }
 
-/// A line joins the trail.
 fn join<'a>(trail: &mut Vec<StatusLine<'a>>, text: &Token<'a>) -> Result<(), AllocError>
     ensures texts { OnOk result
         (map (λ l. l.text) trail.new.items ≡ map (λ l. l.text) trail.old.items ++ text.now ∷ []) }
@@ -266,7 +264,6 @@ fn join<'a>(trail: &mut Vec<StatusLine<'a>>, text: &Token<'a>) -> Result<(), All
     trail.extend_from_slice(slice::from_ref(&line))
 }
 
-/// The lines that join the trail.
 fn trail<'a>(alloc: Global, lines: &[Token<'a>]) -> Result<Vec<StatusLine<'a>>, AllocError>
     ensures texts { IfOk result (λ trail. map (λ l. l.text) trail.items ≡ lines.now) }
     ensures read { IfOk result (λ trail. All IsRead trail.items) }
@@ -278,12 +275,17 @@ fn trail<'a>(alloc: Global, lines: &[Token<'a>]) -> Result<Vec<StatusLine<'a>>, 
     Ok(trail)
 }
 
-/// The message that lines are.
+/// Reads a message.
 ///
 /// # Errors
-/// The first line that is faulty: `Head` where the first isn't `FSU/` and one to three digits; for
-/// the second line those of a consignment line. `Ending`, at the last line, where there is no
-/// second or no third. `Memory` of line 0 says nothing of the lines.
+///
+/// The fault of the first faulty line:
+///
+/// - `Head`: the first line isn't `FSU/` and one to three digits.
+/// - the fault of a consignment line, for the second line.
+/// - `Ending`, at the last line: there is no second or no third line.
+///
+/// `Memory`, line 0, says nothing about the lines.
 pub fn read<'a>(alloc: Global, lines: &Lines<'a>) -> Result<Fsu<'a>, TextFault>
     ensures read { IfOk result (λ m. IsFsu (line_texts lines.now) (update_of m)) }
     ensures statuses { IfOk result AreRead }

@@ -6,7 +6,7 @@ use crate::status::Handling;
 use imp_fields::{Airport, BookTenths, Discrepancy, Flight, Name, Pieces, WaybillSummary};
 use station_days::{DayMonth, DayTime};
 
-/// What is reported of goods and a flight that leaves here.
+/// An event of goods and a flight that leaves here.
 #[derive(Clone, Copy, Debug, PartialEq, Eq)]
 pub enum SentCarriage {
     /// MAN, manifested.
@@ -15,28 +15,28 @@ pub enum SentCarriage {
     Departed,
 }
 
-/// A status that is sent.
+/// A status to be sent.
 #[derive(Clone, Copy, Debug)]
 pub enum SentStatus {
-    /// RCS, NFD or DLV, and when. An empty name is not written.
+    /// RCS, NFD or DLV, with its moment. An empty name isn't written.
     Handled {
         event: Handling,
         at: DayTime,
         name: Name,
     },
-    /// RCF, received from a flight, and when.
+    /// RCF, received from a flight, with its moment.
     ReceivedFromFlight {
         flight: Flight,
         at: DayTime,
     },
-    /// MAN or DEP: the flight, its date, and where the goods are unloaded.
+    /// MAN or DEP: the flight, its date, and the airport of unloading.
     Carried {
         event: SentCarriage,
         flight: Flight,
         date: DayMonth,
         to: Airport,
     },
-    /// DIS, and when it was seen.
+    /// DIS, with the moment of the discovery.
     Differs {
         discrepancy: Discrepancy,
         flight: Flight,
@@ -44,8 +44,8 @@ pub enum SentStatus {
     },
 }
 
-/// What is sent of a waybill: the status, the airport that sends it, and the pieces and the weight
-/// that it is about.
+/// A status update of a waybill: the status, the airport that sends it, the pieces and their
+/// weight.
 #[derive(Clone, Copy, Debug)]
 pub struct SentUpdate {
     pub of: WaybillSummary,
@@ -55,8 +55,8 @@ pub struct SentUpdate {
     pub tenths: BookTenths,
 }
 
-// What the types of an update keep, for the proof of what is read again. The functions do nothing
-// else.
+// Ranges that the types of an update guarantee, for the proof that it is read back. The functions
+// do nothing else.
 
 fn declared_known(of: &WaybillSummary)
     ensures { IsDeclared of.now }

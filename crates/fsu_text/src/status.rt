@@ -1,4 +1,4 @@
-//! What the lines of a status update say.
+//! Status lines.
 
 ghost use Rattle.std.specs.Prelude.{◌<◌, IfSome};
 ghost use Rattle.fsu_text.specs.Status.{Day};
@@ -7,7 +7,7 @@ use imp_fields::{Airport, Discrepancy, Flight, Name, Quantity, Token};
 use station_days::{DayMonth, DayTime};
 use std::marker::Model;
 
-/// What was done with goods at a station.
+/// An event of goods at a station.
 #[derive(Clone, Copy, Debug, PartialEq, Eq)]
 pub enum Handling {
     /// RCS, received from the shipper or an agent.
@@ -18,7 +18,7 @@ pub enum Handling {
     Delivered,
 }
 
-/// What was done with goods and a flight.
+/// An event of goods and a flight.
 #[derive(Clone, Copy, Debug, PartialEq, Eq)]
 pub enum Carriage {
     /// BKD, booked.
@@ -29,7 +29,7 @@ pub enum Carriage {
     Departed,
 }
 
-/// A date without its year, and perhaps a minute of that day.
+/// A date without its year, with an optional minute.
 #[derive(Clone, Copy, Debug, PartialEq, Eq)]
 pub struct FlightDay {
     pub date: DayMonth,
@@ -83,7 +83,7 @@ pub enum Status {
     },
 }
 
-/// A line behind the consignment line: as it stands, and read where its layout is known.
+/// A line after the consignment line, unchanged, and read if its layout is known.
 #[derive(Clone, Copy, Debug)]
 pub struct StatusLine<'a> {
     pub text: Token<'a>,

@@ -1,4 +1,4 @@
-//! The writer of status update messages. Each helper returns the place behind what it wrote.
+//! The writer of status update messages. Each helper returns the index after what it wrote.
 
 ghost use Rattle.std.specs.Prelude.{◌≡◌, ◌≤◌, ◌+◌, ◌++◌, ◌∷◌, [], length, take, None, Ok, Some, OnOk, OnErr};
 ghost use Rattle.station_days.specs.Date.{date_text, when_text};
@@ -20,7 +20,7 @@ use imp_fields::{
 use station_days::{DayMonth, DayTime};
 use std::alloc::AllocError;
 
-/// Writes a text at a place.
+/// Writes a text at `at`.
 fn put(out: &mut [u8], at: usize, text: &[u8]) -> usize
     requires { at + length text.now ≤ length out.old }
     ensures place { result ≡ at + length text.now }
@@ -30,7 +30,6 @@ fn put(out: &mut [u8], at: usize, text: &[u8]) -> usize
     at + text.len()
 }
 
-/// Writes a slash and a field.
 fn put_field(out: &mut [u8], at: usize, text: &[u8]) -> usize
     requires { at + length text.now + 1 ≤ length out.old }
     ensures place { result ≡ at + length text.now + 1 }
@@ -40,7 +39,6 @@ fn put_field(out: &mut [u8], at: usize, text: &[u8]) -> usize
     put(out, at, text)
 }
 
-/// Writes a slash and a flight.
 fn put_flight(out: &mut [u8], at: usize, flight: &Flight) -> usize
     requires { at + 8 ≤ length out.old }
     ensures bound { result ≤ at + 8 }
@@ -69,7 +67,7 @@ fn put_amount(
     put_field(out, at, &text[..len])
 }
 
-/// The code of so many pieces: T where they are all that were declared, else P.
+/// Returns the code for `pieces`: T if they are all that were declared, otherwise P.
 fn code(pieces: Pieces, declared: Pieces) -> ShipmentCode
     ensures { result ≡ written_code pieces declared }
 {
@@ -90,7 +88,6 @@ fn put_update(out: &mut [u8], at: usize, update: &SentUpdate) -> usize
     put_amount(out, at, code, update.pieces, update.tenths)
 }
 
-/// Writes the consignment line: all that is declared, without goods.
 fn put_consignment(out: &mut [u8], at: usize, of: &WaybillSummary) -> usize
     requires { at + 37 ≤ length out.old }
     ensures bound { result ≤ at + 37 }
@@ -103,7 +100,7 @@ fn put_consignment(out: &mut [u8], at: usize, of: &WaybillSummary) -> usize
     put_amount(out, at, ShipmentCode::Total, of.pieces, of.tenths)
 }
 
-/// RCS, NFD or DLV.
+/// Returns RCS, NFD or DLV.
 fn handling_code(event: Handling) -> [u8; 3]
     ensures { result ≡ handling_code event }
 {
@@ -114,7 +111,6 @@ fn handling_code(event: Handling) -> [u8; 3]
     }
 }
 
-/// MAN or DEP.
 fn carriage_code(event: SentCarriage) -> [u8; 3]
     ensures { result ≡ carriage_code (told_as event) }
 {
@@ -124,7 +120,7 @@ fn carriage_code(event: SentCarriage) -> [u8; 3]
     }
 }
 
-/// OFLD, MSCA or FDCA.
+/// Returns OFLD, MSCA or FDCA.
 fn discrepancy_code(discrepancy: Discrepancy) -> [u8; 4]
     ensures { result ≡ discrepancy_code discrepancy }
 {
@@ -135,7 +131,7 @@ fn discrepancy_code(discrepancy: Discrepancy) -> [u8; 4]
     }
 }
 
-/// Writes a slash and a name, and nothing where the name is empty.
+/// Writes a slash and a name, or nothing for an empty name.
 #[tactic(auto, using(crate::proofs::PutLaws::name_short, crate::proofs::PutLaws::no_name, crate::proofs::PutLaws::some_name))]
 fn put_name(out: &mut [u8], at: usize, name: &Name) -> usize
     requires { at + 36 ≤ length out.old }
@@ -236,7 +232,6 @@ fn put_differs(
     put_update(out, at, update)
 }
 
-/// Writes the status line.
 fn put_status(out: &mut [u8], at: usize, update: &SentUpdate) -> usize
     requires { at + 72 ≤ length out.old }
     ensures bound { result ≤ at + 72 }
@@ -266,7 +261,7 @@ fn put_status(out: &mut [u8], at: usize, update: &SentUpdate) -> usize
     }
 }
 
-/// Writes the three lines, each ended by a carriage return and a newline.
+/// Writes the three lines, each ended by CR LF.
 fn put_lines(out: &mut [u8; 128], update: &SentUpdate) -> usize
     ensures bound { result ≤ 128 }
     ensures text { take result out.new ≡ sent_text (fsu_lines update.now) }
@@ -279,15 +274,14 @@ fn put_lines(out: &mut [u8; 128], update: &SentUpdate) -> usize
 }
 
 /// Appends a status update to a buffer: the head `FSU/12`, the consignment line with all that is
-/// declared and the status line, each ended by a carriage return and a newline.
+/// declared, and the status line, each ended by CR LF.
 ///
-/// # Errors
-/// Where the buffer cannot grow; then it is as it was.
+/// If memory runs out, the buffer is unchanged.
 pub fn write_fsu(out: &mut Vec<u8>, update: &SentUpdate) -> Result<(), AllocError>
     ensures ok { OnOk result (out.new.items ≡ out.old.items ++ sent_text (fsu_lines update.now)) }
     ensures err { OnErr result (out.new.items ≡ out.old.items) }
 
-    // The lines that are sent are normal, and are read as what was written.
+    // The sent lines are normal, and are read back as the values written.
     ensures normal { normal_lines (sent_text (fsu_lines update.now)) ≡ Ok (fsu_lines update.now) }
     ensures read_again { IsFsu (fsu_lines update.now) (update_written update.now) }
     ensures status { status_of (sent_status_text update.now.status update.now)

@@ -1,5 +1,5 @@
-//! Waybill data messages (Cargo-IMP FWB): a head, a consignment line with a weight, and lines that
-//! are not read.
+//! Waybill data messages (Cargo-IMP FWB): a head, a consignment line with a weight, and ignored
+//! lines.
 #![tactic(auto)]
 
 ghost use Rattle.std.specs.Prelude.{◌≡◌, ℕ, List, None};
@@ -11,14 +11,13 @@ mod reading;
 use imp_fields::Consignment;
 pub use reading::read;
 
-/// A waybill data message: what its consignment line says. The source of the line's tokens is that
-/// line.
+/// A waybill data message: its consignment line. The source of the line's tokens is that line.
 #[derive(Clone, Copy, Debug)]
 pub struct Fwb<'a> {
     pub consignment: Consignment<'a>,
 }
 
-/// Lines are a message exactly where they have no fault, and then one message only.
+/// Lines are a message exactly if they have no fault, and then only one message.
 pub fn fwb_law()
     ensures read { (lines : List (List ℕ)) (s : Shipment) → IsFwb lines s → fwb_fault lines ≡ None }
     ensures faultless { (lines : List (List ℕ)) → fwb_fault lines ≡ None → (s : Shipment)

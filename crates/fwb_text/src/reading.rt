@@ -8,7 +8,6 @@ ghost use Rattle.fwb_text.specs.Fwb.{IsFwb, weighed_fault, fwb_fault, fwb_shipme
 use crate::Fwb;
 use imp_fields::{Consignment, Lines, TextFault, Why, fault_at, is_head, read_consignment};
 
-/// A consignment line that gives a weight.
 fn weighed<'a>(line: &'a [u8]) -> Result<Consignment<'a>, Why>
     ensures read { IfOk result (λ c. (consignment_of line.now ≡ Ok (shipment_of c))
         × IsTrue (is_some c.quantity.weight)) }
@@ -27,12 +26,15 @@ fn weighed<'a>(line: &'a [u8]) -> Result<Consignment<'a>, Why>
     }
 }
 
-/// The message that lines are. It takes no memory, so that its faults are those of the lines alone.
+/// Reads a message. It allocates nothing, so all faults are those of the lines.
 ///
 /// # Errors
-/// The first line that is faulty: `Head` where the first isn't `FWB/` and one to three digits; for
-/// the second line those of a consignment line, and then `Weight` where it gives none. `Ending`, at
-/// the last line, where there is no second.
+///
+/// The fault of the first faulty line:
+///
+/// - `Head`: the first line isn't `FWB/` and one to three digits.
+/// - the fault of a consignment line, for the second line, and then `Weight` if it gives none.
+/// - `Ending`, at the last line: there is no second line.
 pub fn read<'a>(lines: &Lines<'a>) -> Result<Fwb<'a>, TextFault>
     ensures read { IfOk result (λ m. IsFwb (line_texts lines.now) (fwb_shipment m)) }
     ensures fault { IfErr result (λ told. fwb_fault (line_texts lines.now) ≡ Some told) }

@@ -1,4 +1,4 @@
--- What has come of a request, once it is whole.
+-- A received request.
 use Rattle.std.specs.Prelude.{◌≡◌, ℕ, ◌+◌, ◌<◌, ◌≤◌, Option, List, length}
 use Rattle.httparse.specs.Grammar.{RequestHead, print_request}
 use Rattle.http_desk.specs.declared.wanted.HeadWants.{HeadWants}
@@ -10,17 +10,16 @@ use Rattle.http_desk.specs.Reading.{HasNoHead}
 use Rattle.http_desk.specs.Request.{head_asks, key_of}
 use Rattle.http_desk.specs.Wanted.{HasWants}
 
--- all of the body has come that a head sends
 abbrev pub HasBody : HeadWants → ℕ → List ℕ → Type 0
 HasBody (wants.Now w) start bytes = Unit {0}
 HasBody (wants.Body post n) start bytes = start + n ≤ length bytes
 
--- a body is sent, and not all of it has come
+-- the head has a body, which isn't complete
 abbrev pub HasPartBody : HeadWants → ℕ → List ℕ → Type 0
 HasPartBody (wants.Now w) start bytes = ⊥
 HasPartBody (wants.Body post n) start bytes = length bytes < start + n
 
--- the bytes begin with a head that wants this and has this key, and its body starts there
+-- the bytes begin with a head of this request and key, and its body starts at `start`
 pub record BeginsWith (bytes : List ℕ) (w : HeadWants) (key : Option (List ℕ))
     (start : ℕ) : Type 0 where
   pub head : RequestHead
@@ -29,7 +28,7 @@ pub record BeginsWith (bytes : List ℕ) (w : HeadWants) (key : Option (List ℕ
   pub key_is : key ≡ key_of (head_of head).fields
   pub start_is : start ≡ length (print_request head)
 
--- there is no head, or a head and its whole body
+-- there is no head, or a head with its whole body
 abbrev pub HasRequest : List ℕ → Came → Type 0
 HasRequest bytes came.NoHead = HasNoHead bytes
 HasRequest bytes (came.Head w key start) = BeginsWith bytes w key start × HasBody w start bytes

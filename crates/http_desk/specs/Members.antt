@@ -1,4 +1,4 @@
--- A waybill's members as text, in four parts, the last of them with what is stored behind it.
+-- The members of a waybill as text, in four parts.
 use Rattle.std.specs.Prelude.{ℕ, List, ◌++◌, codes, decimal}
 use Rattle.serde_json.specs.Data.{boolean, string}
 use Rattle.serde_json.specs.Written.{compact_text}

@@ -1,4 +1,4 @@
--- Which paths lead where.
+-- The paths and their routes.
 use Rattle.std.specs.Prelude.{◌≡◌, ◌⊎◌, ℕ, ◌<◌, ◌==◌, ◌&&◌, not, nat_lt, Bool, true, false, Some, List, ◌++◌, length, codes}
 use Rattle.std.specs.List.{list_all}
 use Rattle.matchit.specs.Seek.{has_slash}
@@ -16,11 +16,10 @@ is_path_byte b = nat_lt b 256 && not (b == 63)
 abbrev pub IsPath : List ℕ → Type 0
 IsPath path = list_all is_path_byte path ≡ true
 
--- a name at a path's end: a byte or more, and no slash
+-- a name at the end of a path: at least one byte, without a slash
 abbrev pub IsName : List ℕ → Type 0
 IsName name = (0 < length name) × (has_slash name ≡ false)
 
--- the path of a report
 abbrev pub report_path : Report → List ℕ
 report_path report.Stock = codes "/v1/reports/stock"
 report_path report.Shed = codes "/v1/reports/shed"
@@ -41,13 +40,12 @@ LeadsToPlace path (gets (got_holder name)) = IsName name × (path ≡ codes "/v1
 LeadsToPlace path (gets (got_report p)) =
     (name : Report) × (p ≡ as_text name) × (path ≡ report_path name)
 
--- the path leads to no page, and asks for rows
+-- the path leads to no page, and requests rows
 pub record LeadsToRows (path : List ℕ) (place : Place) : Type 0 where
   pub no_page : (page : Place) → ¬ (LeadsToPlace path page)
   pub printout : Printout
   pub asks : printout_at path ≡ Some printout
   pub is : place ≡ gets (got_report printout)
 
--- the path leads there
 abbrev pub LeadsTo : List ℕ → Place → Type 0
 LeadsTo path place = LeadsToPlace path place ⊎ LeadsToRows path place

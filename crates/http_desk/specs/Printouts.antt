@@ -1,4 +1,4 @@
--- Rows that a path asks for, and their form.
+-- Rows that a path requests, and their form.
 use Rattle.std.specs.Prelude.{ℕ, ◌-◌, ◌==◌, ◌^◌, ◌&&◌, Bool, nat_lt, if◌then◌else◌, Option, Some, None, option_map, option_and_then, List, take, drop, length, codes}
 use Rattle.std.specs.List.{before_first, after_first}
 use Rattle.std.specs.Result.{result_ok}
@@ -19,22 +19,21 @@ use Rattle.reports.specs.declared.report.Report.TheVariants as report
 use Rattle.http_desk.specs.declared.printout.Printout.{Printout}
 use Rattle.http_desk.specs.Digits.{number_told}
 
--- the text is those rows of the state, in that form
+-- the text has the rows of the state, in the form
 abbrev pub IsPrinted : State → Printout → List ℕ → Type 0
 IsPrinted s p text = IsListing p.form s p.listing text
 
--- a whole report as text
 abbrev pub as_text : Report → Printout
 as_text name = record { listing = listing.All name; form = form.Text }
 
--- a path is cut at its first slash
+-- the two parts of a path at its first slash
 abbrev pub first_part : List ℕ → List ℕ
 first_part path = before_first (λ b. b == 47) path
 
 abbrev pub later_part : List ℕ → List ℕ
 later_part path = after_first (λ b. b == 47) path
 
--- `.json` at the end asks for that form
+-- `.json` at the end requests that form
 abbrev pub is_json : List ℕ → Bool
 is_json path = bytes_eq (drop (length path - 5) path) (codes ".json")
 
@@ -50,7 +49,7 @@ abbrev pub agent_rows : List ℕ → List ℕ → Option Listing
 agent_rows word code =
     where_true (bytes_eq word (codes "stock") && is_agent_code code) (listing.AgentStock code)
 
--- a number of one to ten digits, as a row may have it
+-- a number of one to ten digits that a row can have
 abbrev pub row_number : List ℕ → Option ℕ
 row_number text = option_and_then (λ n. where_true (nat_lt n (2 ^ 32)) n) (number_told text)
 
@@ -71,12 +70,10 @@ line_rows word n =
 abbrev pub message_rows : List ℕ → ℕ → Option Listing
 message_rows word n = where_true (bytes_eq word (codes "after")) (listing.PendingAfter n)
 
--- the manifest of a flight, on its day
 abbrev pub flight_rows : List ℕ → Designator → Option Listing
 flight_rows day flight =
     option_map (λ d. listing.Manifest (record { flight = flight; day = d })) (day_of day)
 
--- rows of a kind
 abbrev pub rows_of_kind : List ℕ → List ℕ → Option Listing
 rows_of_kind kind rest =
     if bytes_eq kind (codes "reports") then listing_called rest
@@ -93,7 +90,7 @@ rows_of_kind kind rest =
     then option_and_then (message_rows (first_part rest)) (row_number (later_part rest))
     else None
 
--- the rows behind `/v1/`
+-- the rows at a path after `/v1/`
 abbrev pub rows_behind : List ℕ → Option Listing
 rows_behind path =
     if bytes_eq path (codes "outbox") then Some (listing.All report.Pending)

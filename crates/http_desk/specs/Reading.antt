@@ -1,4 +1,4 @@
--- What has come of a request.
+-- Reading a request.
 use Rattle.std.specs.Prelude.{◌≡◌, ◌⊎◌, ℕ, ◌+◌, ◌-◌, ◌<◌, ◌≤◌, List, ◌++◌, length}
 use Rattle.httparse.specs.Grammar.{RequestHead}
 use Rattle.httparse.specs.Spans.{RequestOverflows}
@@ -6,7 +6,7 @@ use Rattle.station_core.specs.Given.{Given}
 use Rattle.station_core.specs.Ends.{HasCause}
 use Rattle.http_desk.specs.Answer.{head_room, most_fields, HasHead}
 
--- one read more, whose bytes stand behind those that had come; no read failed
+-- another read appended its bytes, and no read failed
 pub record HasCome (old new : Given) (before after : List ℕ) : Type 0 where
   pub part : List ℕ
   pub bytes : after ≡ before ++ part
@@ -15,7 +15,7 @@ pub record HasCome (old new : Given) (before after : List ℕ) : Type 0 where
   pub failures : new.failures ≡ old.failures
   pub idle : new.idle ≡ old.idle
 
--- some reads more, whose bytes stand behind those that had come; no read failed
+-- further reads appended their bytes, and no read failed
 pub record HasGrown (old new : Given) (before after : List ℕ) : Type 0 where
   pub part : List ℕ
   pub bytes : after ≡ before ++ part
@@ -23,29 +23,28 @@ pub record HasGrown (old new : Given) (before after : List ℕ) : Type 0 where
   pub failures : new.failures ≡ old.failures
   pub idle : new.idle ≡ old.idle
 
--- the most reads of a request
 abbrev pub most_reads : ℕ
 most_reads = 100_000
 
--- the reader failed, or the input ended, or so many reads were made
+-- the reader failed, the input ended, or the limit of reads was reached
 abbrev pub HasEndedEarly : Given → Given → Type 0
 HasEndedEarly old new = HasCause old new ⊎ (old.calls + most_reads ≤ new.calls)
 
--- the same where some reads were made before
+-- the same after `turns` reads
 abbrev pub HasEndedAfter : ℕ → Given → Given → Type 0
 HasEndedAfter turns old new = HasCause old new ⊎ (old.calls + (most_reads - turns) ≤ new.calls)
 
--- no head is there, nor can one with few enough fields come in its room
+-- there is no head, and more bytes can't complete one with few enough fields in its space
 abbrev pub HasNoHead : List ℕ → Type 0
 HasNoHead bytes =
     ((h : RequestHead) → ¬ (HasHead bytes h))
     × (RequestOverflows most_fields bytes ⊎ (head_room ≤ length bytes))
 
--- More bytes have come, behind those that had come.
+-- More bytes were received and appended.
 abbrev pub HasMore : Given → Given → List ℕ → List ℕ → Type 0
 HasMore old new before after =
     (part : List ℕ) × ((after ≡ before ++ part) × (new.bytes ≡ old.bytes ++ part))
 
--- no head is there yet, and there is room for one
+-- there is no head yet, and there is space for one
 abbrev pub HasNoHeadYet : List ℕ → Type 0
 HasNoHeadYet bytes = ((h : RequestHead) → ¬ (HasHead bytes h)) × (length bytes < head_room)

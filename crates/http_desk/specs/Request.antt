@@ -1,4 +1,4 @@
--- What a request asks, by the tests in their order.
+-- Requests, by the tests in their order.
 use Rattle.std.specs.Prelude.{◌≡◌, ◌⊎◌, ℕ, ◌&&◌, ◌||◌, not, Bool, true, false, nat_le, take, drop, List, [], ◌∷◌, length, map, codes, Option, Some, None, Result, Ok, Err, IsUtf8, if◌then◌else◌}
 use Rattle.std.specs.Char.{to_ascii_lowercase}
 use Rattle.std.specs.Str.{bytes_eq}
@@ -20,15 +20,14 @@ use Rattle.station_core.specs.declared.input.Input.{Input}
 use Rattle.station_core.specs.declared.input.Input.TheVariants.{Keyed, Wire}
 use Rattle.http_desk.specs.Routes.{Posted, posted_command, posted_telegram, posted_look, Got, Place, posts, gets, place_of}
 
--- a request's head, as far as it is read: the fields are names and values without blanks and tabs
--- round them
+-- a request's head: its fields are names and values, without spaces and tabs around them
 pub record Head : Type 0 where
   pub method : List ℕ
   pub target : List ℕ
   pub fields : List (List ℕ × List ℕ)
 
--- A fault is answered by its status and a word, or none; at a wrong method the right one stands in
--- a line of its own.
+-- A fault is answered with its status and a word, which may be empty. A wrong method is answered
+-- with the allowed one in a line of its own.
 pub record Fault : Type 0 where
   pub status : ℕ
   pub word : List ℕ
@@ -40,7 +39,7 @@ fault status word = record { status = status; word = word; allow = None }
 abbrev pub wrong_method : List ℕ → Fault
 wrong_method allowed = record { status = 405; word = []; allow = Some allowed }
 
--- names are compared without case
+-- names are compared in any case
 abbrev pub is_named : List ℕ → List ℕ × List ℕ → Bool
 is_named name field = bytes_eq (map to_ascii_lowercase field.0) name
 
@@ -72,7 +71,7 @@ body_length fields =
     length_beside (values_of (codes "transfer-encoding") fields)
     (values_of (codes "content-length") fields)
 
--- What a head asks: it is refused, it gets something, or it posts a body of some length.
+-- The request in a head: it is refused, it is a GET, or it posts a body of some length.
 pub data HeadAsks : Type 0 where
   refuses : Fault → HeadAsks
   looks_up : Got → HeadAsks
@@ -91,8 +90,8 @@ place_asks head (Some (gets got)) =
     if bytes_eq head.method (codes "GET") then looks_up got
     else refuses (wrong_method (codes "GET"))
 
--- Which page a request comes from, where a browser tells it. Only the host's own pages may ask:
--- this scheme, and then the host.
+-- The origin of a request, if a browser names it. Only the host's own pages are allowed: this
+-- scheme followed by the host.
 abbrev pub is_at : List ℕ → List ℕ → List ℕ → Bool
 is_at scheme host origin =
     bytes_eq (take (length scheme) origin) scheme && bytes_eq (drop (length scheme) origin) host
@@ -100,12 +99,12 @@ is_at scheme host origin =
 abbrev pub is_own : List ℕ → List ℕ → Bool
 is_own host origin = is_at (codes "http://") host origin || is_at (codes "https://") host origin
 
--- an origin is foreign to all hosts but one that is named once
+-- an origin is foreign unless the host is named once and the origin is its own
 abbrev pub is_foreign_to : List (List ℕ) → List ℕ → Bool
 is_foreign_to (host ∷ []) origin = not (is_own host origin)
 is_foreign_to _ origin = true
 
--- a request that tells no origin isn't foreign, and one that tells several is
+-- a request without an origin isn't foreign; a request with several is
 abbrev pub is_foreign_among : List (List ℕ) → List (List ℕ) → Bool
 is_foreign_among hosts [] = false
 is_foreign_among hosts (origin ∷ []) = is_foreign_to hosts origin
@@ -115,7 +114,7 @@ abbrev pub is_foreign : List (List ℕ × List ℕ) → Bool
 is_foreign fields =
     is_foreign_among (values_of (codes "host") fields) (values_of (codes "origin") fields)
 
--- what is asked by a page of the host, or by no page
+-- the request of a page of the host, or of no page
 abbrev pub own_asks : Head → HeadAsks
 own_asks head = place_asks head (place_of head.target)
 
@@ -123,7 +122,7 @@ abbrev pub head_asks : Head → HeadAsks
 head_asks head =
     if is_foreign head.fields then refuses (fault 400 (codes "origin")) else own_asks head
 
--- the key under which a command is posted: there is one, and it is a key
+-- the key of a posted command: there is exactly one, and it is valid
 abbrev pub key_among : List (List ℕ) → Option (List ℕ)
 key_among (key ∷ []) = if is_key key then Some key else None
 key_among _ = None
@@ -131,15 +130,15 @@ key_among _ = None
 abbrev pub key_of : List (List ℕ × List ℕ) → Option (List ℕ)
 key_of fields = key_among (values_of (codes "request-key") fields)
 
--- What a body asks: it is refused by a word, it is no telegram, it is a telegram that is only
--- looked at, or it is an input for the station.
+-- The content of a body: it is refused with a word, it isn't a telegram, it is a dry run, or it is
+-- an input for the station.
 pub data BodyAsks : Type 0 where
   bad_body : Fault → BodyAsks
   unreadable : Refusal → BodyAsks
   looks_at : List ℕ → BodyAsks
   for_station : Input → BodyAsks
 
--- the bytes are JSON that says this command of the verb
+-- the bytes are JSON of this command of the verb
 abbrev pub IsSaid : Verb → List ℕ → Command → Type 0
 IsSaid verb bytes command =
     IsUtf8 bytes × ((d : Data) × (read bytes ≡ Some d) × IsBodyOf verb d command)

@@ -1,4 +1,4 @@
--- What the station was asked, and what is to be written.
+-- Calls of the station, and the answers to write.
 use Rattle.std.specs.Prelude.{◌≡◌, ◌⊎◌, Bool, true, false, Option, Some, None, string_bytes}
 use Rattle.station_days.specs.Date.{LocalMinute}
 use Rattle.station_core.specs.declared.input.Input.{Input}
@@ -11,7 +11,7 @@ use Rattle.http_desk.specs.Reply.{Reply, json_reply, ok_data, status_of, IsWritt
 use Rattle.http_desk.specs.StationAfter.{StationAfter, station_at, WorksAt}
 use Rattle.http_desk.specs.Wanted.{wanted_reply, wanted_state}
 
--- the bytes of a reply of JSON, with its status; or memory ran out for them
+-- the bytes of a JSON reply with its status, or memory ran out
 abbrev pub IsToldAs : Reply → Told → Type 0
 IsToldAs reply (told.Accepted count) = reply ≡ json_reply 200 None (ok_data count)
 IsToldAs reply (told.Json status text) =
@@ -19,10 +19,9 @@ IsToldAs reply (told.Json status text) =
 IsToldAs reply (told.Report name) = ⊥
 IsToldAs reply (told.Unavailable reopen) = reopen ≡ false
 
--- What is wanted is replied, and the station works and keeps the state after it, which is another
--- only where an input was accepted; a report is still to be read. Where nothing can be replied,
--- nothing has changed; or the station broke at an input, and a reopening finds the state before it
--- or the one after.
+-- The request is replied to, and the station works and keeps the state after it, which differs only
+-- if an input was accepted; a report is still to be read. Without a reply nothing has changed; or
+-- the station broke at an input, and reopening finds the state before it or the one after.
 abbrev pub HasAsked : State → LocalMinute → Wanted → Told → StationAfter → Type 0
 HasAsked s at w (told.Accepted count) left =
     (wanted_reply s at w ≡ json_reply 200 None (ok_data count)) × WorksAt left (wanted_state s at w)
@@ -37,17 +36,17 @@ HasAsked s at w (told.Unavailable reopen) left =
     × ((found : Option State) → left.may_find found
     → (found ≡ Some s) ⊎ (found ≡ Some (step s i at).state))))
 
--- whether it asks to open the station again
+-- true if the answer reports that the station must be opened again
 abbrev pub tells_reopen : Told → Bool
 tells_reopen (told.Unavailable reopen) = reopen
 tells_reopen _ = false
 
--- a station that has to be opened again isn't asked in vain: it is told
+-- a call of a broken station is reported
 abbrev pub IsUnavailable : Told → Type 0
 IsUnavailable (told.Unavailable reopen) = reopen ≡ true
 IsUnavailable _ = ⊥
 
--- What is replied there holds of each state, and leaves it as it is: nothing was asked of the
--- station, or nothing is replied.
+-- On a broken station the reply is one that holds for each state and leaves it as it is: the
+-- station wasn't called, or there is no reply.
 abbrev pub HasAskedShut : LocalMinute → Wanted → Told → Type 0
 HasAskedShut at w t = (s : State) → HasAsked s at w t (station_at s)

@@ -1,4 +1,4 @@
--- What a request wants of the desk, and what it is replied.
+-- Decoded requests, and the replies to them.
 use Rattle.std.specs.Prelude.{◌≡◌, ℕ, List, Option, string_bytes}
 use Rattle.station_days.specs.Date.{LocalMinute}
 use Rattle.station_core.specs.Readers.{waybill_of}
@@ -18,7 +18,7 @@ use Rattle.http_desk.specs.Reply.{Reply, look_reply, report_reply, fault_reply, 
 use Rattle.http_desk.specs.Answer.{Replied, IsAnsweredAs, Answers}
 use Rattle.http_desk.specs.Serving.{AsksInput, GetsReport}
 
--- the reply to it, and the state after it
+-- the reply to a request, and the state after it
 abbrev pub wanted_reply : State → LocalMinute → Wanted → Reply
 wanted_reply s at (wanted.Fault f) = fault_reply (meant f)
 wanted_reply s at (wanted.Unreadable refusal) = refusal_reply refusal
@@ -32,8 +32,8 @@ abbrev pub wanted_state : State → LocalMinute → Wanted → State
 wanted_state s at (wanted.Input i) = (step s i at).state
 wanted_state s at _ = s
 
--- The request with these bytes is answered by the reply to what it wants; a report is wanted only
--- where it is got, and an input only where it is asked.
+-- The request with these bytes is answered with the reply to its decoded form. A report occurs only
+-- for a GET, and an input only for a POST.
 pub record Wants (bytes : List ℕ) (w : Wanted) : Type 0 where
   pub answered : (s : State) (at : LocalMinute) (status : ℕ) (out : List ℕ) (after : State)
       → Replied s (wanted_reply s at w) (wanted_state s at w) status out after
@@ -41,7 +41,7 @@ pub record Wants (bytes : List ℕ) (w : Wanted) : Type 0 where
   pub report : (name : Printout) → w ≡ wanted.Report name → GetsReport bytes name
   pub input : (i : Input) → w ≡ wanted.Input i → AsksInput bytes i
 
--- the same of what a head asks that sends no body
+-- the same for a head without a body
 pub record WantsNow (asks : HeadAsks) (w : Wanted) : Type 0 where
   pub answered : (head : Head) (rest : List ℕ) (s : State) (at : LocalMinute) (status : ℕ)
       (out : List ℕ) (after : State)
@@ -50,25 +50,24 @@ pub record WantsNow (asks : HeadAsks) (w : Wanted) : Type 0 where
   pub report : (name : Printout) → w ≡ wanted.Report name → asks ≡ looks_up (got_report name)
   pub input : (i : Input) → w ≡ wanted.Input i → ⊥
 
--- what is posted
 abbrev pub posted_of : Post → Posted
 posted_of (post.Command verb) = posted_command verb
 posted_of post.Telegram = posted_telegram
 posted_of post.Look = posted_look
 
--- a head wants something at once, or sends a body of so many bytes
+-- the head has a request without a body, or a body of this length
 abbrev pub HasWants : HeadAsks → HeadWants → Type 0
 HasWants asks (wants.Now w) = WantsNow asks w
 HasWants asks (wants.Body post n) = asks ≡ sends (posted_of post) n
 
--- the reply to what a body asks
+-- the reply to the content of a body
 pub record WantsAsked (asks : BodyAsks) (w : Wanted) : Type 0 where
   pub reply : (s : State) (at : LocalMinute) → wanted_reply s at w ≡ body_reply s at asks
   pub state : (s : State) (at : LocalMinute) → wanted_state s at w ≡ body_state s at asks
   pub report : (name : Printout) → w ≡ wanted.Report name → ⊥
   pub input : (i : Input) → w ≡ wanted.Input i → asks ≡ for_station i
 
--- what a body asks is wanted
+-- the decoded form of the content of a body
 abbrev pub BodyWants : Posted → Option (List ℕ) → List ℕ → Wanted → Type 0
 BodyWants posted key body w =
     (asks : BodyAsks) × IsAskedUnder posted key body asks × WantsAsked asks w

@@ -1,4 +1,4 @@
--- What a request is answered with, and what goes out of it.
+-- The answer to a request, and the bytes written.
 use Rattle.std.specs.Prelude.{◌≡◌, ◌⊎◌, ℕ, ◌<◌, ◌≤◌, Bool, false, Result, Ok, Err, List, ◌++◌, length, take, string_bytes}
 use Rattle.station_days.specs.Date.{LocalMinute}
 use Rattle.station_core.specs.Given.{Given}
@@ -16,8 +16,8 @@ use Rattle.http_desk.specs.Answer.{Answers}
 use Rattle.http_desk.specs.StationAfter.{StationAfter, station_at, WorksAt}
 use Rattle.http_desk.specs.Serving.{unavailable, GetsReport, SomeOrEach, IsUnchangedOrBroken}
 
--- What the request with these bytes is answered with is its answer, and the state after it is kept.
--- It is another only where an input was accepted.
+-- The answer to the request with these bytes, and the state kept after it, which differs only if an
+-- input was accepted.
 abbrev pub IsToldFor : List ℕ → State → LocalMinute → Told → StationAfter → Type 0
 IsToldFor bytes s at (told.Accepted count) left =
     (after : State) × Answers bytes s at 200 (ok_answer count) after × WorksAt left after
@@ -30,7 +30,7 @@ IsToldFor bytes s at (told.Report name) left =
     × WorksAt left s
 IsToldFor bytes s at (told.Unavailable reopen) left = IsUnchangedOrBroken bytes s at left
 
--- the bytes went out, or their beginning
+-- the bytes were written, or a prefix
 abbrev pub HasSent : ℕ → Bool → List ℕ → Given → Given → Result Served ServeFault → Type 0
 HasSent status reopen bytes old new (Ok served) =
     (served ≡ record { status = status; reopen = reopen }) × (new.bytes ≡ old.bytes ++ bytes)
@@ -38,14 +38,14 @@ HasSent status reopen bytes old new (Err serve.Read) = ⊥
 HasSent status reopen bytes old new (Err (serve.Write sent)) =
     Sent old new bytes sent × HasCause old new
 
--- all of a report's head went out, and a byte of the report or more
+-- a report's whole head was written, and at least one byte of the report
 abbrev pub HasBegun : Printout → Given → Given → List ℕ → Type 0
 HasBegun name old new whole =
     (n : ℕ)
     × ((length (report_head name) < n) × (n ≤ length whole)
     × (new.bytes ≡ old.bytes ++ take n whole))
 
--- an answer with a report went out: whole, up to a fault, or 503 where it hadn't begun
+-- an answer with a report was written: in full, up to a fault, or 503 if it hadn't begun
 abbrev pub HasReported : State → Printout → Given → Given → Result Served ServeFault → Type 0
 HasReported s name old new (Ok served) =
     ((served ≡ record { status = 200; reopen = false })
@@ -59,14 +59,14 @@ HasReported s name old new (Err (serve.Write sent)) =
     (SomeOrEach s name (λ whole. Sent old new whole sent) ⊎ Sent old new unavailable sent)
     × HasCause old new
 
--- what is answered went out
+-- the answer was written
 abbrev pub HasWritten : Told → State → Given → Given → Result Served ServeFault → Type 0
 HasWritten (told.Accepted count) s old new r = HasSent 200 false (ok_answer count) old new r
 HasWritten (told.Json status text) s old new r = HasSent status false (string_bytes text) old new r
 HasWritten (told.Report name) s old new r = HasReported s name old new r
 HasWritten (told.Unavailable reopen) s old new r = HasSent 503 reopen unavailable old new r
 
--- the same on a station that has to be opened again, whose reports aren't read
+-- the same on a broken station, whose reports aren't read
 abbrev pub HasWrittenShut : Told → Given → Given → Result Served ServeFault → Type 0
 HasWrittenShut (told.Accepted count) old new r = HasSent 200 false (ok_answer count) old new r
 HasWrittenShut (told.Json status text) old new r =
@@ -75,6 +75,6 @@ HasWrittenShut (told.Report name) old new r =
     (reopen : Bool) × HasSent 503 reopen unavailable old new r
 HasWrittenShut (told.Unavailable reopen) old new r = HasSent 503 reopen unavailable old new r
 
--- what is answered there holds of each state, and leaves it as it is
+-- on a broken station the answer is one that holds for each state and leaves it as it is
 abbrev pub IsToldShut : List ℕ → LocalMinute → Told → Type 0
 IsToldShut bytes at t = (s : State) → IsToldFor bytes s at t (station_at s)

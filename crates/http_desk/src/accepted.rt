@@ -1,24 +1,24 @@
-//! The answer to an accepted input. It is written into an array on the stack, so that nothing that
-//! wants memory stands between the act and the first byte of the 200.
+//! The answer to an accepted input. It is written into an array on the stack, so that nothing is
+//! allocated between the act and the first byte of the 200.
 ghost use Rattle.std.specs.Prelude.{◌≡◌, ◌+◌, ◌≤◌, ◌<◌, ◌++◌, ◌∷◌, [], length, take, decimal};
 ghost use Rattle.serde_json.specs.Written.{compact_text};
 ghost use Rattle.http_desk.specs.Reply.{ok_data, ok_answer};
 
 use imp_fields::put_decimal;
 
-/// The room of the body: `{"count":4294967295,"reply":"ok"}` is the longest.
+/// The size of the longest body, `{"count":4294967295,"reply":"ok"}`.
 const BODY_ROOM: usize = 33;
 
-/// The room of the answer.
+/// The size of the buffer for the answer.
 pub(crate) const ROOM: usize = 128;
 
-/// What stands in front of the body's length.
+/// The text before the body's length.
 const FRONT: &str = "HTTP/1.1 200 OK\r\nContent-Type: application/json\r\nContent-Length: ";
 
-/// What stands between the body's length and the body.
+/// The text between the body's length and the body.
 const BEHIND: &str = "\r\nConnection: close\r\n\r\n";
 
-/// Writes bytes at a place, and returns the place behind them.
+/// Writes bytes at `at`, and returns the index after them.
 fn put(out: &mut [u8], at: usize, bytes: &[u8]) -> usize
     requires { at + length bytes.now ≤ length out.old }
     ensures place { result ≡ at + length bytes.now }
@@ -29,7 +29,7 @@ fn put(out: &mut [u8], at: usize, bytes: &[u8]) -> usize
     end
 }
 
-/// Writes the body to the front of a buffer, and returns how many bytes it has.
+/// Writes the body to the start of a buffer, and returns its length.
 fn put_body(out: &mut [u8; BODY_ROOM], count: u32) -> usize
     ensures bound { result ≤ 33 }
     ensures text { take result out.new ≡ compact_text (ok_data count) }
@@ -39,8 +39,7 @@ fn put_body(out: &mut [u8; BODY_ROOM], count: u32) -> usize
     put(out, at, b",\"reply\":\"ok\"}")
 }
 
-/// Writes the answer to an accepted input of that count to the front of a buffer, and returns how
-/// many bytes it has.
+/// Writes the answer to an accepted input to the start of a buffer, and returns its length.
 pub(crate) fn put_accepted(out: &mut [u8; ROOM], count: u32) -> usize
     ensures bound { result ≤ 128 }
     ensures text { take result out.new ≡ ok_answer count }

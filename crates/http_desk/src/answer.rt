@@ -20,7 +20,7 @@ use station_core::Waybill;
 use station_days::LocalDay;
 use std::alloc::{AllocError, Global};
 
-/// `HTTP/1.1 409 Conflict`.
+/// Returns a line such as `HTTP/1.1 409 Conflict`.
 fn status_line(alloc: Global, status: u16) -> Result<String, AllocError>
     requires { IsStatusCode status }
     ensures { IfOk result (λ line. string_bytes line ≡ status_line status) }
@@ -31,7 +31,6 @@ fn status_line(alloc: Global, status: u16) -> Result<String, AllocError>
     }
 }
 
-/// The line of the method that is allowed.
 fn allow_line(alloc: Global, allow: Option<&str>) -> Result<String, AllocError>
     ensures { IfOk result (λ line. string_bytes line ≡ allow_line
         (option_map (λ method. method.now) allow.entry)) }
@@ -42,7 +41,7 @@ fn allow_line(alloc: Global, allow: Option<&str>) -> Result<String, AllocError>
     }
 }
 
-/// The fields of an answer of JSON, and the empty line behind them.
+/// Returns the header fields of a JSON answer, and the empty line after them.
 fn json_fields(alloc: Global, len: usize) -> Result<String, AllocError>
     ensures { IfOk result (λ text. string_bytes text ≡ json_fields len) }
 {
@@ -51,7 +50,6 @@ fn json_fields(alloc: Global, len: usize) -> Result<String, AllocError>
     )
 }
 
-/// An answer of JSON.
 pub(crate) fn json_answer(
     alloc: Global,
     status: u16,
@@ -68,7 +66,6 @@ pub(crate) fn json_answer(
     format!(in alloc; "{first}{allow}{fields}{body}")
 }
 
-/// The media type of a report in a form.
 fn media_type(form: Form) -> &'static str
     ensures { result.now ≡ media_type form }
 {
@@ -78,7 +75,6 @@ fn media_type(form: Form) -> &'static str
     }
 }
 
-/// What stands in front of a report.
 pub(crate) fn report_head(alloc: Global, printout: &Printout) -> Result<String, AllocError>
     ensures { IfOk result (λ text. string_bytes text ≡ report_head printout.now) }
 {
@@ -87,7 +83,6 @@ pub(crate) fn report_head(alloc: Global, printout: &Printout) -> Result<String, 
     format!(in alloc; "{first}Content-Type: {media}\r\nConnection: close\r\n\r\n")
 }
 
-/// The body of a fault or a refusal.
 pub(crate) fn refused_text(alloc: Global, refused: u16, detail: &str) -> Result<String, AllocError>
     ensures { IfOk result (λ text. string_bytes text ≡ compact_text
         (refused_data refused detail.now)) }
@@ -122,10 +117,7 @@ fn holding_text(alloc: Global, awb: &str, holder: &str, name: &str) -> Result<St
     json!(in alloc; {"awb": awb, "holder": holder, "name": name})?.to_string(alloc)
 }
 
-/// The JSON object that says who holds a number: the body that GET `/v1/stock/{awb}` is answered
-/// by.
-///
-/// Returns [`AllocError`] when out of memory.
+/// Returns the JSON object with the holder of a number: the body of `GET /v1/stock/{awb}`.
 pub fn holder_text(alloc: Global, number: &Awb, holder: &Holder) -> Result<String, AllocError>
     ensures { IfOk result (λ text. string_bytes text ≡ compact_text
         (holder_data number.now holder.now)) }
@@ -139,7 +131,6 @@ pub fn holder_text(alloc: Global, number: &Awb, holder: &Holder) -> Result<Strin
     )
 }
 
-/// Pieces and tenths.
 fn pair(alloc: Global, amount: &Amount) -> Result<Value, AllocError>
     ensures { IfOk result (λ v. view v ≡ pair_data amount.now) }
 {
@@ -147,23 +138,22 @@ fn pair(alloc: Global, amount: &Amount) -> Result<Value, AllocError>
     json!(in alloc; [pieces, tenths])
 }
 
-/// Pieces and tenths, as JSON.
+/// Returns pieces and tenths as JSON.
 fn pair_text(alloc: Global, amount: &Amount) -> Result<String, AllocError>
     ensures { IfOk result (λ text. string_bytes text ≡ compact_text (pair_data amount.now)) }
 {
     pair(alloc, amount)?.to_string(alloc)
 }
 
-/// A text, as JSON.
 fn quoted(alloc: Global, text: &str) -> Result<String, AllocError>
     ensures { IfOk result (λ quoted. string_bytes quoted ≡ compact_text (string text.now)) }
 {
     json!(in alloc; text)?.to_string(alloc)
 }
 
-// A waybill's members stand in the order of their names' bytes.
+// A waybill's members are in the byte order of their names.
 
-/// The number, what was delivered, and what departed.
+/// Returns the members `awb`, `delivered` and `departed`.
 fn first_members(alloc: Global, number: &Awb, known: &Waybill) -> Result<String, AllocError>
     ensures { IfOk result (λ text. string_bytes text ≡ first_members number.now known.now) }
 {
@@ -174,7 +164,7 @@ fn first_members(alloc: Global, number: &Awb, known: &Waybill) -> Result<String,
     format!(in alloc; "{{\"awb\":{awb},\"delivered\":{delivered},\"departed\":{departed},")
 }
 
-/// The destination, what was found, and the goods.
+/// Returns the members `destination`, `found` and `goods`.
 fn second_members(alloc: Global, known: &Waybill) -> Result<String, AllocError>
     ensures { IfOk result (λ text. string_bytes text ≡ second_members known.now) }
 {
@@ -185,14 +175,13 @@ fn second_members(alloc: Global, known: &Waybill) -> Result<String, AllocError>
     format!(in alloc; "\"destination\":{destination},\"found\":{found},\"goods\":{goods},")
 }
 
-/// Yes or no, as JSON.
 fn flag_text(flag: bool) -> &'static str
     ensures { result.now ≡ compact_text (boolean flag) }
 {
     if flag { "true" } else { "false" }
 }
 
-/// What is missing, whether the consignee was notified, and the origin.
+/// Returns the members `missing`, `notified` and `origin`.
 fn third_members(alloc: Global, known: &Waybill) -> Result<String, AllocError>
     ensures { IfOk result (λ text. string_bytes text ≡ third_members known.now) }
 {
@@ -203,7 +192,6 @@ fn third_members(alloc: Global, known: &Waybill) -> Result<String, AllocError>
     format!(in alloc; "\"missing\":{missing},\"notified\":{notified},\"origin\":{origin},")
 }
 
-/// The day on which a waybill was declared, as `2026-01-12`; nothing where that wasn't kept.
 fn since_text(alloc: Global, since: Option<LocalDay>) -> Result<String, AllocError>
     ensures { IfOk result (λ text. string_bytes text ≡ since_text since) }
 {
@@ -217,7 +205,6 @@ fn since_text(alloc: Global, since: Option<LocalDay>) -> Result<String, AllocErr
     }
 }
 
-/// The same, as JSON.
 fn quoted_day(alloc: Global, since: Option<LocalDay>) -> Result<String, AllocError>
     ensures { IfOk result (λ text. string_bytes text ≡ compact_text (string (since_text since))) }
 {
@@ -225,7 +212,7 @@ fn quoted_day(alloc: Global, since: Option<LocalDay>) -> Result<String, AllocErr
     quoted(alloc, text.as_str())
 }
 
-/// What is in the store, what was taken over, the declared tenths, and what was transferred.
+/// Returns the members `store`, `taken`, `tenths` and `transferred`.
 fn stored_members(alloc: Global, known: &Waybill) -> Result<String, AllocError>
     ensures { IfOk result (λ text. string_bytes text ≡ stored_members known.now) }
 {
@@ -238,7 +225,7 @@ fn stored_members(alloc: Global, known: &Waybill) -> Result<String, AllocError>
     )
 }
 
-/// The declared pieces, the day of the declaration, and all behind them.
+/// Returns the members from `pieces` on.
 fn last_members(alloc: Global, known: &Waybill) -> Result<String, AllocError>
     ensures { IfOk result (λ text. string_bytes text ≡ last_members known.now) }
 {
@@ -248,10 +235,7 @@ fn last_members(alloc: Global, known: &Waybill) -> Result<String, AllocError>
     format!(in alloc; "\"pieces\":{pieces},\"since\":{since},{rest}")
 }
 
-/// The JSON object that says what is known of a waybill: the body that GET `/v1/waybills/{awb}` is
-/// answered by.
-///
-/// Returns [`AllocError`] when out of memory.
+/// Returns the JSON object with the record of a waybill: the body of `GET /v1/waybills/{awb}`.
 pub fn waybill_text(alloc: Global, number: &Awb, known: &Waybill) -> Result<String, AllocError>
     ensures { IfOk result (λ text. string_bytes text ≡ compact_text
         (waybill_data number.now known.now)) }

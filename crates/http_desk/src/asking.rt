@@ -1,4 +1,4 @@
-//! Asking the station for what a request wants.
+//! Calling the station for a request.
 ghost use Rattle.std.specs.Prelude.{◌≡◌, true, false, IfOk, Option, Some, string_bytes, option_map};
 ghost use Rattle.http.specs.StatusCode.{IsStatusCode};
 ghost use Rattle.serde_json.specs.Data.{Data};
@@ -24,20 +24,20 @@ use station_core::{ActFault, Answer, Input, Keeper, Waybill, answer_one, detail_
 use station_days::Moment;
 use std::alloc::{AllocError, Global};
 
-/// What is to be written.
+/// An answer to write.
 #[derive(Drop)]
 pub(crate) enum Told {
-    /// An input was accepted, with this count. Its answer wants no memory.
+    /// An input was accepted, with this count. Writing the answer allocates nothing.
     Accepted(u32),
-    /// Another answer of JSON: its status and its bytes.
+    /// Another JSON answer: its status and its bytes.
     Json(u16, String),
     /// A report, which is read while it is written.
     Report(Printout),
-    /// Memory ran out or the station failed; it may have to be opened again.
+    /// Memory ran out or the station failed. If true, the station must be opened again.
     Unavailable(bool),
 }
 
-/// An answer of JSON, or no memory for it.
+/// Returns a JSON answer, or [`Told::Unavailable`] if memory runs out.
 fn json_told(
     alloc: Global,
     status: u16,
@@ -57,7 +57,6 @@ fn json_told(
     }
 }
 
-/// The answer to a fault of the request.
 fn fault_told(alloc: Global, fault: &FaultTold) -> Told
     ensures { IsToldAs (fault_reply (meant fault.now)) result }
 {
@@ -68,7 +67,7 @@ fn fault_told(alloc: Global, fault: &FaultTold) -> Told
     json_told(alloc, fault.status, fault.allow, body)
 }
 
-/// What is seen of a telegram, or no memory for it.
+/// Returns the answer to a dry run, or [`Told::Unavailable`] if memory runs out.
 fn look_told(alloc: Global, seen: &str) -> Told
     ensures { IsToldAs (look_reply seen.now) result }
 {
@@ -78,7 +77,6 @@ fn look_told(alloc: Global, seen: &str) -> Told
     }
 }
 
-/// The status of a refusal: an unreadable telegram is a bad request, any other one a conflict.
 fn refusal_status(refused: u16) -> u16
     ensures status { result ≡ refusal_status refused }
     ensures valid { IsStatusCode result }
@@ -89,7 +87,6 @@ fn refusal_status(refused: u16) -> u16
     }
 }
 
-/// The body of a refusal.
 fn refusal_text(alloc: Global, refusal: &Refusal) -> Result<String, AllocError>
     ensures { IfOk result (λ text. string_bytes text ≡ compact_text
         (refused_data refusal.now.number (detail_text refusal.now.detail))) }
@@ -98,7 +95,6 @@ fn refusal_text(alloc: Global, refusal: &Refusal) -> Result<String, AllocError>
     refused_text(alloc, refusal.number, detail.as_str())
 }
 
-/// The answer to a refusal.
 fn refusal_told(alloc: Global, refusal: &Refusal) -> Told
     ensures { IsToldAs (refusal_reply refusal.now) result }
 {
@@ -106,7 +102,6 @@ fn refusal_told(alloc: Global, refusal: &Refusal) -> Told
     json_told(alloc, refusal_status(refusal.number), None, body)
 }
 
-/// The answer that says who holds a number.
 fn holder_told(alloc: Global, number: &Awb, holder: &Option<Holder>) -> Told
     ensures { IsToldAs (holder_reply number.now holder.now) result }
 {
@@ -116,7 +111,6 @@ fn holder_told(alloc: Global, number: &Awb, holder: &Option<Holder>) -> Told
     }
 }
 
-/// The answer that says what is known of a waybill.
 fn waybill_told(alloc: Global, number: &Awb, waybill: &Option<Waybill>) -> Told
     ensures { IsToldAs (waybill_reply number.now waybill.now) result }
 {
@@ -126,7 +120,6 @@ fn waybill_told(alloc: Global, number: &Awb, waybill: &Option<Waybill>) -> Told
     }
 }
 
-/// Asks who holds a number.
 fn ask_holder<K: Keeper>(alloc: Global, keeper: &mut K, number: &Awb) -> Told
     ensures premise { KeepsPremise K.is_clean K.is_sound keeper.old keeper.new }
     ensures breaks { K.is_broken keeper.new ≡ K.is_broken keeper.old }
@@ -144,7 +137,6 @@ fn ask_holder<K: Keeper>(alloc: Global, keeper: &mut K, number: &Awb) -> Told
     }
 }
 
-/// Asks what is known of a waybill.
 fn ask_waybill<K: Keeper>(alloc: Global, keeper: &mut K, number: &Awb) -> Told
     ensures premise { KeepsPremise K.is_clean K.is_sound keeper.old keeper.new }
     ensures breaks { K.is_broken keeper.new ≡ K.is_broken keeper.old }
@@ -162,7 +154,6 @@ fn ask_waybill<K: Keeper>(alloc: Global, keeper: &mut K, number: &Awb) -> Told
     }
 }
 
-/// Hands the station an input.
 fn ask_input<K: Keeper>(alloc: Global, keeper: &mut K, input: &Input<'_>, at: Moment) -> Told
     ensures premise { KeepsPremise K.is_clean K.is_sound keeper.old keeper.new }
     ensures asked { (s : State) → K.keeps keeper.old s → K.is_broken keeper.old ≡ false
@@ -180,7 +171,7 @@ fn ask_input<K: Keeper>(alloc: Global, keeper: &mut K, input: &Input<'_>, at: Mo
     }
 }
 
-/// Asks the station for what is wanted. A report is left to be read while it is written.
+/// Calls the station for a request. A report isn't read yet.
 pub(crate) fn ask<K: Keeper>(alloc: Global, keeper: &mut K, wanted: &Wanted<'_>, at: Moment) -> Told
     ensures premise { KeepsPremise K.is_clean K.is_sound keeper.old keeper.new }
     ensures asked { (s : State) → K.keeps keeper.old s → K.is_broken keeper.old ≡ false

@@ -1,4 +1,4 @@
-//! What the head of a request asks.
+//! Reading the head of a request.
 ghost use Rattle.std.specs.Prelude.{◌≡◌, ℕ, List, length, map, All, option_map, Some};
 ghost use Rattle.httparse.specs.Spans.{header_bytes, IsHeaderWithin};
 ghost use Rattle.http_desk.specs.HeadTold.{asks_meant};
@@ -10,38 +10,36 @@ use crate::fields::body_length;
 use crate::route::Route;
 use httparse::spans::HeaderSpan;
 
-/// There is nothing at the path.
+/// The path leads nowhere.
 pub(crate) const NOT_FOUND: FaultTold = FaultTold {
     status: 404,
     word: "",
     allow: None,
 };
 
-/// What is there can only be posted.
 const ALLOW_POST: FaultTold = FaultTold {
     status: 405,
     word: "",
     allow: Some("POST"),
 };
 
-/// What is there can only be got.
 const ALLOW_GET: FaultTold = FaultTold {
     status: 405,
     word: "",
     allow: Some("GET"),
 };
 
-/// What a head asks.
+/// The request in a head.
 #[derive(Clone, Copy, Debug, PartialEq, Eq)]
 pub(crate) enum Asks {
     Refused(FaultTold),
-    /// It gets what the route leads to.
+    /// A GET of a route.
     Got(Route),
-    /// It posts a body of so many bytes.
+    /// A POST to a route, with the length of its body.
     Posted(Route, u64),
 }
 
-/// A route that takes a body.
+/// Returns the request to a route that takes a body.
 fn post(route: Route, method: &[u8], buf: &[u8], fields: &[HeaderSpan]) -> Asks
     requires { All (IsHeaderWithin (length buf.now)) fields.now }
     ensures { (path target : List ℕ) (posted : Posted) → place_told path route ≡ posts posted
@@ -62,7 +60,7 @@ fn post(route: Route, method: &[u8], buf: &[u8], fields: &[HeaderSpan]) -> Asks
     }
 }
 
-/// A route that takes none.
+/// Returns the request to a route that takes no body.
 fn get(route: Route, method: &[u8]) -> Asks
     ensures { (path target : List ℕ) (fields : List (List ℕ × List ℕ)) (got : Got)
         → place_told path route ≡ gets got
@@ -75,7 +73,7 @@ fn get(route: Route, method: &[u8]) -> Asks
     Asks::Got(route)
 }
 
-/// What a head asks of what its path leads to.
+/// Returns the request in a head whose path leads to `route`.
 pub(crate) fn head_asks(
     route: Option<Route>,
     method: &[u8],

@@ -3,8 +3,8 @@ ghost use Rattle.std.specs.Prelude.{◌≡◌, ◌↔◌, ℕ, List, ◌∷◌, 
 ghost use Rattle.http_desk.specs.Routes.{Place, place_of};
 ghost use Rattle.http_desk.specs.Paths.{IsPath, LeadsTo};
 
-/// Which paths lead where, and that no other path leads anywhere. What stands behind a question
-/// mark is no part of a path.
+/// States where each path leads, and that no other path leads anywhere. A query after a question
+/// mark isn't part of the path.
 pub fn routes_law()
     ensures leads { (path : List ℕ) (place : Place) → IsPath path
         → (place_of path ≡ Some place) ↔ LeadsTo path place }

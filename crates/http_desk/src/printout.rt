@@ -1,4 +1,4 @@
-//! Rows that a path asks for, and their form.
+//! Rows that a path requests, and their form.
 ghost use Rattle.std.specs.Prelude.{◌≡◌, ◌-◌, take, drop, length, option_map, if◌then◌else◌, Some, None, codes};
 ghost use Rattle.std.specs.Result.{result_ok};
 ghost use Rattle.std.specs.Str.{bytes_eq};
@@ -13,14 +13,13 @@ use imp_fields::Flight;
 use reports::{Form, Listing, Report};
 use shipment_machine::FlightDate;
 
-/// Rows that are got, and the form in which they are written.
+/// Rows to print, and their form.
 #[derive(Clone, Copy, Debug, PartialEq, Eq)]
 pub struct Printout {
     pub listing: Listing,
     pub form: Form,
 }
 
-/// What stands in front of the first slash.
 fn first_part(path: &str) -> &str
     ensures { result.now ≡ first_part path.now }
 {
@@ -30,7 +29,7 @@ fn first_part(path: &str) -> &str
     }
 }
 
-/// What stands behind the first slash.
+/// Returns the part after the first slash.
 fn later_part(path: &str) -> &str
     ensures { result.now ≡ later_part path.now }
 {
@@ -40,7 +39,6 @@ fn later_part(path: &str) -> &str
     }
 }
 
-/// The waybill number that twelve bytes spell.
 fn read_twelve(bytes: &[u8; 12]) -> Option<Awb>
     ensures { result ≡ result_ok (number_of bytes.now) }
 {
@@ -50,7 +48,6 @@ fn read_twelve(bytes: &[u8; 12]) -> Option<Awb>
     }
 }
 
-/// The waybill number that bytes spell.
 pub(crate) fn number_in(text: &[u8]) -> Option<Awb>
     ensures { result ≡ result_ok (number_of text.now) }
 {
@@ -58,7 +55,6 @@ pub(crate) fn number_in(text: &[u8]) -> Option<Awb>
     read_twelve(&bytes)
 }
 
-/// Rows of a waybill.
 fn waybill_rows(word: &str, number: Awb) -> Option<Listing>
     ensures { result ≡ waybill_rows word.now number }
 {
@@ -69,7 +65,6 @@ fn waybill_rows(word: &str, number: Awb) -> Option<Listing>
     }
 }
 
-/// Rows of an agent.
 fn agent_rows(word: &str, code: &str) -> Option<Listing>
     ensures { result ≡ agent_rows word.now code.now }
 {
@@ -82,7 +77,6 @@ fn agent_rows(word: &str, code: &str) -> Option<Listing>
     }
 }
 
-/// A number that a row may have.
 fn row_number(text: &str) -> Option<u32>
     ensures { result ≡ row_number text.now }
 {
@@ -92,7 +86,6 @@ fn row_number(text: &str) -> Option<u32>
     }
 }
 
-/// Movements after a number, or the last ones.
 fn movement_rows(word: &str, number: u32) -> Option<Listing>
     ensures { result ≡ movement_rows word.now number }
 {
@@ -103,7 +96,7 @@ fn movement_rows(word: &str, number: u32) -> Option<Listing>
     }
 }
 
-/// Lines of the trail after a number, or the last ones.
+/// Returns the trail lines after a number, or the last ones.
 fn line_rows(word: &str, number: u32) -> Option<Listing>
     ensures { result ≡ line_rows word.now number }
 {
@@ -114,7 +107,6 @@ fn line_rows(word: &str, number: u32) -> Option<Listing>
     }
 }
 
-/// Messages after a number.
 fn message_rows(word: &str, number: u32) -> Option<Listing>
     ensures { result ≡ message_rows word.now number }
 {
@@ -124,7 +116,6 @@ fn message_rows(word: &str, number: u32) -> Option<Listing>
     }
 }
 
-/// The manifest of a flight, on its day.
 fn flight_rows(day: &str, flight: Flight) -> Option<Listing>
     ensures { result ≡ flight_rows day.now flight }
 {
@@ -134,7 +125,6 @@ fn flight_rows(day: &str, flight: Flight) -> Option<Listing>
     }
 }
 
-/// Rows of a kind.
 fn rows_of_kind(kind: &str, rest: &str) -> Option<Listing>
     ensures { result ≡ rows_of_kind kind.now rest.now }
 {
@@ -165,7 +155,6 @@ fn rows_of_kind(kind: &str, rest: &str) -> Option<Listing>
     }
 }
 
-/// The rows of a path behind `/v1/`.
 fn rows_behind(path: &str) -> Option<Listing>
     ensures { result ≡ rows_behind path.now }
 {
@@ -175,7 +164,6 @@ fn rows_behind(path: &str) -> Option<Listing>
     rows_of_kind(first_part(path), later_part(path))
 }
 
-/// The rows of a path.
 fn rows_at(path: &str) -> Option<Listing>
     ensures { result ≡ rows_at path.now }
 {
@@ -183,7 +171,6 @@ fn rows_at(path: &str) -> Option<Listing>
     rows_behind(rest)
 }
 
-/// Rows in a form.
 fn in_form(listing: Option<Listing>, form: Form) -> Option<Printout>
     ensures { result ≡ option_map (in_form form) listing }
 {
@@ -193,7 +180,7 @@ fn in_form(listing: Option<Listing>, form: Form) -> Option<Printout>
     }
 }
 
-/// The rows that a path asks for, and their form.
+/// Returns the rows that a path requests, and their form.
 pub(crate) fn printout_at(path: &str) -> Option<Printout>
     ensures { result ≡ printout_at path.now }
 {

@@ -8,26 +8,24 @@ use httparse::Status;
 use httparse::spans::{HeaderSpan, RequestSpans, parse_request};
 use station_core::{ByteIn, ReadFault};
 
-/// The room in which a head is sought.
 const HEAD_ROOM: usize = 16_384;
 
-/// The most reads of a request.
 const MOST_READS: u32 = 100_000;
 
-/// The most bytes of one read.
+/// The size of one read.
 const CHUNK: usize = 4096;
 
-/// Why a request isn't whole.
+/// The reason why a request is incomplete.
 #[derive(Clone, Copy, Debug, PartialEq, Eq)]
 pub(crate) enum ReadEnd {
-    /// The reader failed, the input ended, or too many reads were made.
+    /// The reader failed, the input ended, or the limit of reads was reached.
     Read,
-    /// The head is none.
+    /// The head is malformed.
     Head,
     Memory,
 }
 
-/// One read behind the bytes that have come. An interrupted read brings nothing.
+/// Reads once and appends the bytes. An interrupted read appends nothing.
 fn read_more<I: ByteIn>(reader: &mut I, bytes: &mut Vec<u8>, most: usize) -> Result<(), ReadEnd>
     requires { length bytes.old.items < most }
     ensures come { OnOk result
@@ -52,8 +50,8 @@ fn read_more<I: ByteIn>(reader: &mut I, bytes: &mut Vec<u8>, most: usize) -> Res
     }
 }
 
-/// Reads until a head is whole. It returns where the head's parts are, and how many reads were
-/// made.
+/// Reads until a head is complete. Returns the positions of the head's parts, and the number of
+/// reads.
 pub(crate) fn read_head<I: ByteIn>(
     reader: &mut I,
     bytes: &mut Vec<u8>,
@@ -96,7 +94,7 @@ pub(crate) fn read_head<I: ByteIn>(
     Err(ReadEnd::Read)
 }
 
-/// Reads on until so many bytes have come, where so many reads were made before.
+/// Reads until `whole` bytes have been received; `turns` reads were made before.
 pub(crate) fn read_on<I: ByteIn>(
     reader: &mut I,
     bytes: &mut Vec<u8>,

@@ -1,4 +1,4 @@
-//! One request, from its reader.
+//! Receiving one request.
 ghost use Rattle.std.specs.Prelude.{◌≡◌, ◌≤◌, ◌+◌, ◌-◌, ◌++◌, [], length, Err, OnOk, IfOk};
 ghost use Rattle.httparse.specs.Spans.{IsRequestOf, IsRequestWithin};
 ghost use Rattle.http_desk.specs.Came.{BeginsWith, HasBody, HasPartBody, HasRequest};
@@ -14,23 +14,22 @@ use httparse::spans::{EMPTY_HEADER_SPAN, HeaderSpan, RequestSpans};
 use station_core::{ByteIn, Key};
 use std::alloc::{AllocError, Global};
 
-/// The head is none.
 const BAD_HEAD: FaultTold = FaultTold {
     status: 400,
     word: "head",
     allow: None,
 };
 
-/// What has come.
+/// A received request.
 #[derive(Drop)]
 pub(crate) enum Came {
-    /// No head, and none can come.
+    /// There is no head, and more bytes can't complete one.
     NoHead,
-    /// A head: what it wants, its key, and where its body starts. A body that it sends has come.
+    /// A head: its request, its key, and the start of its body, which is complete.
     Head(HeadWants, Option<Key>, usize),
 }
 
-/// What the head in front of the bytes wants, and its key.
+/// Returns the request of the head at the start of the bytes, and its key.
 fn wants_at(
     alloc: Global,
     bytes: &[u8],
@@ -47,7 +46,7 @@ fn wants_at(
     Ok((wants, key_of(bytes, &headers[..spans.headers])))
 }
 
-/// Reads on until the body of a head has come.
+/// Reads until the body is complete.
 fn read_body<I: ByteIn>(
     reader: &mut I,
     bytes: &mut Vec<u8>,
@@ -75,7 +74,6 @@ fn read_body<I: ByteIn>(
     read_on(reader, bytes, whole, turns)
 }
 
-/// Reads one request.
 pub(crate) fn read_request<I: ByteIn>(
     alloc: Global,
     reader: &mut I,
@@ -108,7 +106,7 @@ pub(crate) fn read_request<I: ByteIn>(
     }
 }
 
-/// What a head wants, and the body that it sends.
+/// Returns the request of a head with its body.
 fn whole_wants<'a>(
     alloc: Global,
     bytes: &'a [u8],
@@ -129,7 +127,7 @@ fn whole_wants<'a>(
     }
 }
 
-/// What a request wants that has come.
+/// Returns what a received request wants.
 pub(crate) fn wanted<'a>(
     alloc: Global,
     bytes: &'a [u8],

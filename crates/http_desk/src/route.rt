@@ -9,7 +9,7 @@ use matchit::{InsertError, Router};
 use reports::{Form, Listing, Report};
 use std::alloc::Global;
 
-/// What a path leads to, as the router has it.
+/// A page of the router.
 #[derive(Clone, Copy, Debug, PartialEq, Eq)]
 pub enum Page {
     Act,
@@ -21,7 +21,7 @@ pub enum Page {
     Report,
 }
 
-/// What a path leads to. The name of a waybill or of a number stands at the path's end.
+/// A route. The name of a waybill or a number is at the end of its path.
 #[derive(Clone, Copy, Debug, PartialEq, Eq)]
 pub enum Route {
     Command(Verb),
@@ -32,7 +32,6 @@ pub enum Route {
     Report(Printout),
 }
 
-/// The router of the desk.
 pub(crate) fn desk_router(alloc: Global) -> Result<Router<Page>, InsertError>
     ensures { IfOk result (λ r. r ≡ desk_rows) }
 {
@@ -47,7 +46,6 @@ pub(crate) fn desk_router(alloc: Global) -> Result<Router<Page>, InsertError>
     Ok(router)
 }
 
-/// The page of a path.
 fn found_page(router: &Router<Page>, path: &str) -> Option<Page>
     ensures { result ≡ page_of router.now path.now }
 {
@@ -57,7 +55,7 @@ fn found_page(router: &Router<Page>, path: &str) -> Option<Page>
     }
 }
 
-/// What stands behind so many bytes.
+/// Returns the text after `count` bytes.
 pub(crate) fn behind(path: &str, count: usize) -> &[u8]
     ensures { result.now ≡ drop count path.now }
 {
@@ -67,7 +65,6 @@ pub(crate) fn behind(path: &str, count: usize) -> &[u8]
     }
 }
 
-/// A whole report as text.
 fn as_text(report: Report) -> Printout
     ensures { result ≡ as_text report }
 {
@@ -77,7 +74,6 @@ fn as_text(report: Report) -> Printout
     }
 }
 
-/// What a page of a path is.
 fn route_at(page: Page, path: &str) -> Option<Route>
     ensures { option_map (place_told path.now) result ≡ place_at path.now page }
 {
@@ -98,7 +94,6 @@ fn route_at(page: Page, path: &str) -> Option<Route>
     }
 }
 
-/// What the router finds at a path.
 fn routed(router: &Router<Page>, path: &str) -> Option<Route>
     ensures { option_map (place_told path.now) result ≡ option_and_then (place_at path.now)
         (page_of router.now path.now) }
@@ -109,7 +104,8 @@ fn routed(router: &Router<Page>, path: &str) -> Option<Route>
     }
 }
 
-/// What a path leads to: what the router finds, or else rows that the path asks for.
+/// Returns the route of a path: the one that the router finds, or else the rows that the path
+/// requests.
 pub(crate) fn route_of(router: &Router<Page>, path: &str) -> Option<Route>
     ensures { option_map (place_told path.now) result ≡ asked_place
         (option_and_then (place_at path.now) (page_of router.now path.now)) path.now }

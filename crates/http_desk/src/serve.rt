@@ -17,25 +17,25 @@ use station_core::{ByteIn, ByteOut, Keeper};
 use station_days::Moment;
 use std::alloc::Global;
 
-/// What a connection was answered.
+/// The outcome of a connection that was answered.
 #[derive(Clone, Copy, Debug, PartialEq, Eq)]
 pub struct Served {
     pub status: u16,
-    /// The keeper was asked, and has to be opened again.
+    /// True if the keeper was called and must be opened again.
     pub reopen: bool,
 }
 
-/// Why a connection wasn't answered whole.
+/// The reason why a connection wasn't answered in full.
 #[derive(Clone, Copy, Debug, PartialEq, Eq)]
 pub enum ServeFault {
     /// The reader failed, the input ended within the request, or 100,000 reads were made. Nothing
     /// was written or changed.
     Read,
-    /// The writer failed or took no byte. These are the bytes of the answer that went out.
+    /// The writer failed or wrote 0 bytes, after `sent` bytes of the answer.
     Write { sent: u64 },
 }
 
-/// Asks the station for what a request wants that has come.
+/// Calls the station for a received request.
 fn told_for<K: Keeper>(alloc: Global, keeper: &mut K, bytes: &[u8], came: Came, at: Moment) -> Told
     requires request { HasRequest bytes.now came }
     ensures premise { KeepsPremise K.is_clean K.is_sound keeper.old keeper.new }
@@ -53,7 +53,7 @@ fn told_for<K: Keeper>(alloc: Global, keeper: &mut K, bytes: &[u8], came: Came, 
     }
 }
 
-/// One connection: a request is read, asked of the keeper and answered.
+/// Serves one connection: reads a request, calls the keeper, and writes the answer.
 pub fn serve_one<K: Keeper, I: ByteIn, O: ByteOut>(
     alloc: Global,
     keeper: &mut K,
@@ -63,8 +63,8 @@ pub fn serve_one<K: Keeper, I: ByteIn, O: ByteOut>(
 ) -> Result<Served, ServeFault>
     ensures premise { KeepsPremise K.is_clean K.is_sound keeper.old keeper.new }
 
-    // Reading ended within the request: nothing was written, nothing was changed. There are at most
-    // so many reads, however it ends.
+    // If reading ends within the request, nothing is written or changed. The number of reads is
+    // limited in every case.
     ensures unread { result ≡ Err ServeFault.Read → (O.taken writer.new ≡ O.taken writer.old)
         × (keeper.new ≡ keeper.old) }
     ensures read_cause { result ≡ Err ServeFault.Read
@@ -73,11 +73,11 @@ pub fn serve_one<K: Keeper, I: ByteIn, O: ByteOut>(
         → IsUnfinished (added (I.given reader.old) (I.given reader.new)) }
     ensures most { (I.given reader.new).calls ≤ (I.given reader.old).calls + most_reads }
 
-    // One write failed where the writer's fault is returned, and else none.
+    // Exactly one write failed if the writer's fault is returned, otherwise none.
     ensures writes { StopsServing (O.taken writer.old) (O.taken writer.new) result }
 
-    // The answer to the bytes that were read, or a beginning of it; and the keeper keeps the state
-    // after it.
+    // The answer to the received bytes was written, or a prefix of it, and the keeper keeps the
+    // state after it.
     ensures served { (s : State) → K.keeps keeper.old s → K.is_broken keeper.old ≡ false
         → K.is_sound keeper.new
         → HasServed s at (added (I.given reader.old) (I.given reader.new))
@@ -85,7 +85,7 @@ pub fn serve_one<K: Keeper, I: ByteIn, O: ByteOut>(
         (keeping K.keeps K.is_clean K.is_sound K.is_broken K.may_find K.may_fail) keeper.new)
         result }
 
-    // Once a 200 to a POST has begun, a reopening finds the state after that step, and no other.
+    // Once a 200 to a POST has begun, reopening finds the state after that step, and no other.
     ensures begun { (s : State) → K.keeps keeper.old s → K.is_broken keeper.old ≡ false
         → K.is_sound keeper.new
         → IsPosted (added (I.given reader.old) (I.given reader.new))
@@ -93,20 +93,20 @@ pub fn serve_one<K: Keeper, I: ByteIn, O: ByteOut>(
         → IsAfterStep (added (I.given reader.old) (I.given reader.new)) s at
         (K.may_find keeper.new) }
 
-    // Once 503 has begun, the station works and nothing has changed, or it broke at the very input
-    // that the request asks.
+    // Once 503 has begun, the station works and nothing has changed, or it broke at the request's
+    // own input.
     ensures unavailable { (s : State) → K.keeps keeper.old s → K.is_broken keeper.old ≡ false
         → K.is_sound keeper.new
         → BeginsAs503 (added (O.taken writer.old) (O.taken writer.new))
         → IsUnchangedOrBroken (added (I.given reader.old) (I.given reader.new)) s at (station_after
         (keeping K.keeps K.is_clean K.is_sound K.is_broken K.may_find K.may_fail) keeper.new) }
 
-    // It asks to open the station again exactly where this connection broke it.
+    // It reports that the station must be opened again exactly if this connection broke it.
     ensures told { (s : State) → K.keeps keeper.old s → K.is_broken keeper.old ≡ false
         → K.is_sound keeper.new
         → IfOk result (λ served. served.reopen ≡ K.is_broken keeper.new) }
 
-    // A station that has to be opened again stays as it is, and nothing of it is told.
+    // A broken station stays as it is, and no answer depends on its state.
     ensures same { StaysIfBroken (K.is_broken keeper.old) keeper.old keeper.new }
     ensures reopen { K.is_broken keeper.old ≡ true
         → HasServedShut at (added (I.given reader.old) (I.given reader.new))

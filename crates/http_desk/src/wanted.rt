@@ -1,4 +1,4 @@
-//! What a request wants.
+//! Decoding a request.
 ghost use Rattle.std.specs.Prelude.{◌≡◌, drop, IfOk, option_map};
 ghost use Rattle.std.specs.Result.{result_ok};
 ghost use Rattle.awb_number.specs.Number.{number_of};
@@ -24,14 +24,14 @@ use shipment_machine::Refusal;
 use station_core::{Input, Key};
 use std::alloc::{AllocError, Global};
 
-/// What a whole request wants.
+/// A complete request, decoded.
 #[derive(Drop)]
 pub(crate) enum Wanted<'a> {
-    /// It is refused by its head or by its body.
+    /// Its head or its body is refused.
     Fault(FaultTold),
-    /// Its body is no telegram.
+    /// Its body isn't a telegram.
     Unreadable(Refusal),
-    /// Its body is a telegram that is only looked at: what is seen of it, as JSON.
+    /// A dry run of a telegram, as JSON.
     Look(String),
     Waybill(Awb),
     Holder(Awb),
@@ -39,7 +39,7 @@ pub(crate) enum Wanted<'a> {
     Input(Input<'a>),
 }
 
-/// What a request posts.
+/// The kind of body that a request posts.
 #[derive(Clone, Copy, Debug, PartialEq, Eq)]
 pub(crate) enum Post {
     Command(Verb),
@@ -47,23 +47,23 @@ pub(crate) enum Post {
     Look,
 }
 
-/// What a head wants.
+/// A decoded head.
 #[derive(Drop)]
 pub(crate) enum HeadWants {
-    /// No body is read.
+    /// The request has no body.
     Now(Wanted<'static>),
-    /// A body of so many bytes is posted.
+    /// The request has a body of this length.
     Body(Post, u64),
 }
 
-/// A page of another host asks.
+/// The request comes from a page of another host.
 const BAD_ORIGIN: FaultTold = FaultTold {
     status: 400,
     word: "origin",
     allow: None,
 };
 
-/// The part of a target in front of a question mark.
+/// Returns the part of a target before a question mark.
 fn path_in(target: &str) -> &str
     ensures { result.now ≡ path_of target.now }
 {
@@ -73,14 +73,13 @@ fn path_in(target: &str) -> &str
     }
 }
 
-/// The waybill number behind so many bytes of a path.
+/// Returns the waybill number after `count` bytes of a path.
 fn number_behind(path: &str, count: usize) -> Option<Awb>
     ensures { result ≡ result_ok (number_of (drop count path.now)) }
 {
     number_in(behind(path, count))
 }
 
-/// A waybill that is looked up.
 fn waybill_at(path: &str) -> Wanted<'static>
     ensures { WantsNow (got_at (place_told path.now Route.Waybill)) result }
 {
@@ -90,7 +89,6 @@ fn waybill_at(path: &str) -> Wanted<'static>
     }
 }
 
-/// A number whose holder is looked up.
 fn holder_at(path: &str) -> Wanted<'static>
     ensures { WantsNow (got_at (place_told path.now Route.Stock)) result }
 {
@@ -100,7 +98,7 @@ fn holder_at(path: &str) -> Wanted<'static>
     }
 }
 
-/// What is got at a path.
+/// Returns the request of a GET.
 fn got(route: Route, path: &str) -> Wanted<'static>
     ensures { WantsNow (got_at (place_told path.now route)) result }
 {
@@ -113,7 +111,6 @@ fn got(route: Route, path: &str) -> Wanted<'static>
     }
 }
 
-/// What a path leads to.
 fn routed(alloc: Global, path: &str) -> Result<Option<Route>, AllocError>
     ensures { IfOk result (λ route. option_map (place_told path.now) route ≡ asked_place
         (routed path.now) path.now) }
@@ -124,7 +121,6 @@ fn routed(alloc: Global, path: &str) -> Result<Option<Route>, AllocError>
     }
 }
 
-/// The target of a request.
 fn target_of<'a>(bytes: &'a [u8], spans: &RequestSpans, headers: &[HeaderSpan]) -> &'a str
     requires within { IsRequestWithin bytes.now headers.now spans.now }
     requires head { IsRequestOf bytes.now headers.now spans.now }
@@ -137,7 +133,7 @@ fn target_of<'a>(bytes: &'a [u8], spans: &RequestSpans, headers: &[HeaderSpan]) 
     }
 }
 
-/// What a head asks that sends no body, or the body that it sends.
+/// Returns the decoded head for a request.
 fn wants_of(asks: &Asks, path: &str) -> HeadWants
     ensures { HasWants (asks_meant path.now asks.now) result }
 {
@@ -153,7 +149,7 @@ fn wants_of(asks: &Asks, path: &str) -> HeadWants
     }
 }
 
-/// What a head wants that no page of another host sends.
+/// Decodes a head that isn't from a page of another host.
 fn own_wants(
     alloc: Global,
     bytes: &[u8],
@@ -172,7 +168,6 @@ fn own_wants(
     Ok(wants_of(&asks, path))
 }
 
-/// What a head wants.
 pub(crate) fn head_wants(
     alloc: Global,
     bytes: &[u8],
@@ -190,7 +185,7 @@ pub(crate) fn head_wants(
     own_wants(alloc, bytes, spans, headers)
 }
 
-/// What a body asks.
+/// Returns the content of a body.
 fn asked<'a>(
     alloc: Global,
     post: Post,
@@ -209,7 +204,7 @@ fn asked<'a>(
     telegram_asked(alloc, body)
 }
 
-/// What is wanted by what a body asks.
+/// Returns the request for the content of a body.
 fn wanted_of(body: Body<'_>) -> Wanted<'_>
     ensures { WantsAsked (body_meant body.entry) result }
 {
@@ -225,7 +220,7 @@ fn wanted_of(body: Body<'_>) -> Wanted<'_>
     }
 }
 
-/// What a body wants.
+/// Decodes a body.
 pub(crate) fn body_wants<'a>(
     alloc: Global,
     post: Post,

@@ -16,11 +16,10 @@ use reports::{ReportCause, ReportFault, write_listing};
 use station_core::{ActFault, ByteOut, Keeper, send};
 use std::alloc::Global;
 
-/// The answer of a station that can't answer. It wants no memory.
+/// The answer of a station that is unavailable. Writing it allocates nothing.
 const UNAVAILABLE: &str =
     "HTTP/1.1 503 Service Unavailable\r\nContent-Type: application/json\r\nContent-Length: 27\r\nConnection: close\r\n\r\n{\"detail\":\"\",\"refused\":503}";
 
-/// The bytes of that answer.
 fn unavailable() -> &'static [u8]
     ensures { result.now ≡ unavailable }
 {
@@ -45,7 +44,6 @@ fn send_answer<O: ByteOut>(
     }
 }
 
-/// Writes the answer to an accepted input.
 fn send_accepted<O: ByteOut>(writer: &mut O, count: u32) -> Result<Served, ServeFault>
     ensures sent { HasSent 200 false (ok_answer count) (O.taken writer.old) (O.taken writer.new)
         result }
@@ -56,7 +54,7 @@ fn send_accepted<O: ByteOut>(writer: &mut O, count: u32) -> Result<Served, Serve
     send_answer(writer, 200, &room[..len], false)
 }
 
-/// Whether the station has to be opened again.
+/// Returns whether the station must be opened again.
 fn is_reopen(fault: &ActFault) -> bool
     ensures { IsReadersFault (Unit {0}) fault.now → result ≡ false }
 {
@@ -66,7 +64,6 @@ fn is_reopen(fault: &ActFault) -> bool
     }
 }
 
-/// Answers with a report.
 fn answer_report<K: Keeper, O: ByteOut>(
     alloc: Global,
     keeper: &mut K,
@@ -115,7 +112,6 @@ fn answer_report<K: Keeper, O: ByteOut>(
     }
 }
 
-/// Writes what is said.
 pub(crate) fn write_told<K: Keeper, O: ByteOut>(
     alloc: Global,
     keeper: &mut K,

@@ -1,4 +1,4 @@
-//! Stations, and what connections to them come to.
+//! Stations, and the outcomes of connections to them.
 use crate::ends::{Sent, Stop, Taken};
 use crate::script::{Ask, ScriptFault, Step, Story};
 use desk_commands::{Verb, read_command};
@@ -9,7 +9,7 @@ use station_core::{Answer, Counted, Input, Key, answer_one};
 use station_days::Moment;
 use std::alloc::{AllocError, Global};
 
-/// What is looked at of a station.
+/// The requests that show the state of a station.
 const LOOKS: [&str; 10] = [
     "reports/stock",
     "reports/shed",
@@ -23,16 +23,16 @@ const LOOKS: [&str; 10] = [
     "stock/020-12345723",
 ];
 
-/// What a connection came to.
+/// The outcome of a connection.
 #[derive(Drop)]
 pub struct Came {
     pub served: Result<Served, ServeFault>,
     pub written: Vec<u8>,
-    /// How many bytes weren't read.
+    /// The number of bytes that weren't read.
     pub unread: usize,
 }
 
-/// A reader of some bytes, at most so many in one read.
+/// Returns a reader of some bytes, at most `most` in one read.
 pub fn sent(bytes: &[u8], most: usize) -> Sent<'_> {
     Sent {
         rest: bytes,
@@ -42,7 +42,7 @@ pub fn sent(bytes: &[u8], most: usize) -> Sent<'_> {
     }
 }
 
-/// A writer of any number of bytes, at most so many in one write.
+/// Returns a writer of any number of bytes, at most `most` in one write.
 pub fn taken(alloc: Global, most: usize) -> Taken {
     Taken {
         bytes: Vec::new(alloc),
@@ -52,7 +52,7 @@ pub fn taken(alloc: Global, most: usize) -> Taken {
     }
 }
 
-/// One connection.
+/// Serves one connection.
 pub fn connect(
     alloc: Global,
     station: &mut PlainStation,
@@ -72,7 +72,7 @@ pub fn connect(
     }
 }
 
-/// A connection on which some bytes come in one piece.
+/// Serves a connection on which some bytes arrive in one piece.
 pub fn connect_at_once(
     alloc: Global,
     station: &mut PlainStation,
@@ -84,7 +84,7 @@ pub fn connect_at_once(
     connect(alloc, station, at, reader, writer)
 }
 
-/// All that is looked at of a station.
+/// Returns the state of a station, as the answers to `LOOKS`.
 pub fn state_of(
     alloc: Global,
     station: &mut PlainStation,
@@ -99,7 +99,7 @@ pub fn state_of(
     Ok(state)
 }
 
-/// Whether a command by its body is done.
+/// Returns whether a command is accepted.
 fn acts(
     alloc: Global,
     station: &mut PlainStation,
@@ -118,7 +118,6 @@ fn acts(
     matches!(answer_one(station, &input, at), Ok(Answer::Done(_)))
 }
 
-/// Does what a step asks.
 fn do_step(alloc: Global, station: &mut PlainStation, step: &Step<'_>) -> Result<(), ScriptFault> {
     match step.ask {
         Ask::Act(verb, key) => {
@@ -137,7 +136,7 @@ fn do_step(alloc: Global, station: &mut PlainStation, step: &Step<'_>) -> Result
     }
 }
 
-/// A new station that did the first steps of a story.
+/// Returns a new station after the first steps of a story.
 pub fn station_after(
     alloc: Global,
     story: &Story<'_>,

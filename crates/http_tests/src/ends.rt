@@ -7,11 +7,11 @@ use std::io::{Read, Write};
 pub struct Sent<'a> {
     /// The bytes that weren't read yet.
     pub rest: &'a [u8],
-    /// The most that it gives in one read.
+    /// The largest number of bytes in one read.
     pub most: usize,
-    /// How many interrupted reads come first.
+    /// The number of interrupted reads at the start.
     pub pauses: u32,
-    /// How many come behind each one that gave bytes.
+    /// The number of interrupted reads after each one that returned bytes.
     pub pauses_between: u32,
 }
 
@@ -30,20 +30,20 @@ impl Read for Sent<'_> {
     }
 }
 
-/// What a writer does that has no room left.
+/// The way in which a writer without room stops.
 #[derive(Clone, Copy, Debug, PartialEq, Eq)]
 pub enum Stop {
     Fails,
     TakesNone,
 }
 
-/// A writer of so many bytes.
+/// A writer with a limited number of bytes.
 #[derive(Drop)]
 pub struct Taken {
     pub bytes: Vec<u8>,
-    /// How many more it takes.
+    /// The number of bytes that it still takes.
     pub room: usize,
-    /// The most that it takes in one write.
+    /// The largest number of bytes in one write.
     pub most: usize,
     pub stop: Stop,
 }

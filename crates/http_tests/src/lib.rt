@@ -1,36 +1,36 @@
-//! Requests at the desk of a station over HTTP, as scripts. Each answer is compared byte for byte
-//! with the one that the script says. `run_service` has the service on a port of this machine
-//! played, and its answers printed.
+//! HTTP requests to the desk of a station, as scripts. Each answer is compared byte for byte with
+//! the one in the script. `run_service` plays the service on a port of this machine, and prints its
+//! answers.
 //!
 //! A script is plain text. Its statements, one a line:
 //!
-//! - `station FRA`: a new station with nothing in it;
+//! - `station FRA`: a new, empty station;
 //! - `at 2026-01-12 10:30`: the moment of all that follows;
-//! - `act VERB KEY BODY`: a command, its body one line of JSON. The station must do it;
+//! - `act VERB KEY BODY`: a command, its body one line of JSON. The station must accept it;
 //! - `request`: a connection. Its bytes are the `|` and `>` lines below, and its answer the `=`
-//!   lines. With no `=` line it is answered by nothing.
+//!   lines. Without an `=` line there is no answer.
 //!
-//! `| TEXT` sends a text with CR and LF behind it, `|/ TEXT` with LF alone, and `|+ TEXT` with
-//! nothing. `|x DIGITS` sends the bytes that their digits write. A number behind the sign, as in
-//! `|64 A: 1` or `|+300 x`, sends it so many times. `> TEXT` sends bytes in the same way that stand
-//! behind the request: it is answered without them. `= TEXT` is part of the answer in the same way.
-//! Empty lines and those that begin with `#` are for the reader.
+//! `| TEXT` sends a text followed by CR LF, `|/ TEXT` by LF only, and `|+ TEXT` by nothing. `|x
+//! DIGITS` sends the bytes of hexadecimal digits. With a number after the sign, as in `|64 A: 1` or
+//! `|+300 x`, it is sent that many times. `> TEXT` sends bytes in the same way after the request,
+//! which is answered without them. `= TEXT` is a part of the answer in the same way. Empty lines
+//! and those that begin with `#` are ignored.
 //!
-//! What was asked before stays. A request is played many times, each time on a station to which the
-//! same was done. Only what is posted and answered by 200 changes it:
+//! Earlier requests keep their effect. A request is played many times, each time on a station with
+//! the same history. Only a POST that is answered 200 changes it:
 //!
 //! - its bytes in one piece, one byte a read and one byte a write, and with an interrupted read
 //!   before each byte;
-//! - beginnings of it: where the request isn't whole nothing is written and the station stays as it
-//!   was;
-//! - for beginnings of the answer, with a writer that takes these bytes and then fails, and with
-//!   one that then takes none. These bytes went out, the station is as after the whole answer, and
+//! - prefixes of it: if the request isn't complete, nothing is written and the station is
+//!   unchanged;
+//! - for prefixes of the answer, with a writer that takes these bytes and then fails, and with one
+//!   that then takes none. These bytes are written, the station is as after the whole answer, and
 //!   the same request again is answered in the same way.
 //!
-//! Of the beginnings the empty one, half of it, and all but a byte are played, and each one of a
-//! `request every`. `request early` may be answered before all of its `|` bytes came, since nothing
-//! can follow that makes it good. `request long` is played in one piece and in reads of 64 bytes
-//! alone. `request after 9` is played once, behind nine interrupted reads.
+//! The prefixes played are the empty one, half of the bytes, and all but one byte, and for a
+//! `request every` each one. A `request early` may be answered before all of its `|` bytes arrived,
+//! since no further bytes can make it valid. A `request long` is played only in one piece and in
+//! reads of 64 bytes. A `request after 9` is played once, after nine interrupted reads.
 #![tactic(auto)]
 
 mod desk;
@@ -63,7 +63,7 @@ pub const FILES: &[&str] = &[
     "origins",
 ];
 
-/// Why a script wasn't played.
+/// Returns the output of a script that couldn't be played.
 fn fault_text(alloc: Global, name: &str, fault: &ScriptFault) -> Result<String, AllocError> {
     match fault {
         ScriptFault::Bad { line, why } => format!(in alloc; "{name}:{line}: {why}\n"),
@@ -71,7 +71,7 @@ fn fault_text(alloc: Global, name: &str, fault: &ScriptFault) -> Result<String, 
     }
 }
 
-/// What is printed of a script that was played: its differences, or that there is none.
+/// Returns the output of a played script: its differences, or that there are none.
 fn verdict(alloc: Global, name: &str, log: &Log) -> Result<String, AllocError> {
     let (answers, differences, differing) = (log.answers, log.differences, &log.text);
     if differences > 0 {
@@ -81,7 +81,7 @@ fn verdict(alloc: Global, name: &str, log: &Log) -> Result<String, AllocError> {
     }
 }
 
-/// Reads and plays a script: whether each answer is as it says, and what is printed of it.
+/// Reads and plays a script. Returns whether each answer is as expected, and the output.
 fn play_script(alloc: Global, name: &str, text: &str) -> Result<(bool, String), AllocError> {
     let mut log = Log::new(alloc);
     let played = match reading::read_script(alloc, text) {
@@ -94,12 +94,9 @@ fn play_script(alloc: Global, name: &str, text: &str) -> Result<(bool, String), 
     }
 }
 
-/// Plays a script, and prints each answer that differs, or how many are as the script says. Whether
-/// all are. A script that can't be read isn't.
-///
-/// # Errors
-///
-/// Where nothing can be printed, or memory is out.
+/// Plays a script, and prints each answer that differs, or how many are as expected. Returns
+/// whether all are. A script that can't be read isn't. It fails if printing fails or memory runs
+/// out.
 pub fn run_file(rt: &HostRuntime, file: &str) -> Result<bool, io::Error> {
     let name = format!(in rt.alloc(); "{file}.http")?;
     let path = format!(in rt.alloc(); "http/{name}")?;

@@ -1,8 +1,8 @@
-//! The bytes that a line of a script stands for.
+//! The bytes of a script's line.
 use crate::script::ScriptFault;
 use std::alloc::{AllocError, Global};
 
-/// What stands behind the text of a line.
+/// The bytes after the text of a line.
 #[derive(Clone, Copy, Debug, PartialEq, Eq)]
 enum End {
     CrLf,
@@ -20,7 +20,7 @@ impl End {
     }
 }
 
-/// A line's first word, and what follows the blank behind it.
+/// Returns the first word of a line, and the text after its space.
 pub fn first_word(line: &str) -> (&str, &str) {
     match line.split_once(' ') {
         Some(parts) => parts,
@@ -28,7 +28,7 @@ pub fn first_word(line: &str) -> (&str, &str) {
     }
 }
 
-/// How often a text stands, and the text.
+/// Reads a number of repetitions, and the text.
 fn repeated(rest: &str) -> Option<(u32, &str)> {
     let (times, text) = first_word(rest);
     if times.is_empty() {
@@ -37,7 +37,6 @@ fn repeated(rest: &str) -> Option<(u32, &str)> {
     Some((times.parse::<u32>().ok()?, text))
 }
 
-/// Appends a text, so many times.
 fn put(bytes: &mut Vec<u8>, times: u32, text: &[u8], end: End) -> Result<(), AllocError> {
     for _ in 0..times {
         bytes.extend_from_slice(text)?;
@@ -46,7 +45,6 @@ fn put(bytes: &mut Vec<u8>, times: u32, text: &[u8], end: End) -> Result<(), All
     Ok(())
 }
 
-/// Appends the bytes of a text, so many times.
 fn put_text(bytes: &mut Vec<u8>, line: u32, rest: &str, end: End) -> Result<(), ScriptFault> {
     match repeated(rest) {
         Some((times, text)) => {
@@ -60,7 +58,6 @@ fn put_text(bytes: &mut Vec<u8>, line: u32, rest: &str, end: End) -> Result<(), 
     }
 }
 
-/// Appends the bytes that digits write, so many times.
 fn put_digits(
     alloc: Global,
     bytes: &mut Vec<u8>,
@@ -86,7 +83,7 @@ fn put_digits(
     }
 }
 
-/// Appends the bytes that a line has behind its sign.
+/// Appends the bytes after a line's sign.
 pub fn put_line(
     alloc: Global,
     bytes: &mut Vec<u8>,

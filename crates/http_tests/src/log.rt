@@ -1,26 +1,26 @@
-//! What came of a script.
+//! The outcome of a script.
 use crate::ends::Stop;
 use std::alloc::{AllocError, Global};
 use std::fmt;
 
-/// How a request was played.
+/// A way of playing a request.
 #[derive(Clone, Copy, Debug, PartialEq, Eq)]
 pub enum Way {
     InOnePiece,
     ByteByByte,
     InPieces,
     Interrupted,
-    /// Its first bytes alone.
+    /// Only its first bytes.
     Beginning(usize),
-    /// All of its beginnings that aren't whole.
+    /// All of its incomplete prefixes.
     Beginnings,
-    /// The writer takes so many bytes.
+    /// With a writer that takes this many bytes.
     Room(usize, Stop),
-    /// All writers that stop.
+    /// With all writers that stop.
     Rooms,
-    /// Once more, behind a writer that took so many bytes.
+    /// Once more, after a writer that took this many bytes.
     Again(usize),
-    /// Behind so many interrupted reads.
+    /// After this many interrupted reads.
     After(u32),
 }
 
@@ -49,17 +49,16 @@ pub struct Log {
     /// Each of them.
     pub text: String,
     pub differences: u64,
-    /// How many requests were played.
+    /// The number of requests played.
     pub answers: u64,
 }
 
-/// Bytes as a text.
 fn shown(bytes: &[u8]) -> &str {
     std::str::from_utf8(bytes).unwrap_or("bytes that are no text")
 }
 
 impl Log {
-    /// Nothing was played yet.
+    /// Starts before the first request.
     pub fn new(alloc: Global) -> Log {
         Log {
             alloc,
@@ -69,12 +68,11 @@ impl Log {
         }
     }
 
-    /// A request was played.
+    /// Counts a request.
     pub fn count(&mut self) {
         self.answers = self.answers.saturating_add(1);
     }
 
-    /// Writes a difference down.
     fn note(
         &mut self,
         line: u32,
@@ -105,7 +103,7 @@ impl Log {
         self.note(line, way, what, shown(wanted), shown(came))
     }
 
-    /// Compares texts of values.
+    /// Compares values as texts.
     pub fn compare_text(
         &mut self,
         line: u32,

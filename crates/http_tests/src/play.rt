@@ -1,4 +1,4 @@
-//! Scripts, played.
+//! Playing scripts.
 use crate::desk::{Came, connect, connect_at_once, sent, state_of, station_after, taken};
 use crate::ends::{Sent, Stop, Taken};
 use crate::log::{Log, Way};
@@ -13,18 +13,18 @@ struct Case<'a> {
     alloc: Global,
     story: &'a Story<'a>,
     step: &'a Step<'a>,
-    /// How many steps stand before it.
+    /// The number of steps before it.
     before: usize,
     wanted: Result<Served, ServeFault>,
 }
 
-/// The status in an answer's first line, behind `HTTP/1.1 `.
+/// Returns the status in an answer's first line, after `HTTP/1.1 `.
 fn status_in(answer: &[u8]) -> Option<u16> {
     let digits = answer.get(9..12)?;
     std::str::from_utf8(digits).ok()?.parse::<u16>().ok()
 }
 
-/// What a request must come to.
+/// Returns the expected outcome of a request.
 fn wanted(step: &Step<'_>) -> Result<Result<Served, ServeFault>, ScriptFault> {
     if step.answer.is_empty() {
         return Ok(Err(ServeFault::Read));
@@ -42,12 +42,12 @@ fn wanted(step: &Step<'_>) -> Result<Result<Served, ServeFault>, ScriptFault> {
 }
 
 impl Case<'_> {
-    /// A station to which all was done that stands before.
+    /// Returns a station after all earlier steps of the story.
     fn station(&self) -> Result<PlainStation, ScriptFault> {
         station_after(self.alloc, self.story, self.before)
     }
 
-    /// Compares what a connection came to.
+    /// Compares the outcome of a connection.
     fn check(
         &self,
         log: &mut Log,
@@ -64,12 +64,10 @@ impl Case<'_> {
         Ok(())
     }
 
-    /// Compares an answer with the whole one.
     fn check_whole(&self, log: &mut Log, way: Way, came: &Came) -> Result<(), ScriptFault> {
         self.check(log, way, self.wanted, &self.step.answer, came)
     }
 
-    /// Compares the station's state.
     fn check_state(
         &self,
         log: &mut Log,
@@ -82,13 +80,12 @@ impl Case<'_> {
         Ok(())
     }
 
-    /// The state before it.
     fn state_before(&self) -> Result<Vec<u8>, ScriptFault> {
         let mut station = self.station()?;
         Ok(state_of(self.alloc, &mut station, self.step.at)?)
     }
 
-    /// The state after it, which came in one piece.
+    /// Returns the state after the request, which arrived in one piece.
     fn state_after(&self, log: &mut Log) -> Result<Vec<u8>, ScriptFault> {
         let mut station = self.station()?;
         let came = connect_at_once(self.alloc, &mut station, self.step.at, &self.step.sent);
@@ -96,7 +93,7 @@ impl Case<'_> {
         Ok(state_of(self.alloc, &mut station, self.step.at)?)
     }
 
-    /// It comes in reads of at most so many bytes, behind so many interrupted reads each, and is
+    /// Plays the request in reads of at most `most` bytes with interrupted reads between them,
     /// answered one byte a write.
     fn play_reads(
         &self,
@@ -129,7 +126,6 @@ impl Case<'_> {
         Ok(())
     }
 
-    /// Compares how many bytes weren't read.
     fn check_unread(&self, log: &mut Log, way: Way, unread: usize) -> Result<(), ScriptFault> {
         if self.step.ask == Ask::Request(Care::Early) {
             return Ok(());
@@ -149,7 +145,8 @@ impl Case<'_> {
         Ok(())
     }
 
-    /// Whether it is answered by its first bytes, of which one fewer were answered or not.
+    /// Returns whether the request is answered after its first `count` bytes; `was_whole` says
+    /// whether it was after one byte fewer.
     fn is_whole(&self, count: usize, was_whole: bool, came: &Came) -> bool {
         if self.step.ask == Ask::Request(Care::Early) {
             return was_whole || came.served != Err(ServeFault::Read);
@@ -157,7 +154,7 @@ impl Case<'_> {
         count >= self.step.needed
     }
 
-    /// Whether a beginning of so many bytes is played, out of so many.
+    /// Returns whether a prefix of `count` bytes out of `all` is played.
     fn plays(&self, count: usize, all: usize) -> bool {
         if self.step.ask == Ask::Request(Care::Every) {
             return true;
@@ -165,8 +162,8 @@ impl Case<'_> {
         count == 0 || count == all / 2 || count == all || count.saturating_add(1) == all
     }
 
-    /// Beginnings of it. Those that aren't whole leave the station as it was, and any other is
-    /// answered as the whole.
+    /// Plays prefixes of the request. Incomplete ones leave the station unchanged, and any other is
+    /// answered like the whole request.
     fn play_beginnings(&self, log: &mut Log, before: &[u8]) -> Result<(), ScriptFault> {
         let mut station = self.station()?;
         let mut is_whole = false;
@@ -193,7 +190,7 @@ impl Case<'_> {
         self.check_state(log, Way::Beginnings, before, &mut station)
     }
 
-    /// Its answer is written to a writer that has room for these first bytes of it.
+    /// Writes its answer to a writer with room for these first bytes.
     fn play_room(
         &self,
         log: &mut Log,
@@ -213,8 +210,8 @@ impl Case<'_> {
         self.check(log, Way::Room(room, stop), ends, written, &came)
     }
 
-    /// The same on a station of its own, which is then as after the whole answer, and answers the
-    /// same request in the same way.
+    /// Does the same on a separate station, which is then as after the whole answer, and answers
+    /// the same request in the same way.
     fn play_room_alone(
         &self,
         log: &mut Log,
@@ -230,7 +227,7 @@ impl Case<'_> {
         self.check_whole(log, Way::Again(room), &again)
     }
 
-    /// Its answer is written to a writer that stops so behind these first bytes of it.
+    /// Writes its answer to a writer that stops after these first bytes.
     fn play_stop(
         &self,
         log: &mut Log,
@@ -246,7 +243,7 @@ impl Case<'_> {
         }
     }
 
-    /// Writers that take a beginning of the answer. Where the request changes nothing they share a
+    /// Plays writers that take a prefix of the answer. If the request changes nothing, they share a
     /// station.
     fn play_rooms(&self, log: &mut Log, after: &[u8]) -> Result<(), ScriptFault> {
         let mut station = self.station()?;
@@ -264,7 +261,6 @@ impl Case<'_> {
         self.check_state(log, Way::Rooms, after, &mut station)
     }
 
-    /// It comes behind so many interrupted reads.
     fn play_after(&self, log: &mut Log, pauses: u32) -> Result<(), ScriptFault> {
         let mut station = self.station()?;
         let reader = Sent {
@@ -276,7 +272,7 @@ impl Case<'_> {
         self.check_whole(log, Way::After(pauses), &came)
     }
 
-    /// All ways.
+    /// Plays the request in all ways.
     fn play(&self, log: &mut Log, care: Care) -> Result<(), ScriptFault> {
         if let Care::After(pauses) = care {
             return self.play_after(log, pauses);
@@ -297,7 +293,6 @@ impl Case<'_> {
     }
 }
 
-/// Plays what is asked of one station.
 fn play_story(alloc: Global, story: &Story<'_>, log: &mut Log) -> Result<(), ScriptFault> {
     for (before, step) in story.steps.iter().enumerate() {
         let Ask::Request(care) = step.ask else {

@@ -1,4 +1,4 @@
-//! Scripts, line by line.
+//! Reading scripts, line by line.
 use crate::line::{first_word, put_line};
 use crate::script::{Ask, Care, ScriptFault, Step, Story};
 use desk_commands::Verb;
@@ -8,7 +8,6 @@ use station_core::Key;
 use station_days::Moment;
 use std::alloc::Global;
 
-/// A statement.
 #[derive(Clone, Copy, Debug, PartialEq, Eq)]
 enum Statement {
     Station(Airport),
@@ -17,7 +16,7 @@ enum Statement {
     Ask(Ask),
 }
 
-/// What was read of a script.
+/// The part of a script read so far.
 #[derive(Drop)]
 struct Script<'a> {
     alloc: Global,
@@ -25,7 +24,7 @@ struct Script<'a> {
     stories: Vec<Story<'a>>,
 }
 
-/// The moment of a text such as `2026-01-12 10:30`.
+/// Reads a moment such as `2026-01-12 10:30`.
 fn moment(text: &str) -> Option<Moment> {
     let time = text.parse::<DateTime>().ok()?;
     let day = u32::try_from(time.date().to_plain().to_unix_epoch_day()).ok()?;
@@ -34,7 +33,7 @@ fn moment(text: &str) -> Option<Moment> {
     Moment::new(day, hour.checked_mul(60)?.checked_add(minute)?)
 }
 
-/// A command: its verb and its key.
+/// Reads a command: its verb and its key.
 fn act(rest: &str) -> Option<Ask> {
     let (verb, rest) = first_word(rest);
     let (key, _body) = first_word(rest);
@@ -43,7 +42,7 @@ fn act(rest: &str) -> Option<Ask> {
     Some(Ask::Act(verb, key))
 }
 
-/// What follows the third blank of a line: the body of a command.
+/// Returns the text after the third space of a line: the body of a command.
 fn body(line: &str) -> &str {
     let (_word, rest) = first_word(line);
     let (_verb, rest) = first_word(rest);
@@ -51,7 +50,7 @@ fn body(line: &str) -> &str {
     body
 }
 
-/// How a request is played.
+/// Reads how a request is played.
 fn care(rest: &str) -> Option<Care> {
     match rest {
         "" => Some(Care::Whole),
@@ -65,7 +64,6 @@ fn care(rest: &str) -> Option<Care> {
     }
 }
 
-/// The statement that a line is.
 fn read_statement(line: &str) -> Option<Statement> {
     let (word, rest) = first_word(line);
     match word {
@@ -82,7 +80,7 @@ fn bad<T>(line: u32, why: &'static str) -> Result<T, ScriptFault> {
 }
 
 impl<'a> Script<'a> {
-    /// The request to which a line belongs.
+    /// Returns the request to which a line belongs.
     fn above(&mut self, line: u32) -> Result<&mut Step<'a>, ScriptFault> {
         let step = match self.stories.last_mut() {
             Some(story) => story.steps.last_mut(),
@@ -97,7 +95,7 @@ impl<'a> Script<'a> {
         }
     }
 
-    /// Bytes of a request by which it is answered.
+    /// Adds bytes of a request that are needed for its answer.
     fn add_needed(&mut self, line: u32, rest: &str) -> Result<(), ScriptFault> {
         let alloc = self.alloc;
         let step = self.above(line)?;
@@ -109,21 +107,19 @@ impl<'a> Script<'a> {
         Ok(())
     }
 
-    /// Bytes behind a request.
+    /// Adds bytes after a request.
     fn add_behind(&mut self, line: u32, rest: &str) -> Result<(), ScriptFault> {
         let alloc = self.alloc;
         let step = self.above(line)?;
         put_line(alloc, &mut step.sent, line, rest)
     }
 
-    /// Bytes of an answer.
     fn add_answer(&mut self, line: u32, rest: &str) -> Result<(), ScriptFault> {
         let alloc = self.alloc;
         let step = self.above(line)?;
         put_line(alloc, &mut step.answer, line, rest)
     }
 
-    /// A station begins.
     fn add_station(&mut self, here: Airport) -> Result<(), ScriptFault> {
         let story = Story {
             here,
@@ -135,12 +131,10 @@ impl<'a> Script<'a> {
         Ok(())
     }
 
-    /// The moment of what follows.
     fn set_moment(&mut self, at: Moment) {
         self.at = Some(at);
     }
 
-    /// A command or a request.
     fn add_ask(&mut self, line: u32, ask: Ask, body: &'a str) -> Result<(), ScriptFault> {
         let Some(at) = self.at else {
             return bad(line, "no moment was told yet");
@@ -163,7 +157,7 @@ impl<'a> Script<'a> {
         Ok(())
     }
 
-    /// A statement, with the body that it has if it is a command.
+    /// Adds a statement, with its body if it is a command.
     fn add_statement(
         &mut self,
         line: u32,
@@ -180,7 +174,6 @@ impl<'a> Script<'a> {
         }
     }
 
-    /// One line of the script.
     fn add(&mut self, line: u32, text: &'a str) -> Result<(), ScriptFault> {
         if text.is_empty() || text.starts_with('#') {
             return Ok(());
@@ -201,7 +194,7 @@ impl<'a> Script<'a> {
     }
 }
 
-/// What a script asks of its stations.
+/// Reads a script.
 pub fn read_script(alloc: Global, text: &str) -> Result<Vec<Story<'_>>, ScriptFault> {
     let mut script = Script {
         alloc,

@@ -1,14 +1,14 @@
-//! What a script asks of a station, and what it says will be answered.
+//! The steps of a script, and the expected answers.
 use desk_commands::Verb;
 use imp_fields::Airport;
 use station_core::Key;
 use station_days::Moment;
 use std::alloc::AllocError;
 
-/// Why a script can't be played.
+/// The reason why a script can't be played.
 #[derive(Clone, Copy, Debug, PartialEq, Eq)]
 pub enum ScriptFault {
-    /// A line of the script, counted from 1, is no line of one.
+    /// A line of the script, counted from 1, is malformed.
     Bad { line: u32, why: &'static str },
     Memory,
 }
@@ -19,22 +19,22 @@ impl From<AllocError> for ScriptFault {
     }
 }
 
-/// How a request is played.
+/// A way of playing a request.
 #[derive(Clone, Copy, Debug, PartialEq, Eq)]
 pub enum Care {
-    /// It is answered once its last byte came.
+    /// It is answered when its last byte has arrived.
     Whole,
-    /// So too, and each beginning of it and of its answer is played.
+    /// The same, and each prefix of it and of its answer is played.
     Every,
-    /// It may be answered before its last byte came.
+    /// It may be answered before its last byte has arrived.
     Early,
-    /// It is so long that it isn't played byte by byte.
+    /// It is too long to be played byte by byte.
     Long,
-    /// Once, behind so many interrupted reads.
+    /// It is played once, after this many interrupted reads.
     After(u32),
 }
 
-/// What a statement asks.
+/// A statement.
 #[derive(Clone, Copy, Debug, PartialEq, Eq)]
 pub enum Ask {
     /// A command.
@@ -53,13 +53,13 @@ pub struct Step<'a> {
     pub body: &'a str,
     /// The bytes of a request.
     pub sent: Vec<u8>,
-    /// How many of them it is answered by.
+    /// The number of bytes needed for its answer.
     pub needed: usize,
     pub answer: Vec<u8>,
 }
 
 impl Step<'_> {
-    /// Whether it may change the station: a command does, and what is posted and answered by 200.
+    /// Returns whether it may change the station, like a command, and a POST that is answered 200.
     pub fn may_change(&self) -> bool {
         match self.ask {
             Ask::Act(_, _) => true,
@@ -70,7 +70,7 @@ impl Step<'_> {
     }
 }
 
-/// What is asked of one station.
+/// The steps of one station.
 #[derive(Drop)]
 pub struct Story<'a> {
     pub here: Airport,

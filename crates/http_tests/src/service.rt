@@ -1,8 +1,7 @@
-//! The service on a port of this machine: listened for, connected to, asked, served and read, all
-//! in one process and one thread.
+//! The service on a port of this machine, with its clients, in one process and one thread.
 //!
-//! A case is printed by its name, with the lines of each answer behind `|`, and how the service
-//! ended. The connections of a case wait in the listener's queue until they are served.
+//! A case is printed with its name, with the lines of each answer after `|`, and with the end of
+//! the service. The connections of a case wait in the listener's queue until they are served.
 mod clock;
 mod failing;
 
@@ -22,23 +21,22 @@ use std::time::{Duration, Instant};
 /// 2026-01-12 10:30, in seconds since 1970-01-01.
 const MORNING: u64 = 1_768_213_800;
 
-/// Ten numbers are taken in.
+/// A request that takes in ten numbers.
 const TAKE_IN: &str =
     "POST /v1/act/take-in HTTP/1.1\r\nHost: desk\r\nRequest-Key: k1\r\nContent-Length: 48\r\n\r\n\
 {\"count\":10,\"prefix\":\"020\",\"serial\":\"1234567\"}  ";
 
-/// Three of them go to an agent.
+/// A request that issues three of them to an agent.
 const ISSUE: &str =
     "POST /v1/act/issue HTTP/1.1\r\nHost: desk\r\nRequest-Key: k2\r\nContent-Length: 62\r\n\r\n\
 {\"agent\":\"ACME\",\"count\":3,\"prefix\":\"020\",\"serial\":\"1234570\"}  ";
 
-/// Who holds one of them.
+/// A request for the holder of one of them.
 const HOLDER: &str = "GET /v1/stock/020-12345675 HTTP/1.1\r\nHost: desk\r\n\r\n";
 
-/// The stock.
 const STOCK: &str = "GET /v1/reports/stock HTTP/1.1\r\nHost: desk\r\n\r\n";
 
-/// A clock that stands still.
+/// Returns a clock that never advances.
 fn still(shown: u64) -> Stepped {
     Stepped {
         shown,
@@ -47,7 +45,6 @@ fn still(shown: u64) -> Stepped {
     }
 }
 
-/// Connects, and writes a request.
 fn ask(rt: &HostRuntime, address: SocketAddr, request: &str) -> io::Result<TcpStream> {
     let client = TcpStream::connect(rt, address)?;
     let mut asking = &client;
@@ -56,7 +53,7 @@ fn ask(rt: &HostRuntime, address: SocketAddr, request: &str) -> io::Result<TcpSt
     Ok(client)
 }
 
-/// Prints the answer that came, up to the connection's end.
+/// Prints the answer, up to the connection's end.
 fn tell(rt: &HostRuntime, client: TcpStream) -> io::Result<()> {
     let text = match io::read_to_string(rt.alloc(), client) {
         Ok(text) => text,
@@ -71,7 +68,7 @@ fn tell(rt: &HostRuntime, client: TcpStream) -> io::Result<()> {
     Ok(())
 }
 
-/// Serves a station to so many connections, and listens no more.
+/// Serves a number of connections to a station, and closes the listener.
 fn serve_all<K: Keeper>(
     rt: &HostRuntime,
     clock: &Stepped,
@@ -91,7 +88,6 @@ fn serve_all<K: Keeper>(
     Ok(serve(rt, &setting, station, &listener, count))
 }
 
-/// Serves a station to a connection for each request.
 fn play<K: Keeper>(
     rt: &HostRuntime,
     name: &str,
@@ -113,7 +109,7 @@ fn play<K: Keeper>(
     println!(rt; "{ended:?}")
 }
 
-/// A request with so many tens of bytes behind its head, all of which are sent.
+/// Returns a request with tens of bytes after its head, all of which are sent.
 fn long_request(rt: &HostRuntime, tens: u32) -> io::Result<String> {
     let mut request = format!(in rt.alloc();
         "POST /v1/telegrams HTTP/1.1\r\nContent-Length: {tens}0\r\n\r\n"
@@ -124,8 +120,8 @@ fn long_request(rt: &HostRuntime, tens: u32) -> io::Result<String> {
     Ok(request)
 }
 
-/// Eight connections that send nothing come before one that asks. They are given up together, so the
-/// service ends before eight seconds are over.
+/// Plays eight connections that send nothing before one that does. They are given up together, so
+/// the service ends within eight seconds.
 fn play_silent(rt: &HostRuntime, station: &mut PlainStation) -> io::Result<()> {
     println!(rt; "eight connections that send nothing")?;
     let listener = listen(rt, 0)?;
@@ -145,7 +141,7 @@ fn play_silent(rt: &HostRuntime, station: &mut PlainStation) -> io::Result<()> {
     println!(rt; "{ended:?}")
 }
 
-/// Requests whose time is over when they are read, by clocks that go on by so much at each reading.
+/// Plays requests that time out, with clocks that advance at each reading.
 fn play_slow(rt: &HostRuntime, station: &mut PlainStation) -> io::Result<()> {
     let late = Stepped {
         step: 31,
@@ -173,7 +169,7 @@ fn play_slow(rt: &HostRuntime, station: &mut PlainStation) -> io::Result<()> {
     )
 }
 
-/// A store that fails at its second input: that is answered 503, and the service ends.
+/// Plays a store that fails at its second input: that is answered 503, and the service ends.
 fn play_failing(rt: &HostRuntime, here: Airport) -> io::Result<()> {
     let mut station = Failing::new(PlainStation::new(rt.alloc(), here), 1);
     let day = [TAKE_IN, ISSUE, HOLDER];
@@ -186,7 +182,7 @@ fn play_failing(rt: &HostRuntime, here: Airport) -> io::Result<()> {
     )
 }
 
-/// The cases of a store that doesn't fail.
+/// Plays the cases of a store that doesn't fail.
 fn play_all(rt: &HostRuntime, here: Airport) -> io::Result<()> {
     let mut station = PlainStation::new(rt.alloc(), here);
     let clock = still(MORNING);
@@ -209,12 +205,9 @@ fn play_all(rt: &HostRuntime, here: Airport) -> io::Result<()> {
     )
 }
 
-/// Serves stations over loopback, asks them, and prints each answer: what is printed is compared
-/// with the `stdout` of the program that calls this.
-///
-/// # Errors
-///
-/// Where a socket fails, nothing can be printed, or memory is out.
+/// Serves stations over loopback, sends them requests, and prints each answer. The output is
+/// compared with the `stdout` of the program that calls this. It fails if a socket or printing
+/// fails, or memory runs out.
 pub fn run_service(rt: &HostRuntime) -> io::Result<()> {
     let Some(here) = Airport::read(b"FRA") else {
         return Err(io::Error::from(ErrorKind::InvalidInput));

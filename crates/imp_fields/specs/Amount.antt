@@ -7,20 +7,19 @@ use Rattle.imp_fields.specs.Characters.{is_point}
 use Rattle.imp_fields.specs.declared.amount.WeightUnit.{WeightUnit}
 use Rattle.imp_fields.specs.declared.amount.WeightUnit.TheVariants.{Kilograms, Pounds}
 
--- the most pieces of a message, and of a waybill's cargo in the books
+-- the largest number of pieces in a message, and of a waybill in the books
 abbrev pub most_pieces : ℕ
 most_pieces = 9_999
 
--- the most parts of a manifest
 abbrev pub most_parts : ℕ
 most_parts = 9_999
 
--- the most tenths of a kilogram in a message: 9,999,999 kilograms
+-- the largest weight in a message, in tenths of a kilogram: 9,999,999 kilograms
 abbrev pub most_message_tenths : ℕ
 most_message_tenths = 99_999_990
 
--- the most tenths of a kilogram in the books, and in a written message, where a weight has at most
--- seven characters
+-- the largest weight in the books, and in a written message, whose weights have at most seven
+-- characters
 abbrev pub most_tenths : ℕ
 most_tenths = 999_999
 
@@ -32,7 +31,6 @@ IsPieces n = (1 ≤ n) × (n ≤ most_pieces)
 abbrev pub IsPartNumber : ℕ → Type 0
 IsPartNumber n = (1 ≤ n) × (n ≤ most_parts)
 
--- a weight of a message
 abbrev pub IsTenths : ℕ → Type 0
 IsTenths n = n ≤ most_message_tenths
 
@@ -40,7 +38,7 @@ IsTenths n = n ≤ most_message_tenths
 abbrev pub IsBookTenths : ℕ → Type 0
 IsBookTenths n = n ≤ most_tenths
 
--- the part of a weight of so many pieces that falls to some of them, rounded down
+-- the share of the weight of `pieces` for `part` of them, rounded down
 abbrev pub share_of : ℕ → ℕ → ℕ → ℕ
 share_of pieces tenths part = tenths * part / pieces
 
@@ -57,7 +55,7 @@ count_of digits =
 abbrev pub is_digit_or_point : ℕ → Bool
 is_digit_or_point b = is_digit b || is_point b
 
--- one to seven digits and points, at most one a point, and none at an end
+-- one to seven digits and points, at most one of them a point, which isn't first or last
 abbrev pub is_weight_numeral : List ℕ → Bool
 is_weight_numeral numeral =
     nat_le 1 (length numeral) && nat_le (length numeral) 7 && list_all is_digit_or_point numeral
@@ -68,7 +66,7 @@ is_weight_numeral numeral =
 abbrev pub rounded_tenths : ℕ → ℕ → ℕ
 rounded_tenths n d = (n * 20 + d) / (d * 2)
 
--- a numeral is its digits, read without the point, over so many tens
+-- a numeral's digits, read without the point, and the power of ten to divide by
 abbrev pub numerator_of : List ℕ → ℕ
 numerator_of numeral = decimal_value (filter is_digit numeral)
 

@@ -1,9 +1,9 @@
--- Faults of texts by their words.
+-- Words of faults.
 use Rattle.std.specs.Prelude.{ℕ, List, [], codes}
 use Rattle.imp_fields.specs.declared.fault.Why.{Why}
 use Rattle.imp_fields.specs.declared.fault.Why.TheVariants as why
 
--- the word of a fault; out of memory is no fault of a text and has none
+-- the word of a fault; running out of memory isn't a fault of a text and has none
 abbrev pub why_word : Why → List ℕ
 why_word why.Size = codes "size"
 why_word why.Lines = codes "lines"

@@ -1,4 +1,4 @@
--- What the three kinds of messages share: the head, and the first fault of a list of lines.
+-- The common part of the three kinds of messages: the head, and the first fault of the lines.
 use Rattle.std.specs.Prelude.{ℕ, Bool, ◌&&◌, ◌==◌, nat_eq, nat_le, if◌then◌else◌, List, [], ◌∷◌, ◌++◌, length, drop, slice_index, Option, Some, None, Result, Ok, Err}
 use Rattle.std.specs.List.{list_all, starts_with}
 use Rattle.awb_number.specs.Digits.{is_digit}
@@ -22,13 +22,12 @@ abbrev pub err_of : {A : Type 0} → Result A Why → Option Why
 err_of (Ok x) = None
 err_of (Err why) = Some why
 
--- the fault of a message: that of its first line that has one, and where none has, the missing of a
--- line
+-- the first fault of a message's lines or, without one, that a line is missing
 abbrev pub fault_in : List (List ℕ) → List (Option Why) → Bool → Option TextFault
 fault_in lines faults is_complete =
     or_else (first_fault 1 faults) (if is_complete then None else Some (fault_at (length lines) why.Ending))
 
--- the bytes of lines that are sent: each ends with a carriage return and a newline
+-- the bytes of sent lines: each ends with CR LF
 abbrev pub sent_text : List (List ℕ) → List ℕ
 sent_text [] = []
 sent_text (line ∷ lines) = line ++ (13 ∷ 10 ∷ []) ++ sent_text lines

@@ -1,4 +1,4 @@
--- A short text at the front of a fixed buffer, with zeros behind it.
+-- Short texts in a fixed buffer, padded with zeros.
 use Rattle.std.specs.Prelude.{◌≡◌, ℕ, ◌-◌, ◌≤◌, List, ◌++◌, length, take, replicate}
 use Rattle.std.proofs.Common.{sym, ap, ◌∙◌, subst}
 use Rattle.std.proofs.lemmas.List.{length-take-le}
@@ -8,7 +8,7 @@ pub record IsPadded (most len : ℕ) (bytes : List ℕ) : Type 0 where
   pub whole : length bytes ≡ most
   pub zeros : bytes ≡ take len bytes ++ replicate (most - len) 0
 
--- the text gives the buffer back
+-- the text has its full length in the buffer
 pub padding_length : (most len : ℕ) (bytes : List ℕ) → IsPadded most len bytes → length (take len bytes) ≡ len
 padding_length most len bytes h = length-take-le len bytes (subst (λ n. len ≤ n) (sym h.whole) h.short)
 

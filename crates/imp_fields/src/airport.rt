@@ -5,7 +5,7 @@ use awb_number::ascii_text;
 use std::fmt;
 use std::marker::Model;
 
-/// An airport by its code of three letters, A to Z.
+/// An airport, by its code of three letters A to Z.
 #[derive(Clone, Copy, Debug, PartialEq, Eq)]
 pub struct Airport {
     letters: [u8; 3],
@@ -22,7 +22,7 @@ impl Model for Airport {
 }
 
 impl Airport {
-    /// The airport whose code the text is: three letters, and nothing more.
+    /// Returns the airport if the whole text is a code.
     pub fn read(text: &[u8]) -> Option<Airport>
         ensures { result ≡ airport_of text.now }
     {
@@ -34,7 +34,7 @@ impl Airport {
         }
     }
 
-    /// The code's three letters.
+    /// The three letters of the code.
     pub fn letters(&self) -> [u8; 3]
         ensures value { result ≡ self.now }
         ensures letters { IsTrue (is_airport result) }
@@ -43,7 +43,7 @@ impl Airport {
     }
 }
 
-/// As `FRA`.
+/// Written like `FRA`.
 impl fmt::Display for Airport {
     ghost output = { λ code. Some code };
 

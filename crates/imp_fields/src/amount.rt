@@ -5,13 +5,12 @@ use crate::run;
 use std::fmt;
 use std::marker::Model;
 
-/// The most pieces that a waybill may have.
+/// The largest number of pieces of a waybill.
 pub const MOST_PIECES: u32 = 9_999;
 
-/// The most parts that a manifest may have.
 const MOST_PARTS: u32 = 9_999;
 
-/// The most tenths of a kilogram that a message or a command may give: 9,999,999 kilograms.
+/// The largest weight in a message or a command, in tenths of a kilogram: 9,999,999 kilograms.
 pub const MOST_MESSAGE_TENTHS: u32 = 99_999_990;
 
 /// A count of pieces, 1 to 9999.
@@ -31,7 +30,7 @@ impl Model for Pieces {
 }
 
 impl Pieces {
-    /// The count, where it is 1 to 9999.
+    /// Returns the count if the number is 1 to 9999.
     pub fn new(number: u32) -> Option<Pieces>
         ensures in_range { IsSome result ↔ IsPieces number }
         ensures value { IfSome result (λ p. p ≡ number) }
@@ -43,7 +42,7 @@ impl Pieces {
         }
     }
 
-    /// The count that one to four digits write, where it is at least 1.
+    /// Reads a count of one to four digits, at least 1.
     pub fn read(digits: &[u8]) -> Option<Pieces>
         ensures { result ≡ count_of digits.now }
     {
@@ -59,7 +58,7 @@ impl Pieces {
     }
 }
 
-/// As `10`.
+/// Written like `10`.
 impl fmt::Display for Pieces {
     ghost output = { λ pieces. Some (decimal pieces) };
 
@@ -85,7 +84,7 @@ impl Model for PartNumber {
 }
 
 impl PartNumber {
-    /// The part's number, where it is 1 to 9999.
+    /// Returns the part number if the number is 1 to 9999.
     pub fn new(number: u32) -> Option<PartNumber>
         ensures in_range { IsSome result ↔ IsPartNumber number }
         ensures value { IfSome result (λ p. p ≡ number) }
@@ -97,7 +96,7 @@ impl PartNumber {
         }
     }
 
-    /// The number that one to four digits write, where it is at least 1.
+    /// Reads a part number of one to four digits, at least 1.
     pub fn read(digits: &[u8]) -> Option<PartNumber>
         ensures { result ≡ count_of digits.now }
     {
@@ -130,7 +129,7 @@ impl Model for Tenths {
 }
 
 impl Tenths {
-    /// The weight, where it is at most 99,999,990 tenths.
+    /// Returns the weight if the number is at most 99,999,990.
     pub fn new(number: u32) -> Option<Tenths>
         ensures in_range { IsSome result ↔ IsTenths number }
         ensures value { IfSome result (λ t. t ≡ number) }
@@ -151,10 +150,10 @@ impl Tenths {
     }
 }
 
-/// The most tenths of a kilogram that the books and a written message have room for.
+/// The largest weight in the books and in a written message, in tenths of a kilogram.
 pub const MOST_TENTHS: u32 = 999_999;
 
-/// A weight of the books in tenths of a kilogram, 0 to 999,999: what a written message has room
+/// A book weight in tenths of a kilogram, 0 to 999,999: at most what a written message has room
 /// for.
 #[derive(Clone, Copy, Debug, PartialEq, Eq, PartialOrd, Ord)]
 pub struct BookTenths {
@@ -172,7 +171,7 @@ impl Model for BookTenths {
 }
 
 impl BookTenths {
-    /// The weight, where it is at most 999,999 tenths.
+    /// Returns the weight if the number is at most 999,999.
     pub fn new(number: u32) -> Option<BookTenths>
         ensures in_range { IsSome result ↔ IsBookTenths number }
         ensures value { IfSome result (λ t. t ≡ number) }
@@ -193,7 +192,7 @@ impl BookTenths {
     }
 }
 
-/// What part of a consignment a quantity is about, by the letter of Cargo-IMP messages.
+/// The part of a consignment that a quantity counts, by its Cargo-IMP letter.
 #[derive(Clone, Copy, Debug, PartialEq, Eq)]
 pub enum ShipmentCode {
     /// T, the whole consignment.
@@ -217,27 +216,27 @@ pub enum WeightUnit {
     Pounds,
 }
 
-/// A quantity of a message: `T10K100MC0.5` (Cargo-IMP FWB, FFM and FSU).
+/// A quantity in a message: `T10K100MC0.5` (Cargo-IMP FWB, FFM and FSU).
 #[derive(Clone, Copy, Debug, PartialEq, Eq)]
 pub struct Quantity {
     pub code: ShipmentCode,
     /// The pieces of this quantity.
     pub pieces: Pieces,
-    /// Their weight in tenths of a kilogram, where one is given.
+    /// Their weight in tenths of a kilogram, if given.
     pub weight: Option<Tenths>,
-    /// The pieces of the whole consignment, where they are given.
+    /// The pieces of the whole consignment, if given.
     pub total: Option<Pieces>,
 }
 
-/// The part of a weight that falls to `part` of the `pieces`, rounded down to a tenth.
+/// Returns the share of the weight for `part` of the `pieces`, rounded down to a tenth.
 pub fn share(pieces: u32, tenths: u32, part: u32) -> u64
     requires { 1 ≤ pieces }
     ensures value { result ≡ share_of pieces tenths part }
 
-    // The whole gives the whole.
+    // All pieces have the whole weight.
     ensures whole { part ≡ pieces → result ≡ tenths }
 
-    // Where the weight has a tenth for each piece, so have the part and the rest.
+    // If there is a tenth for each piece, the part and the rest have one for each of theirs.
     ensures part { pieces ≤ tenths → part ≤ result }
     ensures rest { pieces ≤ tenths → part ≤ pieces → (result ≤ tenths)
         × (pieces - part ≤ tenths - result) }
@@ -245,7 +244,7 @@ pub fn share(pieces: u32, tenths: u32, part: u32) -> u64
     u64::from(tenths) * u64::from(part) / u64::from(pieces)
 }
 
-/// The weight at which pieces are booked: a tenth for each piece at the least.
+/// Returns the weight at which pieces are booked: at least a tenth for each piece.
 pub fn book_weight(pieces: u32, tenths: u32) -> u32
     ensures { result ≡ max tenths pieces }
 {

@@ -13,7 +13,7 @@ use crate::run;
 use crate::token::Token;
 use awb_number::Awb;
 
-/// Whether twelve bytes are three digits, a hyphen and eight digits.
+/// Returns whether twelve bytes are three digits, a hyphen and eight digits.
 fn has_number_shape(number: &[u8; 12]) -> bool
     ensures { result ≡ has_number_shape number.now }
 {
@@ -23,7 +23,7 @@ fn has_number_shape(number: &[u8; 12]) -> bool
     run::is_digits(&number[4..])
 }
 
-/// The origin and the destination of a line that has a consignment line's shape.
+/// Returns origin and destination if the line has the form of a consignment line.
 #[tactic(auto, using(crate::proofs::ShapeLaws::shape_short, crate::proofs::ShapeLaws::shape_by, crate::proofs::ShapeLaws::route_lost))]
 fn route(line: &[u8]) -> Option<(Airport, Airport)>
     ensures shape { result ≡ where_true (has_consignment_shape line.now)
@@ -42,12 +42,16 @@ fn route(line: &[u8]) -> Option<(Airport, Airport)>
     Some((origin, destination))
 }
 
-/// What a consignment line says, and where its fields stand in it.
+/// Reads a consignment line, with the positions of its fields.
 ///
 /// # Errors
-/// `Consignment` for a line that doesn't begin with three digits, a hyphen, eight digits, six
-/// letters and a slash; then `Number` for a wrong check digit, and `Quantity` where no quantity
-/// stands up to the next slash or the end.
+///
+/// In this order:
+///
+/// - `Consignment`: the line doesn't begin with three digits, a hyphen, eight digits, six letters
+///   and a slash.
+/// - `Number`: the check digit is wrong.
+/// - `Quantity`: the text up to the next slash or the end isn't a quantity.
 #[tactic(auto, using(crate::proofs::LineLaws::unshaped, crate::proofs::LineLaws::misnumbered, crate::proofs::LineLaws::uncounted))]
 pub fn read_consignment<'a>(line: &'a [u8]) -> Result<Consignment<'a>, Why>
     ensures exact { plain result ≡ consignment_of line.now }

@@ -1,7 +1,7 @@
-/// What a count of goods showed.
+/// A discrepancy between goods and documents.
 #[derive(Clone, Copy, Debug, PartialEq, Eq)]
 pub enum Discrepancy {
-    /// OFLD, taken off the flight.
+    /// OFLD, offloaded.
     Offloaded,
     /// MSCA, missing.
     Missing,

@@ -5,42 +5,42 @@ ghost use Rattle.imp_fields.specs.NormalText.{fault_at};
 
 use std::fmt;
 
-/// Why a telegram cannot be read.
+/// The reason why a telegram can't be read.
 #[derive(Clone, Copy, Debug, PartialEq, Eq)]
 pub enum Why {
     /// The text has more than 65,536 bytes.
     Size,
     /// The text has more than 1,000 lines.
     Lines,
-    /// The line has a byte that is not printable ASCII.
+    /// The line has a byte that isn't printable ASCII.
     Byte,
     /// The line has more than 255 bytes.
     Long,
     /// None of the first eleven lines begins an FWB, an FFM or an FSU.
     Kind,
-    /// A line that must be there is missing.
+    /// A required line is missing.
     Ending,
-    /// The message line is not three letters, a slash and one to three digits.
+    /// The message line isn't three letters, a slash and one to three digits.
     Head,
-    /// The line has not the shape of a consignment line.
+    /// The line doesn't have the form of a consignment line.
     Consignment,
     /// The waybill number has a wrong check digit.
     Number,
-    /// The quantity of a consignment line cannot be read.
+    /// The quantity of a consignment line can't be read.
     Quantity,
     /// The consignment line of an FWB gives no weight.
     Weight,
-    /// The date of a flight line cannot be read.
+    /// The date of a flight line can't be read.
     Date,
-    /// Another field of a flight line is missing or cannot be read.
+    /// Another field of a flight line is missing or can't be read.
     Flight,
-    /// A consignment line stands before the first point of unloading.
+    /// A consignment line comes before the first airport of unloading.
     Order,
-    /// There was no memory: this says nothing of the text.
+    /// Memory ran out, which says nothing about the text.
     Memory,
 }
 
-/// The word of a fault, as `ending`. Want of memory has none: it is no fault of a text.
+/// Written as a word such as `ending`, and for `Memory` as an empty text.
 impl fmt::Display for Why {
     ghost output = { λ why. Some (why_word why) };
 
@@ -65,15 +65,14 @@ impl fmt::Display for Why {
     }
 }
 
-/// The first fault of a text, and the line that has it, counted from 1; 0 stands for the whole
-/// text.
+/// The first fault of a text, with its line, counted from 1. Line 0 is the whole text.
 #[derive(Clone, Copy, Debug, PartialEq, Eq)]
 pub struct TextFault {
     pub line: u32,
     pub why: Why,
 }
 
-/// The fault of a line, counted from 1; of the whole text, where the line is 0.
+/// Returns the fault of a line, counted from 1, or of the whole text as line 0.
 pub fn fault_at(line: u32, why: Why) -> TextFault
     ensures { result ≡ fault_at line why }
 {

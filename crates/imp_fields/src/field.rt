@@ -1,4 +1,4 @@
-//! The fields of a line, which slashes part.
+//! The fields of a line, separated by slashes.
 
 ghost use Rattle.std.specs.Prelude.{◌≡◌, ◌∷◌, [], drop, IfSome, None};
 ghost use Rattle.std.specs.List.{join_with_byte};
@@ -6,7 +6,7 @@ ghost use Rattle.imp_fields.specs.Characters.{fields};
 
 use crate::run;
 
-/// The first field of a text and what follows the slash behind it, where there is a slash.
+/// Returns the first field of a text and the text after its slash, or `None` without a slash.
 #[tactic(auto, using(crate::proofs::Cuts::cut_at, crate::proofs::Cuts::uncut))]
 pub fn cut_at_slash(text: &[u8]) -> Option<(&[u8], &[u8])>
     ensures some { IfSome result (λ parts. fields text.now ≡ parts.0.now ∷ fields parts.1.now) }
@@ -20,8 +20,7 @@ pub fn cut_at_slash(text: &[u8]) -> Option<(&[u8], &[u8])>
     Some((&text[..place], rest))
 }
 
-/// The first field of a text, and all that follows the slash behind it; nothing where there is no
-/// slash.
+/// Returns the first field of a text and the text after its slash, which is empty without a slash.
 #[tactic(auto, using(crate::proofs::Cuts::joined_again))]
 pub fn first_field(text: &[u8]) -> (&[u8], &[u8])
     ensures first { fields text.now ≡ result.0.now ∷ drop 1 (fields text.now) }

@@ -8,7 +8,7 @@ use awb_number::ascii_text;
 use std::fmt;
 use std::marker::Model;
 
-/// A flight by its designator: the carrier, the number and perhaps a letter behind it.
+/// A flight, by its designator: a carrier, a number and an optional letter.
 #[derive(Clone, Copy, Debug, PartialEq, Eq)]
 pub struct Flight {
     carrier: [u8; 2],
@@ -27,7 +27,6 @@ impl Model for Flight {
     ghost inverse = { λ f. record { carrier = f.carrier; number = f.number; suffix = f.suffix } };
 }
 
-/// Whether two characters are a carrier: letters or digits, at least one a letter.
 fn is_carrier(carrier: [u8; 2]) -> bool
     ensures { result ≡ is_carrier carrier }
 {
@@ -37,7 +36,7 @@ fn is_carrier(carrier: [u8; 2]) -> bool
         && (first.is_ascii_uppercase() || second.is_ascii_uppercase())
 }
 
-/// The letter behind a flight's number, where there is one.
+/// Returns the optional letter after a flight's number, or `None` for any other text.
 fn suffix(text: &[u8]) -> Option<Option<u8>>
     ensures value { result ≡ suffix_of text.now }
     ensures letter { IfSome result (λ suffix. IfSome suffix (λ b. IsTrue (is_letter b))) }
@@ -49,7 +48,6 @@ fn suffix(text: &[u8]) -> Option<Option<u8>>
     }
 }
 
-/// Whether the letters behind two numbers are one, or none.
 fn is_same_letter(a: Option<u8>, b: Option<u8>) -> bool
     ensures { result ≡ same_letter a b }
 {
@@ -61,7 +59,7 @@ fn is_same_letter(a: Option<u8>, b: Option<u8>) -> bool
 }
 
 impl Flight {
-    /// Whether these are one flight: the same carrier, number and letter.
+    /// Returns whether the two have the same carrier, number and letter.
     pub fn is_same(&self, other: &Flight) -> bool
         ensures { result ≡ same_flight self.now other.now }
     {
@@ -70,9 +68,9 @@ impl Flight {
             && is_same_letter(self.suffix, other.suffix)
     }
 
-    /// The flight that a text such as `LH400` names: a carrier of two letters or digits, at least
-    /// one of them a letter, one to four digits of value at least 1, and perhaps a letter. Zeros in
-    /// front don't count.
+    /// Reads a flight such as `LH400`: a carrier of two upper-case letters or digits, at least one
+    /// of them a letter, one to four digits of value at least 1, and an optional letter. Leading
+    /// zeros don't count.
     pub fn read(text: &[u8]) -> Option<Flight>
         ensures { result ≡ flight_of text.now }
     {
@@ -93,8 +91,8 @@ impl Flight {
         })
     }
 
-    /// Writes the flight to the front of a buffer, its number with at least three digits: `LH004`.
-    /// Answers how many bytes it has.
+    /// Writes the flight to the start of a buffer, its number with at least three digits: `LH004`.
+    /// Returns its length.
     pub fn write(&self, out: &mut [u8; 7]) -> usize
         ensures bound { result ≤ 7 }
         ensures text { take result out.new ≡ flight_text self.now }
@@ -110,7 +108,7 @@ impl Flight {
     }
 }
 
-/// As it is written: `LH004`.
+/// Written like `LH004`.
 impl fmt::Display for Flight {
     ghost output = { λ flight. Some (flight_text flight) };
 
@@ -121,7 +119,7 @@ impl fmt::Display for Flight {
     }
 }
 
-/// Writes a flight's number with three digits, or four where it has them.
+/// Writes a flight's number with three digits, or four if it needs them.
 fn put_number(out: &mut [u8], at: usize, number: u16) -> usize
     requires { at + 4 ≤ length out.old }
     ensures bound { result ≤ at + 4 }
@@ -136,7 +134,6 @@ fn put_number(out: &mut [u8], at: usize, number: u16) -> usize
     }
 }
 
-/// Writes the last three digits of a number.
 fn put_three(out: &mut [u8], at: usize, number: u16) -> usize
     requires { at + 3 ≤ length out.old }
     ensures place { result ≡ at + 3 }

@@ -1,4 +1,4 @@
-//! Laws of the definitions.
+//! Laws about the definitions.
 
 ghost use Rattle.std.specs.Prelude.{◌≡◌, ◌↔◌, ◌≤◌, ◌-◌, ℕ, List, Some, IsTrue};
 ghost use Rattle.imp_fields.specs.Amount.{share_of};
@@ -6,22 +6,22 @@ ghost use Rattle.imp_fields.specs.Flight.{Designator, IsDesignator, flight_text,
 ghost use Rattle.imp_fields.specs.declared.amount.Quantity.{Quantity};
 ghost use Rattle.imp_fields.specs.Quantity.{quantity_of, IsQuantity};
 
-/// A text is read as a quantity exactly where its parts make that quantity.
+/// A text is read as a quantity exactly if its parts make that quantity.
 pub fn quantity_law()
     ensures parts { (text : List ℕ) (q : Quantity) → quantity_of text ≡ Some q → IsQuantity text q }
     ensures read { (text : List ℕ) (q : Quantity) → IsQuantity text q → quantity_of text ≡ Some q }
 {}
 
-/// Flights with the same carrier, number and letter are one flight, and so are flights that are
-/// written alike.
+/// Two flights are equal if their carriers, numbers and letters are, and also if they are written
+/// alike.
 pub fn flight_law()
     ensures same { (a b : Designator) → IsTrue (same_flight a b) ↔ (a ≡ b) }
     ensures written { (a b : Designator) → IsDesignator a → IsDesignator b
         → flight_text a ≡ flight_text b → a ≡ b }
 {}
 
-/// The share of all pieces is the whole weight. Where there is at least a tenth for each piece, a
-/// part has a tenth for each of its pieces, and so has the rest.
+/// The share of all pieces is the whole weight. If there is at least a tenth for each piece, a part
+/// and the rest have a tenth for each of their pieces.
 pub fn share_law()
     ensures whole { (pieces tenths : ℕ) → 1 ≤ pieces → share_of pieces tenths pieces ≡ tenths }
     ensures part { (pieces tenths part : ℕ) → 1 ≤ pieces → pieces ≤ tenths

@@ -8,10 +8,10 @@ use crate::amount::Quantity;
 use crate::token::Token;
 use awb_number::Awb;
 
-/// What a message is: waybill data, a flight manifest or a status update.
+/// The kind of a message.
 #[derive(Clone, Copy, Debug, PartialEq, Eq)]
 pub enum MessageKind {
-    /// FWB, the data of a waybill.
+    /// FWB, waybill data.
     Fwb,
     /// FFM, the manifest of a flight.
     Ffm,
@@ -19,8 +19,8 @@ pub enum MessageKind {
     Fsu,
 }
 
-/// The normal text of a telegram: its lines from the message line on, as slices of the bytes.
-/// There are at most 1,000, each of at most 255 bytes of printable ASCII.
+/// The normal text of a telegram: its lines from the message line on, as slices of its bytes. There
+/// are at most 1,000, each of at most 255 bytes of printable ASCII.
 #[derive(Debug, Drop)]
 pub struct Lines<'a> {
     pub kind: MessageKind,
@@ -29,7 +29,7 @@ pub struct Lines<'a> {
     pub ghost printable: { IsTrue (list_all is_line_token lines.items) },
 }
 
-/// A consignment line: what its fields mean, and where they stand in the line.
+/// A consignment line: the values of its fields, and their positions in the line.
 #[derive(Clone, Copy, Debug)]
 pub struct Consignment<'a> {
     pub awb: Awb,
@@ -40,6 +40,6 @@ pub struct Consignment<'a> {
     pub origin_text: Token<'a>,
     pub destination_text: Token<'a>,
     pub quantity_text: Token<'a>,
-    /// All that stands behind the slash after the quantity.
+    /// The text after the second slash.
     pub goods: Token<'a>,
 }

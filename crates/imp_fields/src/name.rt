@@ -10,7 +10,7 @@ use awb_number::ascii_text;
 use std::fmt;
 use std::marker::Model;
 
-/// A name of at most 35 bytes of printable ASCII, which doesn't end in a blank. It may be empty.
+/// A name of at most 35 bytes of printable ASCII, not ending in a space. It may be empty.
 #[derive(Clone, Copy, Debug, PartialEq, Eq)]
 pub struct Name {
     bytes: [u8; 35],
@@ -35,8 +35,8 @@ impl Model for Name {
     } };
 }
 
-/// A text of at most 15 bytes of printable ASCII that says what the goods are, which doesn't end in
-/// a blank. It may be empty.
+/// A description of goods of at most 15 bytes of printable ASCII, not ending in a space. It may be
+/// empty.
 #[derive(Clone, Copy, Debug, PartialEq, Eq)]
 pub struct Goods {
     bytes: [u8; 15],
@@ -61,14 +61,13 @@ impl Model for Goods {
     } };
 }
 
-/// Whether a text is printable, of at most so many bytes, and doesn't end in a blank.
 fn is_short_text(text: &[u8], most: usize) -> bool
     ensures { result ≡ is_short_text most text.now }
 {
     text.len() <= most && run::is_printable(text) && text.last() != Some(&b' ')
 }
 
-/// The bytes of a text, and zeros behind them.
+/// Returns the bytes of a text, padded with zeros.
 fn padded<const N: usize>(text: &[u8]) -> [u8; N]
     requires { length text.now ≤ N }
     ensures { result ≡ text.now ++ replicate (N - length text.now) 0 }
@@ -79,7 +78,7 @@ fn padded<const N: usize>(text: &[u8]) -> [u8; N]
 }
 
 impl Name {
-    /// The name that the text is.
+    /// Returns the name if the text is one.
     pub fn read(text: &[u8]) -> Option<Name>
         ensures valid { IsSome result ↔ IsTrue (is_name text.now) }
         ensures value { IfSome result (λ name. name ≡ text.now) }
@@ -103,7 +102,7 @@ impl Name {
     }
 }
 
-/// As `ACME TOOLS`.
+/// Written like `ACME TOOLS`.
 impl fmt::Display for Name {
     ghost output = { λ name. Some name };
 
@@ -113,7 +112,7 @@ impl fmt::Display for Name {
 }
 
 impl Goods {
-    /// The goods text that the text is.
+    /// Returns the goods text if the text is one.
     pub fn read(text: &[u8]) -> Option<Goods>
         ensures valid { IsSome result ↔ IsTrue (is_goods text.now) }
         ensures value { IfSome result (λ goods. goods ≡ text.now) }
@@ -125,8 +124,7 @@ impl Goods {
         }
     }
 
-    /// The goods that are kept of a text that was read: its first 15 bytes, less the blanks at
-    /// their end.
+    /// Returns the goods text stored for a text: its first 15 bytes, without trailing spaces.
     pub fn kept(text: &[u8]) -> Goods
         requires { IsTrue (list_all is_printable text.now) }
         ensures { result ≡ kept_goods text.now }
@@ -154,7 +152,7 @@ impl Goods {
     }
 }
 
-/// As `MACHINE PARTS`.
+/// Written like `MACHINE PARTS`.
 impl fmt::Display for Goods {
     ghost output = { λ goods. Some goods };
 

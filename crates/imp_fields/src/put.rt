@@ -1,8 +1,8 @@
-//! Text written into a buffer, piece by piece. Each call returns the place behind what it wrote.
+//! Writing text into a buffer. Each call returns the index after what it wrote.
 
 ghost use Rattle.std.specs.Prelude.{◌≡◌, ◌+◌, ◌≤◌, ◌<◌, ◌++◌, ◌∷◌, [], length, take, decimal};
 
-/// Writes a byte at a place.
+/// Writes a byte at `at`.
 pub(crate) fn put(out: &mut [u8], at: usize, byte: u8) -> usize
     requires { at < length out.old }
     ensures place { result ≡ at + 1 }
@@ -12,7 +12,7 @@ pub(crate) fn put(out: &mut [u8], at: usize, byte: u8) -> usize
     at + 1
 }
 
-/// Writes a number without leading zeros at a place, and returns the place behind it.
+/// Writes a number without leading zeros at `at`, and returns the index after it.
 #[tactic(auto, using(std::proofs::lemmas::Fmt::decimal_digit))]
 pub fn put_decimal(out: &mut [u8], at: usize, number: u32) -> usize
     requires { at + length (decimal number) ≤ length out.old }

@@ -1,4 +1,4 @@
-//! Quantities of messages, as `T10K100MC0.5`, and the weights in them.
+//! Quantities in messages, such as `T10K100MC0.5`, and their weights.
 
 ghost use Rattle.std.specs.Prelude.{◌≡◌, ◌+◌, ◌++◌, take, decimal, ◌≤◌, ◌<◌, ◌*◌, ◌^◌, ℕ, length, filter, count_by, is_some, IfSome, Some, None};
 ghost use Rattle.std.specs.List.{list_all, position_or_len};
@@ -12,8 +12,8 @@ use crate::amount::{BookTenths, Pieces, Quantity, ShipmentCode, Tenths, WeightUn
 use crate::put::{put, put_decimal};
 use crate::run;
 
-/// The number that the digits of a weight's number write, without its points, and how many points
-/// there are; nothing where there is another byte.
+/// Returns the number that the digits of a numeral make, and the number of points. It is `None` if
+/// there is any other byte.
 #[tactic(auto, using(crate::proofs::WeightLaws::ten_pow_of_seven))]
 fn digits_and_points(numeral: &[u8]) -> Option<(u64, u32)>
     requires { length numeral.now ≤ 7 }
@@ -35,8 +35,8 @@ fn digits_and_points(numeral: &[u8]) -> Option<(u64, u32)>
     Some((number, points))
 }
 
-/// The number that the digits of a weight's number write, without its point: one to seven digits
-/// and points, at most one a point, and none at an end.
+/// Returns the number that the digits of a weight's numeral make: one to seven digits and points,
+/// at most one of them a point, which isn't first or last.
 fn numerator(numeral: &[u8]) -> Option<u64>
     ensures value { result ≡ where_true (is_weight_numeral numeral.now) (numerator_of numeral.now) }
     ensures bound { IfSome result (λ n. n < 10_000_000) }
@@ -51,7 +51,7 @@ fn numerator(numeral: &[u8]) -> Option<u64>
     Some(read.0)
 }
 
-/// How many bytes of a weight's number stand before its point.
+/// Returns the number of bytes before the point.
 fn whole_len(numeral: &[u8]) -> usize
     ensures place { result ≡ position_or_len is_point numeral.now }
     ensures bound { result ≤ length numeral.now }
@@ -59,7 +59,7 @@ fn whole_len(numeral: &[u8]) -> usize
     numeral.iter().take_while(|b| **b != b'.').count()
 }
 
-/// Over which power of ten a weight's number stands: ten for each digit behind its point.
+/// Returns the power of ten by which to divide: ten for each digit after the point.
 #[tactic(auto, using(crate::proofs::WeightLaws::ten_pow_positive, crate::proofs::WeightLaws::ten_pow_small))]
 fn denominator(numeral: &[u8]) -> u64
     requires { length numeral.now ≤ 7 }
@@ -71,7 +71,6 @@ fn denominator(numeral: &[u8]) -> u64
     10_u64.pow(places as u32)
 }
 
-/// The tenths in a number of kilograms, a half rounded up.
 fn rounded_tenths(numerator: u64, denominator: u64) -> Option<Tenths>
     requires positive { 1 ≤ denominator }
     requires numerator { numerator < 10 ^ 16 }
@@ -83,7 +82,7 @@ fn rounded_tenths(numerator: u64, denominator: u64) -> Option<Tenths>
     Tenths::new(tenths as u32)
 }
 
-/// The weight that a number means in a unit. A pound is 0.45359237 kilograms, and the product is
+/// Returns the weight of a numeral in a unit. A pound is 0.45359237 kilograms, and the product is
 /// rounded once.
 #[tactic(auto, using(crate::proofs::WeightLaws::kilograms_in_range, crate::proofs::WeightLaws::pounds_in_range))]
 fn tenths(unit: WeightUnit, numeral: &[u8]) -> Option<Tenths>
@@ -97,7 +96,6 @@ fn tenths(unit: WeightUnit, numeral: &[u8]) -> Option<Tenths>
     }
 }
 
-/// The unit that a letter stands for.
 fn unit(letter: u8) -> Option<WeightUnit>
     ensures { result ≡ unit_of letter }
 {
@@ -108,7 +106,6 @@ fn unit(letter: u8) -> Option<WeightUnit>
     }
 }
 
-/// The code that a letter stands for.
 fn code(letter: u8) -> Option<ShipmentCode>
     ensures { result ≡ code_of letter }
 {
@@ -122,8 +119,8 @@ fn code(letter: u8) -> Option<ShipmentCode>
     }
 }
 
-/// The weight in front of what follows the pieces, where a K or an L stands there, and what is left
-/// behind it.
+/// Returns the weight at the start of the text after the pieces, if a K or an L comes first, and
+/// the rest of the text.
 fn weight_and_left(text: &[u8]) -> Option<(Option<Tenths>, &[u8])>
     ensures weight { IfSome result (λ r. weight_at_front text.now ≡ Some r.0) }
     ensures left { IfSome result (λ r. r.1.now ≡ left_of_weight text.now) }
@@ -140,14 +137,14 @@ fn weight_and_left(text: &[u8]) -> Option<(Option<Tenths>, &[u8])>
     Some((Some(weight), left))
 }
 
-/// Whether a text has only what a quantity may have unread: letters, digits and points.
+/// Returns whether a text has only what a quantity may have unread: letters, digits and points.
 fn is_unread(text: &[u8]) -> bool
     ensures { result ≡ list_all is_unread text.now }
 {
     text.iter().all(|b| b.is_ascii_uppercase() || b.is_ascii_digit() || *b == b'.')
 }
 
-/// The total at the end of what follows the weight: a T and the longest run of digits there.
+/// Returns the total at the end of the text after the weight: a T and the longest run of digits.
 fn total_at_end(left: &[u8]) -> Option<Pieces>
     ensures { result ≡ total_at_end left.now }
 {
@@ -159,7 +156,7 @@ fn total_at_end(left: &[u8]) -> Option<Pieces>
     }
 }
 
-/// The tenths of a kilogram that a weight field such as `K0.25` or `L100` means, a half rounded up.
+/// Reads a weight field such as `K0.25` or `L100` in tenths of a kilogram, with a half rounded up.
 /// A pound is 0.45359237 kilograms, and the exact product is rounded once.
 pub fn weight_of(field: &[u8]) -> Option<Tenths>
     ensures { result ≡ weight_of field.now }
@@ -168,9 +165,9 @@ pub fn weight_of(field: &[u8]) -> Option<Tenths>
     tenths(unit(*letter)?, numeral)
 }
 
-/// The quantity that a text such as `T10K100MC0.5` means: a code, one to four digits of value at
-/// least 1, perhaps a weight, and letters, digits and points, which are unread but for a total at
-/// their end.
+/// Reads a quantity such as `T10K100MC0.5`: a code, one to four digits of value at least 1, an
+/// optional weight, and letters, digits and points, which are ignored except for a total at their
+/// end.
 pub fn read_quantity(text: &[u8]) -> Option<Quantity>
     ensures { result ≡ quantity_of text.now }
 {
@@ -193,7 +190,6 @@ pub fn read_quantity(text: &[u8]) -> Option<Quantity>
     }
 }
 
-/// The letter of a code.
 fn letter(code: ShipmentCode) -> u8
     ensures { result ≡ code_letter code }
 {
@@ -206,7 +202,6 @@ fn letter(code: ShipmentCode) -> u8
     }
 }
 
-/// Writes a number of at most 9999.
 #[tactic(auto, using(crate::proofs::PutLaws::length_decimal_short))]
 fn put_count(out: &mut [u8], at: usize, count: Pieces) -> usize
     requires { at + 4 ≤ length out.old }
@@ -239,7 +234,7 @@ fn put_weight(out: &mut [u8], at: usize, tenths: BookTenths) -> usize
     put(out, at, b'0' + (tenths % 10) as u8)
 }
 
-/// Writes a total, where there is one: a T and its digits.
+/// Writes the total, if there is one: a T and its digits.
 fn put_total(out: &mut [u8], at: usize, total: Option<Pieces>) -> usize
     requires { at + 5 ≤ length out.old }
     ensures bound { result ≤ at + 5 }
@@ -254,8 +249,8 @@ fn put_total(out: &mut [u8], at: usize, total: Option<Pieces>) -> usize
     }
 }
 
-/// Writes a quantity such as `P4K40.0T10` to the front of a buffer: the code, the pieces, the
-/// weight in kilograms and perhaps a total. Answers how many bytes it has.
+/// Writes a quantity such as `P4K40.0T10` to the start of a buffer: the code, the pieces, the
+/// weight in kilograms and the optional total. Returns its length.
 pub fn put_quantity(
     out: &mut [u8; 18],
     code: ShipmentCode,

@@ -1,4 +1,4 @@
-//! Runs of bytes of one kind at an end of a text, and the numbers that they write.
+//! Runs of bytes of one kind at either end of a text, and the numbers in them.
 
 ghost use Rattle.std.specs.Prelude.{◌≡◌, ◌<◌, ◌≤◌, ◌^◌, ℕ, length, take, is_some, IfSome};
 ghost use Rattle.std.specs.List.{list_all, position_or_len, prefix_len, suffix_len};
@@ -7,7 +7,6 @@ ghost use Rattle.imp_fields.specs.Amount.{IsPieces, count_of, is_digit_or_point}
 ghost use Rattle.imp_fields.specs.Characters.{is_blank, is_printable, is_slash};
 ghost use Rattle.imp_fields.specs.NormalText.{is_newline};
 
-/// How many digits stand in front.
 pub(crate) fn digits_in_front(text: &[u8]) -> usize
     ensures run { result ≡ prefix_len is_digit text.now }
     ensures bound { result ≤ length text.now }
@@ -15,7 +14,6 @@ pub(crate) fn digits_in_front(text: &[u8]) -> usize
     text.iter().take_while(|b| b.is_ascii_digit()).count()
 }
 
-/// How many digits stand at the end.
 pub(crate) fn digits_at_end(text: &[u8]) -> usize
     ensures run { result ≡ suffix_len is_digit text.now }
     ensures bound { result ≤ length text.now }
@@ -23,7 +21,7 @@ pub(crate) fn digits_at_end(text: &[u8]) -> usize
     text.iter().rev().take_while(|b| b.is_ascii_digit()).count()
 }
 
-/// How many blanks stand at the end.
+/// Returns the number of trailing spaces.
 pub(crate) fn blanks_at_end(text: &[u8]) -> usize
     ensures run { result ≡ suffix_len is_blank text.now }
     ensures bound { result ≤ length text.now }
@@ -31,7 +29,7 @@ pub(crate) fn blanks_at_end(text: &[u8]) -> usize
     text.iter().rev().take_while(|b| **b == b' ').count()
 }
 
-/// How many digits and points stand in front.
+/// Returns the number of leading digits and points.
 pub(crate) fn numeral_in_front(text: &[u8]) -> usize
     ensures run { result ≡ prefix_len is_digit_or_point text.now }
     ensures bound { result ≤ length text.now }
@@ -41,14 +39,14 @@ pub(crate) fn numeral_in_front(text: &[u8]) -> usize
         .count()
 }
 
-/// Whether each byte is a blank or prints in ASCII.
 pub(crate) fn is_printable(text: &[u8]) -> bool
     ensures { result ≡ list_all is_printable text.now }
 {
     text.iter().all(|b| (b' '..=b'~').contains(b))
 }
 
-/// The same of eight bytes, each of which is looked at, so that they are looked at together.
+/// Returns [`is_printable`] of eight bytes. It tests all of them, so that they can be tested at
+/// once.
 fn are_printable(eight: &[u8; 8]) -> bool
     ensures { result ≡ list_all is_printable eight.now }
 {
@@ -59,7 +57,7 @@ fn are_printable(eight: &[u8; 8]) -> bool
     all
 }
 
-/// How many of them stand in front, where they are looked at one by one.
+/// Returns the number of leading printable bytes, tested one by one.
 fn few_printable_in_front(text: &[u8]) -> usize
     ensures run { result ≡ prefix_len is_printable text.now }
     ensures bound { result ≤ length text.now }
@@ -69,7 +67,7 @@ fn few_printable_in_front(text: &[u8]) -> usize
         .count()
 }
 
-/// How many blanks and bytes that print stand in front.
+/// Returns the number of leading printable bytes and spaces.
 pub(crate) fn printable_in_front(text: &[u8]) -> usize
     ensures run { result ≡ prefix_len is_printable text.now }
     ensures bound { result ≤ length text.now }
@@ -84,7 +82,6 @@ pub(crate) fn printable_in_front(text: &[u8]) -> usize
     len + few_printable_in_front(&text[len..])
 }
 
-/// The number that one to four digits write, where it is at least 1.
 pub(crate) fn count(digits: &[u8]) -> Option<u32>
     ensures value { result ≡ count_of digits.now }
     ensures bound { IfSome result IsPieces }
@@ -102,14 +99,13 @@ pub(crate) fn count(digits: &[u8]) -> Option<u32>
     if number == 0 { None } else { Some(number) }
 }
 
-/// Whether each byte is a digit.
 pub(crate) fn is_digits(text: &[u8]) -> bool
     ensures { result ≡ list_all is_digit text.now }
 {
     text.iter().all(|b| b.is_ascii_digit())
 }
 
-/// How many bytes stand before the first slash, or in all where there is none.
+/// Returns the number of bytes before the first slash, or of all bytes without one.
 pub(crate) fn before_slash(text: &[u8]) -> usize
     ensures place { result ≡ position_or_len is_slash text.now }
     ensures bound { result ≤ length text.now }
@@ -117,7 +113,7 @@ pub(crate) fn before_slash(text: &[u8]) -> usize
     text.iter().take_while(|b| **b != b'/').count()
 }
 
-/// How many bytes stand before the first newline, or in all where there is none.
+/// Returns the number of bytes before the first newline, or of all bytes without one.
 pub(crate) fn before_newline(text: &[u8]) -> usize
     ensures place { result ≡ position_or_len is_newline text.now }
     ensures bound { result ≤ length text.now }

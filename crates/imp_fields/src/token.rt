@@ -1,10 +1,9 @@
 ghost use Rattle.std.specs.Prelude.{◌≡◌, ◌≤◌, length};
 ghost use Rattle.imp_fields.specs.Token.{IsSlice};
 
-/// A part of a text: its bytes, and where they stand in their source. The end is exclusive.
+/// A slice of a source text, with its position. The end is exclusive.
 ///
-/// The source of a line of `Lines` is the telegram as it came; that of a field of a line is that
-/// line.
+/// The source of a line of `Lines` is the telegram; that of a field is its line.
 #[derive(Clone, Copy, Debug)]
 pub struct Token<'a> {
     pub start: usize,
@@ -13,7 +12,7 @@ pub struct Token<'a> {
 }
 
 impl<'a> Token<'a> {
-    /// The part of a source from one place to another.
+    /// Returns the slice of a source from `start` to `end`.
     pub fn new(source: &'a [u8], start: usize, end: usize) -> Token<'a>
         requires ordered { start ≤ end }
         requires within { end ≤ length source.now }

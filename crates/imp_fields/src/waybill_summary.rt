@@ -2,8 +2,8 @@ use crate::airport::Airport;
 use crate::amount::{BookTenths, Pieces};
 use awb_number::Awb;
 
-/// A waybill as written messages name it: its number and route, and the pieces and the weight
-/// declared in all. The goods are not among them.
+/// A waybill as written messages name it: its number and route, and the declared pieces and weight,
+/// without the goods.
 #[derive(Clone, Copy, Debug)]
 pub struct WaybillSummary {
     pub awb: Awb,

@@ -1,4 +1,4 @@
-//! Calls that ask a service, over connections that a script plays.
+//! Calls of a service, over connections that a script plays.
 ghost use Rattle.std.specs.Prelude.{◌≤◌, length, IfSome};
 ghost use Rattle.std.specs.Io.{ReadsAtMost};
 
@@ -14,22 +14,22 @@ use std::io;
 use std::io::{ErrorKind, Read, Write};
 use test_kit::{Narrow, shown};
 
-/// What stands before each connection of a script.
+/// The separator before each connection of a script.
 const NEXT: &str = "\n==\n";
 
-/// How a connection goes on after its bytes.
+/// The end of a connection after its bytes.
 #[derive(Clone, Copy, Drop)]
 enum End {
-    /// It ends.
+    /// The connection ends.
     Closed,
     /// A read fails.
     Broken,
-    /// A read fails because its time ran out.
+    /// A read times out.
     Late,
 }
 
-/// A connection: the bytes that are left to read, how many of them a read brings at most, how it
-/// goes on after them, and how many bytes of a request it takes before a write fails.
+/// A connection: the bytes left to read, the largest number in one read, its end, and the number of
+/// bytes of a request that it takes before a write fails.
 #[derive(Clone, Copy, Drop)]
 struct Play<'a> {
     left: &'a [u8],
@@ -38,7 +38,7 @@ struct Play<'a> {
     room: usize,
 }
 
-/// The connection that a part of a script says; `None`: it is refused.
+/// Returns the connection in a part of a script, or `None` if it is refused.
 fn played(part: &str) -> Option<Play<'_>> {
     let (words, bytes) = part.split_once(':')?;
     let whole = usize::MAX;
@@ -63,10 +63,10 @@ fn played(part: &str) -> Option<Play<'_>> {
     })
 }
 
-/// What became of a try: the bytes that were sent, or that it was refused.
+/// The outcome of a try: the bytes sent, or that it was refused.
 type Try = Option<Vec<u8>>;
 
-/// The connection that is open, and the tries so far.
+/// The open connection, and the tries so far.
 #[derive(Drop)]
 struct Wire<'a> {
     alloc: Global,
@@ -75,7 +75,6 @@ struct Wire<'a> {
     is_late: Cell<bool>,
 }
 
-/// The error of a connection.
 fn failure() -> io::Error {
     ErrorKind::Other.into()
 }
@@ -90,7 +89,7 @@ impl<'a> Wire<'a> {
         }
     }
 
-    /// Opens a connection, and notes the try.
+    /// Opens a connection, and records the try.
     fn open_next(&self, next: Option<Play<'a>>) -> Option<()> {
         let sent = next.map(|_| Vec::new(self.alloc));
         self.tries.try_borrow_mut().ok()?.push(sent).ok()?;
@@ -98,7 +97,6 @@ impl<'a> Wire<'a> {
         next.map(|_| ())
     }
 
-    /// Reads from the connection that is open.
     fn read_open(&self, buf: &mut [u8]) -> io::Result<usize>
         ensures { ReadsAtMost result buf.new }
     {
@@ -119,7 +117,7 @@ impl<'a> Wire<'a> {
         }
     }
 
-    /// How many bytes the connection that is open takes.
+    /// Returns how many bytes the open connection takes.
     fn take(&self, len: usize) -> Option<usize>
         ensures { IfSome result (λ count. count ≤ len) }
     {
@@ -134,14 +132,13 @@ impl<'a> Wire<'a> {
         }
     }
 
-    /// Notes bytes that were sent.
+    /// Records bytes that were sent.
     fn note(&self, bytes: &[u8]) -> Option<()> {
         let mut tries = self.tries.try_borrow_mut().ok()?;
         let sent = tries.last_mut()?.as_mut()?;
         sent.extend_from_slice(bytes).ok()
     }
 
-    /// Writes to the connection that is open.
     fn write_open(&self, buf: &[u8]) -> Option<usize>
         ensures { IfSome result (λ count. count ≤ length buf.now) }
     {
@@ -160,7 +157,7 @@ struct Scripted<'w, 'a> {
     opened: u64,
 }
 
-/// The next connection of a script, which goes on behind it.
+/// Returns the next connection of a script, and advances the script.
 fn next_play<'a>(script: &mut Option<&'a str>) -> Option<Play<'a>> {
     let left = (*script)?;
     match left.split_once(NEXT) {
@@ -198,7 +195,7 @@ impl Connect for Scripted<'_, '_> {
     }
 }
 
-/// One end of the connection that is open.
+/// One end of the open connection.
 #[derive(Drop)]
 struct PlayedEnd<'w, 'a> {
     wire: &'w Wire<'a>,
@@ -223,7 +220,7 @@ impl Write for PlayedEnd<'_, '_> {
     }
 }
 
-/// What comes of what is asked.
+/// Runs one case and returns its result as text.
 pub fn answer(alloc: Global, asked: &str, text: &[u8]) -> Option<String> {
     match asked {
         "ask" => ask(alloc, shown(text), usize::MAX),
@@ -234,8 +231,8 @@ pub fn answer(alloc: Global, asked: &str, text: &[u8]) -> Option<String> {
     }
 }
 
-/// A call: its words stand on the first line, its input behind that, and then its connections. Its
-/// output takes so many bytes.
+/// Runs a call: its words are on the first line, its input after that, and then its connections.
+/// Its output takes `room` bytes.
 fn ask(alloc: Global, text: &str, room: usize) -> Option<String> {
     let (call, script) = match text.split_once(NEXT) {
         Some((call, script)) => (call, Some(script)),
@@ -249,7 +246,7 @@ fn ask(alloc: Global, text: &str, room: usize) -> Option<String> {
     }
 }
 
-/// Asks the service of a script for what a line wants.
+/// Runs a command line with the service of a script.
 fn run(
     alloc: Global,
     line: &Line<'_>,
@@ -290,7 +287,7 @@ fn run(
     with_tries(said, tries.as_slice())
 }
 
-/// How a call ended, and what was sent at each try: the bytes, or that they are those of the try
+/// Returns the end of a call, and the bytes sent at each try, or that they are those of the try
 /// before.
 fn with_tries(mut said: String, tries: &[Try]) -> Option<String> {
     let mut before: Option<&[u8]> = None;
@@ -306,7 +303,7 @@ fn with_tries(mut said: String, tries: &[Try]) -> Option<String> {
     Some(said)
 }
 
-/// The bytes that were sent at a try.
+/// Appends the bytes sent at a try.
 fn push_sent(said: &mut String, sent: &[u8], before: Option<&[u8]>) -> Option<()> {
     if before == Some(sent) {
         return said.push_str(" again").ok();

@@ -1,4 +1,4 @@
-//! Calls over two files in memory, which are opened as the program opens a station's file.
+//! Calls over two files in memory, opened like the program opens a station's file.
 use crate::calls::{Parts, ended_said, now};
 use crate::words::{fault_said, words_of};
 use cli_call::{FileEnd, run_file, run_file_beside};
@@ -19,14 +19,13 @@ pub struct FileBytes {
     db: Vec<u8>,
 }
 
-/// A connection to the files, with how they were opened.
+/// A connection to the files, by how they were opened.
 #[derive(Drop)]
 enum Opened {
     Whole(Connection<FileStore<Memory>>, &'static str),
     Beside(Connection<OwnTrees<FileStore<Memory>>>),
 }
 
-/// A file in memory that has these bytes.
 fn file_of(alloc: Global, bytes: &[u8]) -> Option<Memory> {
     let mut file = Memory::new(alloc);
     file.write_at(0, bytes).ok()?;
@@ -35,7 +34,7 @@ fn file_of(alloc: Global, bytes: &[u8]) -> Option<Memory> {
 }
 
 impl FileBytes {
-    /// Files with nothing in them.
+    /// Returns empty files.
     pub fn new(alloc: Global) -> FileBytes {
         FileBytes {
             log: Vec::new(alloc),
@@ -43,7 +42,7 @@ impl FileBytes {
         }
     }
 
-    /// The files, opened for one call.
+    /// Returns the files, opened for one call.
     fn files(&self, alloc: Global) -> Option<Files<Memory>> {
         Some(Files {
             log: file_of(alloc, self.log.as_slice())?,
@@ -51,14 +50,14 @@ impl FileBytes {
         })
     }
 
-    /// Takes over what files have after a call.
+    /// Keeps the bytes of the files after a call.
     fn take(&mut self, alloc: Global, files: &Files<Memory>) -> Option<()> {
         self.log = files.log.bytes().to_vec(alloc).ok()?;
         self.db = files.db.bytes().to_vec(alloc).ok()?;
         Some(())
     }
 
-    /// Opens the files as the library does.
+    /// Opens the files like the library does.
     fn open_any(&self, alloc: Global) -> Option<Connection<FileStore<Memory>>> {
         let files = self.files(alloc)?;
         if !files.may_be_used() {
@@ -67,7 +66,7 @@ impl FileBytes {
         Connection::open_files(alloc, files, Options::new(7)).ok()
     }
 
-    /// Opens the files by the first `made` trees of a station, in any order, beside others.
+    /// Opens the files by the first `made` trees of a station, in any order, with others.
     fn open_beside(&self, alloc: Global, made: usize) -> Option<Opened> {
         let files = self.files(alloc)?;
         if !files.may_be_used() {
@@ -79,7 +78,7 @@ impl FileBytes {
         }
     }
 
-    /// Opens the files by the trees of a station, in their order.
+    /// Opens the files by the trees of a station, in order.
     fn open_in_order(&self, alloc: Global) -> Option<Opened> {
         let files = self.files(alloc)?;
         if !files.may_be_used() {
@@ -91,7 +90,7 @@ impl FileBytes {
         }
     }
 
-    /// Opens the files in which a station is to be made.
+    /// Opens the files for a new station.
     fn begin(&self, alloc: Global) -> Option<Opened> {
         let files = self.files(alloc)?;
         if !files.may_be_used() {
@@ -119,7 +118,7 @@ impl FileBytes {
         }
     }
 
-    /// Opens the files for a line, by a list of their trees or as the library does.
+    /// Opens the files for a command line, by a list of their trees or like the library does.
     fn open(&self, alloc: Global, line: &Line<'_>) -> Option<Opened> {
         let opened = if is_opening(line) {
             self.begin(alloc)
@@ -133,7 +132,7 @@ impl FileBytes {
     }
 }
 
-/// What comes of what is asked.
+/// Runs one case and returns its result as text.
 pub fn answer(alloc: Global, bytes: &mut FileBytes, asked: &str, text: &[u8]) -> Option<String> {
     match asked {
         "new-files" => {
@@ -146,7 +145,8 @@ pub fn answer(alloc: Global, bytes: &mut FileBytes, asked: &str, text: &[u8]) ->
     }
 }
 
-/// Does statements of SQL in the files, as another program does: how many rows the last one wrote.
+/// Runs SQL statements in the files, like another program. Returns the number of rows that the last
+/// one wrote.
 fn statements(alloc: Global, bytes: &mut FileBytes, text: &str) -> Option<String> {
     let mut conn = bytes.open_any(alloc)?;
     let mut rows = 0;
@@ -158,8 +158,8 @@ fn statements(alloc: Global, bytes: &mut FileBytes, text: &str) -> Option<String
     format!(in alloc; "{rows}").ok()
 }
 
-/// A call over the files: its words stand on the first line, its input behind that. How the files
-/// were opened, the status, what was printed, and what was printed on standard error.
+/// Runs a call over the files: its words are on the first line, its input after that. Returns how
+/// the files were opened, the status, the output, and standard error.
 fn call(alloc: Global, bytes: &mut FileBytes, text: &str) -> Option<String> {
     let (first, input) = text.split_once('\n').unwrap_or((text, ""));
     let words = words_of(alloc, first)?;
@@ -169,7 +169,7 @@ fn call(alloc: Global, bytes: &mut FileBytes, text: &str) -> Option<String> {
     }
 }
 
-/// Runs a line over the files.
+/// Runs a command line over the files.
 fn run(alloc: Global, bytes: &mut FileBytes, line: &Line<'_>, input: &str) -> Option<String> {
     let opened = bytes.open(alloc, line)?;
     let turns = Turns::new();

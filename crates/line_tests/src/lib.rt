@@ -1,8 +1,8 @@
-//! Calls of the program: what their words are read as, what they print, and how they end. Each is
-//! asked as a file of cases says.
+//! Calls of the program: the meaning of their words, their output, and their end, each as in a file
+//! of cases.
 //!
-//! The station of `--db` is in memory, or in two files in memory, and is the same for all calls of
-//! a file of cases. The service of `--at` is a script of connections.
+//! The station of `--db` is in memory, or in two files in memory, and is shared by all calls of a
+//! file of cases. The service of `--at` is a script of connections.
 #![tactic(auto)]
 
 mod calls;
@@ -19,7 +19,7 @@ use std::alloc::Global;
 use std::io;
 use test_kit::{Answers, go_through_file};
 
-/// The files of cases, in the order in which they are gone through.
+/// The files of cases, in the order in which they run.
 pub const FILES: &[&str] = &[
     "words",
     "clock",
@@ -32,7 +32,7 @@ pub const FILES: &[&str] = &[
     "client",
 ];
 
-/// What answers the cases of a file.
+/// The answers to the cases of a file.
 #[derive(Drop)]
 struct FileAnswers<'a> {
     alloc: Global,
@@ -59,12 +59,8 @@ impl Answers for FileAnswers<'_> {
     }
 }
 
-/// Goes through a file of cases, and prints those that came out otherwise, or how many there were.
-/// Whether all came out as they must.
-///
-/// # Errors
-///
-/// Where nothing can be printed, or memory is out.
+/// Runs a file of cases, and prints the failed ones, or the number of cases. Returns whether all
+/// passed. It fails if printing fails or memory runs out.
 pub fn run_file(rt: &HostRuntime, file: &str) -> Result<bool, io::Error> {
     let mut answers = FileAnswers {
         alloc: rt.alloc(),

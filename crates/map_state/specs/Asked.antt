@@ -1,4 +1,4 @@
--- Which rows of the book and of the trail are asked for: from which one on, and of what.
+-- Queries of the book and of the trail: the first row, and the waybill or flight.
 use Rattle.std.specs.Prelude.{ℕ, ◌-◌, Bool, true, ◌==◌, if◌then◌else◌, List, [], ◌∷◌}
 use Rattle.std.proofs.Common.{min}
 use Rattle.shipment_machine.specs.declared.moves.Move.{Move}
@@ -10,7 +10,6 @@ use Rattle.station_core.specs.declared.rows.TrailRow.{TrailRow}
 use Rattle.station_core.specs.declared.rows.TrailQuery.{TrailQuery}
 use Rattle.station_core.specs.declared.rows.TrailQuery.TheVariants as trail
 
--- how many rows are passed over
 abbrev pub first_movement : BookQuery → ℕ → ℕ
 first_movement book.All len = 0
 first_movement (book.After n) len = min n len
@@ -24,7 +23,7 @@ first_line (trail.After n) len = min n len
 first_line (trail.Last n) len = len - n
 first_line (trail.Of w) len = 0
 
--- whether a row is of the waybill or the flight, if one is named
+-- true if a row is of the waybill or the flight, if one is named
 abbrev pub is_movement_of : BookQuery → Move → Bool
 is_movement_of (book.Of w) m = m.awb == w
 is_movement_of (book.On f) m = is_of_flight f m
@@ -34,7 +33,6 @@ abbrev pub is_line_of : TrailQuery → ℕ × List ℕ → Bool
 is_line_of (trail.Of w) row = row.0 == w
 is_line_of _ row = true
 
--- a row, if it is of what is asked for
 abbrev pub if_movement : BookQuery → BookRow → List BookRow
 if_movement query row = if is_movement_of query row.movement then row ∷ [] else []
 

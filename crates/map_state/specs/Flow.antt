@@ -1,4 +1,4 @@
--- What moved into a place and out of it, added up beside the book.
+-- Flows into a place and out of it, summed next to the book.
 use Rattle.std.specs.Prelude.{ℕ, ◌+◌, ◌-◌, if◌then◌else◌, List}
 use Rattle.shipment_machine.specs.declared.amount.Amount.{Amount}
 use Rattle.shipment_machine.specs.declared.moves.Move.{Move}
@@ -8,14 +8,13 @@ use Rattle.shipment_machine.specs.Book.{moved_in, moved_out, pieces_of, same_pla
 use Rattle.map_state.specs.declared.flow.Flow.{Flow}
 use Rattle.map_state.specs.declared.flow.Total.{Total}
 
--- what a book says of a place of a waybill
 abbrev pub flow_of : List Move → ℕ → Place → Flow
 flow_of book w place = record {
   came = record { pieces = moved_in pieces_of book w (same_place place); tenths = moved_in tenths_of book w (same_place place) };
   went = record { pieces = moved_out pieces_of book w (same_place place); tenths = moved_out tenths_of book w (same_place place) };
 }
 
--- the sums with a move more
+-- the sums with another move
 abbrev pub more : Total → Move → Total
 more total m = record { pieces = total.pieces + m.pieces; tenths = total.tenths + m.tenths }
 
@@ -25,11 +24,10 @@ flow_with place flow m = record {
   went = if same_place place m.from then more flow.went m else flow.went;
 }
 
--- nothing moved
 abbrev pub still : Flow
 still = record { came = record { pieces = 0; tenths = 0 }; went = record { pieces = 0; tenths = 0 } }
 
--- what is there, and what came from there
+-- the amount that is there, and the amount that came from there
 abbrev pub held_of : Flow → Amount
 held_of flow = amount (flow.came.pieces - flow.went.pieces) (flow.came.tenths - flow.went.tenths)
 

@@ -1,4 +1,4 @@
--- What was kept under keys and of texts.
+-- Entries under keys and for texts.
 use Rattle.std.specs.Prelude.{ℕ, Option, List, Vec}
 use Rattle.std.specs.HashMap.{HashMap, get_by}
 use Rattle.std.specs.Option.{option_map}

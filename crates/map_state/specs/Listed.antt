@@ -1,4 +1,4 @@
--- Rows by the sums beside the book.
+-- Rows made from the sums next to the book.
 use Rattle.std.specs.Prelude.{ℕ, nat_lt, if◌then◌else◌, List, [], ◌∷◌}
 use Rattle.state_store.specs.Waybills.{is_asked_for}
 use Rattle.state_store.specs.declared.query.WaybillQuery.{WaybillQuery}
@@ -9,10 +9,10 @@ use Rattle.map_state.specs.WaybillFlows.{balances_by}
 use Rattle.map_state.specs.declared.flow.Flow.{Flow}
 use Rattle.map_state.specs.declared.waybill_flows.WaybillFlows.{WaybillFlows}
 
--- a waybill by its flows, if it is asked for
+-- a waybill with its balances from its flows, if it is queried
 abbrev pub asked_by : WaybillQuery → ℕ × WaybillFlows → List WaybillBalances
 asked_by query e = if is_asked_for query (balances_by e.1) then record { awb = e.0; balances = balances_by e.1 } ∷ [] else []
 
--- a waybill by its flow on a flight, if it has pieces there
+-- a waybill with its flow on a flight, if it has pieces there
 abbrev pub loaded : ℕ × Flow → List Load
 loaded e = if nat_lt 0 (held_of e.1).pieces then record { awb = e.0; amount = held_of e.1 } ∷ [] else []

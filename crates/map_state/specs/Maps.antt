@@ -1,4 +1,4 @@
--- The cargo that maps and lists of rows stand for.
+-- The cargo in maps and lists of rows.
 use Rattle.std.specs.Prelude.{ℕ, Option, List, Vec, map}
 use Rattle.std.specs.BTreeMap.{BTreeMap, get}
 use Rattle.std.specs.Map.{lookup}
@@ -19,11 +19,9 @@ use Rattle.map_state.specs.declared.state.TrailEntry.{TrailEntry}
 abbrev pub declared_in : BTreeMap ℕ Declared → ℕ → Option Declared
 declared_in rows w = get nat_cmp rows w
 
--- the entry of a flight
 abbrev pub flights_in : BTreeMap FlightKey Outbound → FlightDate → Option Outbound
 flights_in rows f = lookup (λ k. same_flight_date f k.flight) rows.entries
 
--- the entry of a part, and its telegram
 abbrev pub part_of : FlightKey × List ℕ × ℕ → Part
 part_of k = record { flight = k.0.flight; airport = k.1; number = k.2 }
 

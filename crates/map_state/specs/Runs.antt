@@ -1,26 +1,24 @@
--- Who holds each number, by entries of which each holds up to the next.
+-- The holder of each number, by entries that hold up to the next one.
 use Rattle.std.specs.Prelude.{ℕ, ◌≡◌, ◌≤◌, ◌&&◌, nat_le, nat_lt, if◌then◌else◌, Option, Some, None, List, [], ◌∷◌}
 use Rattle.agent_stock.specs.Stock.{Holders, is_among}
 use Rattle.agent_stock.specs.declared.stock.Holder.{Holder}
 use Rattle.agent_stock.specs.declared.runs.StockRun.{StockRun}
 
--- whom the last entry up to the number names, and one holder before all entries
+-- the holder named by the last entry up to the number, `before` if there is none
 abbrev pub named_by : Option Holder → List (ℕ × Option Holder) → ℕ → Option Holder
 named_by before [] q = before
 named_by before (e ∷ es) q = named_by (if nat_le e.0 q then e.1 else before) es q
 
--- the stock with the numbers of a run too
 abbrev pub with_run : Holders → StockRun → Holders
 with_run held row q = if is_among row.first row.count q then Some row.holder else held q
 
--- the stock where one holder has the numbers from one up to another
+-- the stock in which one holder has the numbers from one up to another
 abbrev pub with_numbers : Holders → ℕ → ℕ → Holder → Holders
 with_numbers held from end holder q = if nat_le from q && nat_lt q end then Some holder else held q
 
--- the stock below a number
 abbrev pub below : ℕ → Holders → Holders
 below end held q = if nat_lt q end then held q else None
 
--- nobody has a number from here on
+-- nobody holds a number from here on
 abbrev pub IsNoneFrom : ℕ → Holders → Type 0
 IsNoneFrom from held = (q : ℕ) → from ≤ q → held q ≡ None

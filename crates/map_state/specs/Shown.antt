@@ -1,4 +1,4 @@
--- The state that maps and lists in memory show.
+-- The state in maps and lists in memory.
 use Rattle.std.specs.Prelude.{◌≡◌, true}
 use Rattle.station_core.specs.Step.{State, has_room}
 use Rattle.map_state.specs.Kept.{count_under, kept_under}
@@ -9,8 +9,8 @@ use Rattle.map_state.specs.declared.state.MapState.{MapState}
 abbrev pub state_of : MapState → State
 state_of k = record { cargo = cargo_of k; kept_keys = kept_under k.kept_keys; kept_texts = count_under k.kept_texts }
 
--- It has the rows of this state, all of them can be numbered, and what is kept beside the book is
--- what its moves add up to.
+-- The rows are those of this state, all of them can be numbered, and the sums next to the book are
+-- those of its moves.
 pub record Shows (k : MapState) (s : State) : Type 0 where
   pub is : state_of k ≡ s
   pub room : has_room s.cargo ≡ true

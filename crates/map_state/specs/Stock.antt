@@ -1,4 +1,4 @@
--- The stock that a map of runs stands for.
+-- The stock in a map of runs.
 use Rattle.std.specs.Prelude.{◌≡◌, ◌+◌, None}
 use Rattle.awb_number.specs.Number.{prefix_of}
 use Rattle.agent_stock.specs.Stock.{Holders}
@@ -13,6 +13,6 @@ holders_of stock q = named_by None stock.begins.entries q
 abbrev pub nobody : Holders
 nobody q = None
 
--- a run begins where another ends, in one prefix and with one holder
+-- a run begins where another ends, in the same prefix and with the same holder
 abbrev pub GoesOn : StockRun → StockRun → Type 0
 GoesOn row next = (prefix_of row.first ≡ prefix_of next.first) × (row.first + row.count ≡ next.first) × (row.holder ≡ next.holder)

@@ -1,4 +1,4 @@
--- What is kept beside a movement book is what its moves add up to.
+-- The sums next to a movement book are those of its moves.
 use Rattle.std.specs.Prelude.{◌≡◌, ℕ, is_some, List, Option, Some, None}
 use Rattle.std.specs.BTreeMap.{BTreeMap, get}
 use Rattle.std.specs.Option.{unwrap_or}
@@ -14,7 +14,7 @@ use Rattle.state_store.specs.declared.flight_key.FlightKey.{FlightKey}
 use Rattle.map_state.specs.declared.flow.Flow.{Flow}
 use Rattle.map_state.specs.declared.waybill_flows.WaybillFlows.{WaybillFlows}
 
--- what is kept of a waybill, by the flows of a flight
+-- the flow of a waybill among those of a flight
 abbrev pub flow_in : BTreeMap ℕ Flow → ℕ → Flow
 flow_in flows w = unwrap_or (get nat_cmp flows w) still
 
@@ -22,16 +22,15 @@ abbrev pub flow_by : Option (BTreeMap ℕ Flow) → ℕ → Flow
 flow_by None w = still
 flow_by (Some flows) w = flow_in flows w
 
--- what is kept of a waybill on a flight
 abbrev pub flow_at : BTreeMap FlightKey (BTreeMap ℕ Flow) → FlightKey → ℕ → Flow
 flow_at loads k w = flow_by (get by_key loads k) w
 
--- what is kept of a waybill is what the moves of a book say
+-- the stored flows of a waybill are those of a book
 pub record IsWaybillSummed (flows : BTreeMap ℕ WaybillFlows) (book : List Move) (w : ℕ) : Type 0 where
   pub are : unwrap_or (get nat_cmp flows w) no_flows ≡ flows_of book w
   pub moved : is_some (get nat_cmp flows w) ≡ has_moves book w
 
--- and so it is of each waybill, and of each on each flight
+-- the same for each waybill, also on each flight
 pub record IsSummed (book : MovementBook) : Type 0 where
   pub waybills : (w : ℕ) → IsWaybillSummed book.flows book.moves.items w
   pub flights : (k : FlightKey) (w : ℕ) → flow_at book.loads k w ≡ flow_of book.moves.items w (Built k.flight)

@@ -1,4 +1,4 @@
--- What moved into and out of the places of a waybill, but the built ones.
+-- Flows of a waybill at each place except the built ones.
 use Rattle.std.specs.Prelude.{ℕ, List}
 use Rattle.shipment_machine.specs.declared.moves.Balances.{Balances}
 use Rattle.shipment_machine.specs.declared.moves.Move.{Move}
@@ -6,7 +6,6 @@ use Rattle.shipment_machine.specs.declared.moves.Place.TheVariants.{Delivered, D
 use Rattle.map_state.specs.Flow.{drawn_of, flow_of, flow_with, held_of, still}
 use Rattle.map_state.specs.declared.waybill_flows.WaybillFlows.{WaybillFlows}
 
--- what a book says of a waybill
 abbrev pub flows_of : List Move → ℕ → WaybillFlows
 flows_of book w = record {
   hand = flow_of book w Hand;
@@ -18,7 +17,6 @@ flows_of book w = record {
   transferred = flow_of book w Transferred;
 }
 
--- the flows with a move of the waybill more
 abbrev pub flows_with : WaybillFlows → Move → WaybillFlows
 flows_with flows m = record {
   hand = flow_with Hand flows.hand m;
@@ -30,7 +28,6 @@ flows_with flows m = record {
   transferred = flow_with Transferred flows.transferred m;
 }
 
--- no move
 abbrev pub no_flows : WaybillFlows
 no_flows = record {
   hand = still;
@@ -42,7 +39,6 @@ no_flows = record {
   transferred = still;
 }
 
--- what the flows add up to
 abbrev pub balances_by : WaybillFlows → Balances
 balances_by flows = record {
   taken = drawn_of flows.hand;

@@ -1,4 +1,4 @@
-//! Rows of the book, the outbox and the trail that are asked for.
+//! Queries of the book, the outbox and the trail.
 ghost use Rattle.std.specs.Prelude.{◌≡◌, ◌+◌, ◌≤◌, ◌++◌, ◌∷◌, [], drop, length, IfOk, OnOk};
 ghost use Rattle.station_core.specs.Readers.{book_row, is_of_flight, lines_for, message, movements_for, numbered, trail_row};
 ghost use Rattle.map_state.specs.Asked.{first_line, first_movement, if_line, if_movement, is_line_of, is_movement_of};
@@ -10,7 +10,7 @@ use state_store::StoreFault;
 use station_core::{BookQuery, BookRow, Message, RowText, TrailQuery, TrailRow};
 use std::alloc::Global;
 
-/// Whether a movement is of a flight: to or from what is built for it, or with its name.
+/// Returns whether a movement is one of a flight: to or from its built place, or with its name.
 fn is_of_flight(movement: &Move, flight: &FlightDate) -> bool
     ensures { result ≡ is_of_flight flight.now movement.now }
 {
@@ -23,7 +23,6 @@ fn is_of_flight(movement: &Move, flight: &FlightDate) -> bool
         }
 }
 
-/// How many movements are passed over before the first that may be asked for.
 fn first_movement(query: &BookQuery, len: usize) -> usize
     ensures value { result ≡ first_movement query.now len }
     ensures within { result ≤ len }
@@ -35,7 +34,7 @@ fn first_movement(query: &BookQuery, len: usize) -> usize
     }
 }
 
-/// Whether a movement is of the waybill or the flight that is asked for, if one is.
+/// Returns whether a movement is of the queried waybill or flight, if there is one.
 fn is_movement_of(query: &BookQuery, movement: &Move) -> bool
     ensures { result ≡ is_movement_of query.now movement.now }
 {
@@ -46,7 +45,6 @@ fn is_movement_of(query: &BookQuery, movement: &Move) -> bool
     }
 }
 
-/// Puts a movement behind the others with its number, if it is of what is asked for.
 fn put_movement(
     rows: &mut Vec<BookRow>,
     query: &BookQuery,
@@ -63,7 +61,6 @@ fn put_movement(
     Ok(())
 }
 
-/// The movements that are asked for, with their numbers.
 pub(crate) fn movements(
     alloc: Global,
     moves: &[Move],
@@ -82,7 +79,6 @@ pub(crate) fn movements(
     Ok(rows)
 }
 
-/// Puts a message behind the others with its number.
 fn put_message(
     alloc: Global,
     rows: &mut Vec<Message>,
@@ -96,7 +92,7 @@ fn put_message(
     Ok(())
 }
 
-/// The messages behind the mark of what was confirmed, with their numbers.
+/// Returns the messages after the last confirmed one, with their numbers.
 pub(crate) fn messages(
     alloc: Global,
     outbox: &[Vec<u8>],
@@ -115,7 +111,7 @@ pub(crate) fn messages(
     Ok(rows)
 }
 
-/// How many lines are passed over before the first that may be asked for.
+/// Returns the number of lines to skip.
 fn first_line(query: &TrailQuery, len: usize) -> usize
     ensures value { result ≡ first_line query.now len }
     ensures within { result ≤ len }
@@ -127,7 +123,7 @@ fn first_line(query: &TrailQuery, len: usize) -> usize
     }
 }
 
-/// Whether a line is of the waybill that is asked for, if one is.
+/// Returns whether a line is of the queried waybill, if there is one.
 fn is_line_of(query: &TrailQuery, entry: &TrailEntry) -> bool
     ensures { result ≡ is_line_of query.now (trail_line entry.now) }
 {
@@ -137,7 +133,6 @@ fn is_line_of(query: &TrailQuery, entry: &TrailEntry) -> bool
     }
 }
 
-/// Puts a line behind the others with its number, if it is of what is asked for.
 fn put_line(
     alloc: Global,
     rows: &mut Vec<TrailRow>,
@@ -159,7 +154,6 @@ fn put_line(
     Ok(())
 }
 
-/// The lines of the trail that are asked for, with their numbers.
 pub(crate) fn lines(
     alloc: Global,
     trail: &[TrailEntry],

@@ -18,7 +18,7 @@ use state_store::{FlightKey, StoreFault};
 use std::alloc::Global;
 use std::collections::BTreeMap;
 
-/// The movement book, with what its moves add up to by waybill, and by flight and waybill.
+/// The movement book, with the sums of its moves by waybill, and by flight and waybill.
 #[derive(Drop)]
 pub(crate) struct MovementBook {
     pub(crate) moves: Vec<Move>,
@@ -27,7 +27,6 @@ pub(crate) struct MovementBook {
     pub(crate) alloc: Global,
 }
 
-/// What moved of a waybill, by the flows of a flight.
 fn flow_of(flows: &BTreeMap<u64, Flow>, awb: &Awb) -> Flow
     ensures { result ≡ flow_in flows.now awb.now }
 {
@@ -37,7 +36,6 @@ fn flow_of(flows: &BTreeMap<u64, Flow>, awb: &Awb) -> Flow
     }
 }
 
-/// Adds a move to the flow of its waybill, where the flows are those of a place.
 fn post_flow(
     flows: &mut BTreeMap<u64, Flow>,
     place: &Place,
@@ -52,7 +50,6 @@ fn post_flow(
 }
 
 impl MovementBook {
-    /// The book without a move.
     pub(crate) fn new(alloc: Global) -> MovementBook
         ensures moves { result.moves.items ≡ [] }
         ensures summed { IsSummed result }
@@ -65,7 +62,6 @@ impl MovementBook {
         }
     }
 
-    /// What moved of a waybill, by place.
     fn flows(&self, awb: &Awb) -> WaybillFlows
         ensures { result ≡ unwrap_or (get nat_cmp self.now.flows awb.now) no_flows }
     {
@@ -75,7 +71,6 @@ impl MovementBook {
         }
     }
 
-    /// What moved onto a flight of a waybill, and off it.
     fn flow(&self, flight: &FlightKey, awb: &Awb) -> Flow
         ensures { result ≡ flow_at self.now.loads flight.now awb.now }
     {
@@ -85,7 +80,6 @@ impl MovementBook {
         }
     }
 
-    /// Adds a move to the flows of its waybill.
     fn post_flows(&mut self, movement: &Move) -> Result<(), StoreFault>
         ensures posted { IsSummed self.old → OnOk result ((w : ℕ)
             → IsWaybillSummed self.new.flows (self.old.moves.items ++ movement.now ∷ []) w) }
@@ -97,7 +91,7 @@ impl MovementBook {
         Ok(())
     }
 
-    /// Takes out the flows of a flight, which may be none.
+    /// Removes the flows of a flight, and returns them.
     fn take_flows(&mut self, flight: &FlightKey) -> BTreeMap<u64, Flow>
         ensures taken { (w : ℕ) → flow_in result w ≡ flow_at self.old.loads flight.now w }
         ensures others { (k : AnyFlightKey) → is_at (by_key flight.now) k ≡ false
@@ -131,7 +125,6 @@ impl MovementBook {
         Ok(())
     }
 
-    /// Adds a move.
     pub(crate) fn add(&mut self, movement: &Move) -> Result<(), StoreFault>
         ensures moves { OnOk result
             (self.new.moves.items ≡ self.old.moves.items ++ movement.now ∷ []) }
@@ -146,14 +139,12 @@ impl MovementBook {
         Ok(())
     }
 
-    /// Whether a waybill has a move.
     pub(crate) fn has_moves(&self, awb: &Awb) -> bool
         ensures { IsSummed self.now → result ≡ has_moves self.now.moves.items awb.now }
     {
         self.flows.contains_key(&awb.key())
     }
 
-    /// What the moves of a waybill add up to.
     pub(crate) fn balances(&self, awb: &Awb) -> Result<Balances, StoreFault>
         ensures { IsSummed self.now → IfOk result (λ balances. balances
             ≡ balances_of self.now.moves.items awb.now) }
@@ -161,7 +152,6 @@ impl MovementBook {
         self.flows(awb).balances()
     }
 
-    /// What of a waybill is built on a flight.
     pub(crate) fn load(&self, awb: &Awb, flight: &FlightDate) -> Result<Amount, StoreFault>
         ensures { IsSummed self.now → IfOk result (λ load. load
             ≡ built self.now.moves.items awb.now flight.now) }

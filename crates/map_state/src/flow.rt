@@ -1,4 +1,4 @@
-//! What moved into a place and out of it.
+//! Flows into a place and out of it.
 ghost use Rattle.std.specs.Prelude.{◌≡◌, ◌+◌, ◌-◌, IfOk};
 ghost use Rattle.shipment_machine.specs.Amount.{amount};
 ghost use Rattle.map_state.specs.Flow.{drawn_of, flow_with, held_of, more};
@@ -6,21 +6,20 @@ ghost use Rattle.map_state.specs.Flow.{drawn_of, flow_with, held_of, more};
 use shipment_machine::{Amount, Move, Place};
 use state_store::StoreFault;
 
-/// Pieces and tenths, added up.
+/// Sums of pieces and tenths.
 #[derive(Clone, Copy)]
 pub(crate) struct Total {
     pub(crate) pieces: u64,
     pub(crate) tenths: u64,
 }
 
-/// What moved into a place, and what moved out of it.
+/// The sums that moved into a place and out of it.
 #[derive(Clone, Copy)]
 pub(crate) struct Flow {
     pub(crate) came: Total,
     pub(crate) went: Total,
 }
 
-/// Nothing moved.
 pub(crate) const STILL: Flow = Flow {
     came: Total {
         pieces: 0,
@@ -33,7 +32,6 @@ pub(crate) const STILL: Flow = Flow {
 };
 
 impl Total {
-    /// The sum with a move more.
     fn with(&self, movement: &Move) -> Result<Total, StoreFault>
         ensures { IfOk result (λ total. total ≡ more self.now movement.now) }
     {
@@ -48,7 +46,7 @@ impl Total {
         Ok(Total { pieces, tenths })
     }
 
-    /// What is left without another sum, and nothing where that is more.
+    /// Returns the difference of two sums, at least 0.
     fn less(&self, other: &Total) -> Result<Amount, StoreFault>
         ensures { IfOk result (λ left. left ≡ amount (self.now.pieces - other.now.pieces)
             (self.now.tenths - other.now.tenths)) }
@@ -63,7 +61,7 @@ impl Total {
 }
 
 impl Flow {
-    /// The flow of a place with a move more, which may lead to the place or from it.
+    /// Returns the flow of a place with another move, which may be to or from the place.
     pub(crate) fn with(&self, place: &Place, movement: &Move) -> Result<Flow, StoreFault>
         ensures { IfOk result (λ flow. flow ≡ flow_with place.now self.now movement.now) }
     {
@@ -80,14 +78,14 @@ impl Flow {
         Ok(Flow { came, went })
     }
 
-    /// What is at the place, where no more moved out than in.
+    /// Returns the amount at the place, from which no more moved out than in.
     pub(crate) fn held(&self) -> Result<Amount, StoreFault>
         ensures { IfOk result (λ held. held ≡ held_of self.now) }
     {
         self.came.less(&self.went)
     }
 
-    /// What came from the place, where no more moved in than out.
+    /// Returns the amount that came from the place, to which no more moved in than out.
     pub(crate) fn drawn(&self) -> Result<Amount, StoreFault>
         ensures { IfOk result (λ drawn. drawn ≡ drawn_of self.now) }
     {

@@ -1,4 +1,4 @@
-//! What was accepted, kept for repeats.
+//! Storing accepted inputs for repeats.
 ghost use Rattle.std.specs.Prelude.{OnOk};
 ghost use Rattle.station_core.specs.Step.{State};
 ghost use Rattle.station_core.specs.Told.{with_key, with_text};
@@ -9,7 +9,7 @@ use state_store::StoreFault;
 use station_core::{KeptReply, Key};
 
 impl MapState {
-    /// Keeps the text of a command that was accepted under a key, and its count.
+    /// Stores the text of a command accepted under a key, and its count.
     pub(crate) fn keep_reply(
         &mut self,
         key: &Key,
@@ -25,7 +25,7 @@ impl MapState {
         Ok(())
     }
 
-    /// Keeps the count that is returned for a telegram with this normal text.
+    /// Stores the count for a telegram with this normal text.
     pub(crate) fn keep_count(&mut self, text: &[u8], count: u32) -> Result<(), StoreFault>
         ensures { (s : State) → Shows self.old s
             → OnOk result (Shows self.new (with_text text.now count s)) }

@@ -19,7 +19,6 @@ use station_core::{Load, WaybillBalances};
 use std::alloc::Global;
 use std::collections::BTreeMap;
 
-/// Puts a waybill behind the others with its balances, if it is asked for.
 fn put_asked(
     rows: &mut Vec<WaybillBalances>,
     query: WaybillQuery,
@@ -39,7 +38,7 @@ fn put_asked(
     Ok(())
 }
 
-/// Puts a waybill behind the others with its load, if it has pieces there.
+/// Appends a waybill with its load, if it has pieces there.
 fn put_load(rows: &mut Vec<Load>, key: u64, flow: &Flow) -> Result<(), StoreFault>
     ensures { OnOk result (rows.new.items ≡ rows.old.items ++ loaded (key, flow.now)) }
 {
@@ -54,7 +53,7 @@ fn put_load(rows: &mut Vec<Load>, key: u64, flow: &Flow) -> Result<(), StoreFaul
     Ok(())
 }
 
-/// The waybills with pieces on a flight, by its flows.
+/// Returns the waybills with pieces on a flight, from its flows.
 fn loads_in(alloc: Global, flows: &BTreeMap<u64, Flow>) -> Result<Vec<Load>, StoreFault>
     ensures { (book : List AnyMove) (f : AnyFlightDate)
         → ((w : ℕ) → flow_in flows.now w ≡ flow_of book w (Built f))
@@ -68,7 +67,7 @@ fn loads_in(alloc: Global, flows: &BTreeMap<u64, Flow>) -> Result<Vec<Load>, Sto
 }
 
 impl MovementBook {
-    /// The waybills that are asked for, ascending, each with its balances.
+    /// Returns the queried waybills, ascending, each with its balances.
     pub(crate) fn waybills(
         &self,
         alloc: Global,
@@ -84,7 +83,7 @@ impl MovementBook {
         Ok(rows)
     }
 
-    /// The waybills of which something is built on a flight, ascending, each with its load.
+    /// Returns the waybills built on a flight, ascending, each with its load.
     pub(crate) fn aboard(&self, alloc: Global, flight: &FlightDate) -> Result<Vec<Load>, StoreFault>
         ensures { IsSummed self.now → IfOk result (λ loads. loads.items
             ≡ loads_on self.now.moves.items flight.now) }

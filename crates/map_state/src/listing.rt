@@ -1,4 +1,4 @@
-//! What is noted of flights, in order.
+//! The noted flights, in order.
 ghost use Rattle.std.specs.Prelude.{IfOk};
 ghost use Rattle.station_core.specs.Readers.{AreNoted};
 ghost use Rattle.map_state.specs.Maps.{flights_in};
@@ -8,7 +8,7 @@ use state_store::StoreFault;
 use station_core::NotedFlight;
 
 impl MapState {
-    /// The flights that are noted, by their written form and then by the day.
+    /// Returns the noted flights, by their written form and then by day.
     pub(crate) fn noted_rows(&self) -> Result<Vec<NotedFlight>, StoreFault>
         ensures { IfOk result (λ rows. AreNoted (flights_in self.now.flights) rows.items) }
     {

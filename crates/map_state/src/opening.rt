@@ -11,7 +11,7 @@ use std::alloc::Global;
 use std::collections::{BTreeMap, HashMap};
 
 impl MapState {
-    /// The state of a new station at an airport, with no transaction begun.
+    /// Returns the state of a new station, outside a transaction.
     pub fn new(alloc: Global, here: Airport) -> MapState
         ensures shows { ⟦<MapState as StateStore>⟧.shows result (at_rest (opening here)) }
         ensures sound { ⟦<MapState as StateStore>⟧.is_sound result }

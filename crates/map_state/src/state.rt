@@ -8,16 +8,15 @@ use station_core::KeptReply;
 use std::alloc::Global;
 use std::collections::{BTreeMap, HashMap};
 
-/// A line of the trail.
 #[derive(Drop)]
 pub(crate) struct TrailEntry {
     pub(crate) awb: Awb,
     pub(crate) line: Vec<u8>,
 }
 
-/// The state of a station in memory: a look-up for what a command reads, and sums beside the book.
+/// The state of a station in memory: maps for what commands read, and sums next to the book.
 ///
-/// Its only fault is that memory runs out. Nothing is said of what it shows after a fault.
+/// Its only fault is that memory runs out. After a fault there is no guarantee about what it shows.
 #[derive(Drop)]
 pub struct MapState {
     pub(crate) alloc: Global,
@@ -28,7 +27,7 @@ pub struct MapState {
     pub(crate) flights: BTreeMap<FlightKey, Outbound>,
     pub(crate) expected: ExpectedLines,
     pub(crate) parts: BTreeMap<(FlightKey, [u8; 3], u32), Vec<u8>>,
-    // In the order in which they were added, as the outbox.
+    // In the order in which they were added, like the outbox.
     pub(crate) trail: Vec<TrailEntry>,
     pub(crate) outbox: Vec<Vec<u8>>,
     pub(crate) confirmed: u32,

@@ -9,15 +9,14 @@ use awb_number::Awb;
 use std::alloc::{AllocError, Global};
 use std::collections::BTreeMap;
 
-/// The stock by its runs: an entry says who holds the numbers from its key on, up to the next
-/// entry's. Neighbours may name one holder.
+/// The stock by runs: an entry names the holder of the numbers from its key up to the next entry's.
+/// Neighbours may name the same holder.
 #[derive(Drop)]
 pub(crate) struct MapStock {
     pub(crate) begins: BTreeMap<u64, Option<Holder>>,
 }
 
 impl MapStock {
-    /// Nothing is in stock.
     pub(crate) fn new(alloc: Global) -> MapStock
         ensures { holders_of result ≡ nobody }
     {
@@ -26,7 +25,6 @@ impl MapStock {
         }
     }
 
-    /// Who holds the number with this key.
     fn at(&self, key: u64) -> Option<Holder>
         ensures { result ≡ holders_of self.now key }
     {
@@ -36,15 +34,14 @@ impl MapStock {
         }
     }
 
-    /// Who holds a number.
     pub(crate) fn get(&self, number: &Awb) -> Option<Holder>
         ensures { result ≡ holders_of self.now number.now }
     {
         self.at(number.key())
     }
 
-    /// The lowest number of a run that fails a test, if any. It takes no memory. Numbers that one
-    /// entry names are looked at once.
+    /// Returns the lowest number of a run that fails a test, if any. It allocates nothing, and
+    /// tests the numbers of one entry only once.
     pub(crate) fn lowest_failing(&self, run: &Run, test: &Test) -> Option<Awb>
         requires run { is_run run.now ≡ true }
         ensures { result ≡ lowest_failing (holders_of self.now) run.now test.now }
@@ -60,7 +57,7 @@ impl MapStock {
         None
     }
 
-    /// Where the next entry after a key begins, or the end where none begins before it.
+    /// Returns the key of the next entry after `key`, or `end` if there is none before it.
     fn next_from(&self, key: u64, end: u64) -> u64
         requires { key < end }
         ensures after { key < result }
@@ -74,7 +71,7 @@ impl MapStock {
         }
     }
 
-    /// Lets an entry begin at a key. It changes no holder.
+    /// Makes an entry begin at a key, without changing any holder.
     fn begin_at(&mut self, key: u64) -> Result<(), AllocError>
         ensures same { holders_of self.new ≡ holders_of self.old }
         ensures begun { OnOk result (IsSome (get nat_cmp self.new.begins key)) }
@@ -87,7 +84,7 @@ impl MapStock {
         Ok(())
     }
 
-    /// Takes out the entries that begin between two keys.
+    /// Removes the entries that begin between two keys.
     fn join_between(&mut self, first: u64, end: u64)
         ensures { (q : ℕ) → get nat_cmp self.new.begins q
             ≡ cond (nat_lt first q && nat_lt q end) None (get nat_cmp self.old.begins q) }
@@ -97,7 +94,7 @@ impl MapStock {
         }
     }
 
-    /// The first key between two keys at which an entry begins.
+    /// Returns the key of the first entry between two keys.
     fn next_between(&self, first: u64, end: u64) -> Option<u64>
         ensures some { IfSome result (λ key. IsSome (get nat_cmp self.now.begins key)
             × (first < key) × (key < end)) }
@@ -111,7 +108,7 @@ impl MapStock {
         Some(*key)
     }
 
-    /// Gives a run to a holder. Out of memory, every number stays with its holder.
+    /// Gives a run to a holder. If memory runs out, every number stays with its holder.
     pub(crate) fn assign(&mut self, run: &Run, holder: &Holder) -> Result<(), AllocError>
         requires run { is_run run.now ≡ true }
         ensures ok { OnOk result (holders_of self.new

@@ -7,7 +7,7 @@ use agent_stock::{Order, StockFault, Terms};
 use std::alloc::AllocError;
 
 impl MapStock {
-    /// Gives the run of some terms to their holder, where each of its numbers passes the test.
+    /// Gives the run of an order to its new holder, if each of its numbers passes the test.
     fn change(&mut self, terms: &Terms) -> Result<(), StockFault<AllocError>>
         ensures accepted { OnOk result (run_refusal (holders_of self.old) terms.now.run
             terms.now.test terms.now.refusal ≡ None) }
@@ -30,7 +30,8 @@ impl MapStock {
         }
     }
 
-    /// Carries out an order. After a fault every number is with its holder, also out of memory.
+    /// Carries out an order. After a fault, also if memory runs out, every number stays with its
+    /// holder.
     pub(crate) fn carry_out(&mut self, order: &Order) -> Result<(), StockFault<AllocError>>
         ensures accepted { OnOk result (order_refusal (holders_of self.old) order.now ≡ None) }
         ensures given { OnOk result (holders_of self.new

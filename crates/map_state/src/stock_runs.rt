@@ -12,7 +12,6 @@ use awb_number::{Awb, SERIALS};
 use state_store::StoreFault;
 use std::alloc::Global;
 
-/// Whether both are one holder.
 fn is_one(holder: &Holder, other: &Holder) -> bool
     ensures { IsTrue result ↔ (holder.now ≡ other.now) }
 {
@@ -25,7 +24,6 @@ fn is_one(holder: &Holder, other: &Holder) -> bool
     }
 }
 
-/// Whether a run begins where another ends, in one prefix and with one holder.
 fn goes_on(row: &StockRun, next: &StockRun) -> bool
     ensures { IsTrue result ↔ GoesOn row.now next.now }
 {
@@ -34,7 +32,7 @@ fn goes_on(row: &StockRun, next: &StockRun) -> bool
         && is_one(&row.holder, &next.holder)
 }
 
-/// Puts a run behind the others, or makes the last one longer by it.
+/// Appends a run, or extends the last one by it.
 fn put_run(rows: &mut Vec<StockRun>, next: StockRun) -> Result<(), StoreFault>
     requires some { 1 ≤ next.count }
     requires one_prefix { serial_of next.first + next.count ≤ serials }
@@ -58,8 +56,8 @@ fn put_run(rows: &mut Vec<StockRun>, next: StockRun) -> Result<(), StoreFault>
     Ok(())
 }
 
-/// Puts the numbers from one key up to another, which one holder has, behind the runs: a run for
-/// each prefix. A key that is no number's is a fault.
+/// Appends the numbers from one key up to another, which one holder has: a run for each prefix. A
+/// key that isn't a number's is a fault.
 fn put_numbers(
     rows: &mut Vec<StockRun>,
     first: u64,
@@ -89,7 +87,7 @@ fn put_numbers(
 }
 
 impl MapStock {
-    /// The maximal runs of the stock, ascending.
+    /// Returns the maximal runs of the stock, ascending.
     pub(crate) fn runs(&self, alloc: Global) -> Result<Vec<StockRun>, StoreFault>
         ensures { IfOk result (λ rows. AreStockRuns (holders_of self.now) rows.items) }
     {

@@ -1,4 +1,4 @@
-//! A station's state in memory, as the short calls of a store.
+//! A station's state in memory, as a store.
 #![tactic(auto, using(crate::proofs::Surviving::survives_so, crate::proofs::Surviving::leaves_so, crate::proofs::Surviving::cargo_is))]
 
 ghost use Rattle.std.specs.Prelude.{◌≡◌, ◌≤◌};
@@ -19,7 +19,7 @@ use station_core::{
     Sink, Sizes, TrailQuery, TrailRow, WaybillBalances, expectations_for, hand_out,
 };
 
-/// How many rows a list has, where that can be numbered.
+/// Returns the length of a list, if its rows can be numbered.
 fn count(len: usize) -> u32
     ensures { len ≤ most_rows → result ≡ len }
 {
@@ -33,7 +33,7 @@ impl StateStore for MapState {
 
     ghost is_sound = { λ k. Unit {0} };
 
-    // Memory is gone after a crash, so no reopening finds anything.
+    // Nothing survives a crash, so reopening finds nothing.
     ghost may_find = { λ k found. ⊥ };
 
     ghost settled = { λ k s shown sound found finds. absurd finds };

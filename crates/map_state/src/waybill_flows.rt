@@ -5,7 +5,7 @@ use crate::flow::{Flow, STILL};
 use shipment_machine::{Balances, Move, Place};
 use state_store::StoreFault;
 
-/// What moved into each place of a waybill but the built ones, and out of it.
+/// The flows of a waybill at each place except the built ones.
 #[derive(Clone, Copy)]
 pub(crate) struct WaybillFlows {
     pub(crate) hand: Flow,
@@ -17,7 +17,7 @@ pub(crate) struct WaybillFlows {
     pub(crate) transferred: Flow,
 }
 
-/// The waybill has no move.
+/// The flows of a waybill without moves.
 pub(crate) const NO_FLOWS: WaybillFlows = WaybillFlows {
     hand: STILL,
     surplus: STILL,
@@ -29,7 +29,6 @@ pub(crate) const NO_FLOWS: WaybillFlows = WaybillFlows {
 };
 
 impl WaybillFlows {
-    /// The flows with a move of the waybill more.
     pub(crate) fn with(&self, movement: &Move) -> Result<WaybillFlows, StoreFault>
         ensures { IfOk result (λ flows. flows ≡ flows_with self.now movement.now) }
     {
@@ -44,7 +43,6 @@ impl WaybillFlows {
         })
     }
 
-    /// What the moves add up to.
     pub(crate) fn balances(&self) -> Result<Balances, StoreFault>
         ensures { IfOk result (λ balances. balances ≡ balances_by self.now) }
     {

@@ -1,4 +1,4 @@
-//! Rows that are written.
+//! Writing rows.
 ghost use Rattle.std.specs.Prelude.{◌∷◌, [], OnOk};
 ghost use Rattle.shipment_machine.specs.Cargo.{written};
 ghost use Rattle.shipment_machine.specs.declared.plans.Change.TheVariants.{Confirm, Declare, Expect, NoteFlight, NotePart, Trail, UseUp};
@@ -13,7 +13,6 @@ use shipment_machine::{Declared, Expected, FlightDate, Move, Outbound, Part, Tra
 use state_store::{FlightKey, StoreFault};
 
 impl MapState {
-    /// A move joins the book.
     pub(crate) fn put_move(&mut self, movement: &Move) -> Result<(), StoreFault>
         ensures { (s : State) → Shows self.old s
             → OnOk result (Shows self.new (with_moves (movement.now ∷ []) s)) }
@@ -24,7 +23,6 @@ impl MapState {
         self.book.add(movement)
     }
 
-    /// What is declared of a waybill from now on.
     pub(crate) fn declare(&mut self, awb: &Awb, declared: Declared) -> Result<(), StoreFault>
         ensures { (s : State) → Shows self.old s
             → OnOk result (Shows self.new (on_cargo (written [] (Declare awb.now declared)) s)) }
@@ -34,7 +32,6 @@ impl MapState {
         Ok(())
     }
 
-    /// A number is used up.
     pub(crate) fn use_up(&mut self, awb: &Awb) -> Result<(), StoreFault>
         ensures { (s : State) → Shows self.old s
             → OnOk result (Shows self.new (on_cargo (written [] (UseUp awb.now)) s)) }
@@ -43,7 +40,6 @@ impl MapState {
         Ok(())
     }
 
-    /// What is noted of an outbound flight from now on.
     pub(crate) fn note_flight(
         &mut self,
         flight: &FlightDate,
@@ -56,7 +52,6 @@ impl MapState {
         Ok(())
     }
 
-    /// What is expected of a waybill on a flight from now on.
     pub(crate) fn expect(
         &mut self,
         flight: &FlightDate,
@@ -70,7 +65,7 @@ impl MapState {
         Ok(())
     }
 
-    /// The telegram in work, which has this text, is this part.
+    /// Notes that the telegram with this text is this part.
     pub(crate) fn note_part(&mut self, part: &Part, text: &[u8]) -> Result<(), StoreFault>
         ensures { (s : State) → Shows self.old s → OnOk result (Shows self.new
             (on_cargo (written text.now (NotePart part.now)) s)) }
@@ -82,7 +77,6 @@ impl MapState {
         Ok(())
     }
 
-    /// A line joins the trail of a waybill.
     pub(crate) fn add_line(&mut self, awb: &Awb, line: &TrailLine<'_>) -> Result<(), StoreFault>
         ensures { (s : State) → Shows self.old s → OnOk result (Shows self.new
             (on_cargo (written [] (Trail awb.now line.now)) s)) }
@@ -95,7 +89,6 @@ impl MapState {
         Ok(())
     }
 
-    /// A message joins the outbox.
     pub(crate) fn put_message(&mut self, text: &[u8]) -> Result<(), StoreFault>
         ensures { (s : State) → Shows self.old s
             → OnOk result (Shows self.new (with_messages (text.now ∷ []) s)) }
@@ -108,7 +101,6 @@ impl MapState {
         Ok(())
     }
 
-    /// The messages up to this one are confirmed.
     pub(crate) fn confirm(&mut self, upto: u32)
         ensures { (s : State) → Shows self.old s
             → Shows self.new (on_cargo (written [] (Confirm upto)) s) }

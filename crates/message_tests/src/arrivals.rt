@@ -6,7 +6,7 @@ use std::alloc::Global;
 use telegrams::{Content, PartContent, StatusContent, TelegramFault, read_telegram};
 use test_kit::{say, shown};
 
-/// What comes of what is asked.
+/// Runs one case and returns its result as text.
 pub fn answer(alloc: Global, asked: &str, text: &[u8]) -> Option<String> {
     match asked {
         "text" => normal(alloc, text),
@@ -17,7 +17,6 @@ pub fn answer(alloc: Global, asked: &str, text: &[u8]) -> Option<String> {
     }
 }
 
-/// The text of a telegram.
 fn normal(alloc: Global, text: &[u8]) -> Option<String> {
     let Ok(telegram) = read_telegram(alloc, text) else {
         return None;
@@ -25,7 +24,6 @@ fn normal(alloc: Global, text: &[u8]) -> Option<String> {
     say(alloc, shown(telegram.text().as_bytes()))
 }
 
-/// What a telegram says.
 fn content(alloc: Global, text: &[u8]) -> Option<String> {
     let Ok(telegram) = read_telegram(alloc, text) else {
         return None;
@@ -40,7 +38,7 @@ fn content(alloc: Global, text: &[u8]) -> Option<String> {
     }
 }
 
-/// The number, the route, the pieces, tenths and total of a consignment line, and its goods.
+/// Returns a consignment line: its number, route, pieces, tenths, total and goods.
 fn cargo(alloc: Global, line: &CargoLine) -> Option<String> {
     let (origin, destination) = (line.origin.letters(), line.destination.letters());
     let (origin, destination) = (shown(&origin), shown(&destination));
@@ -51,8 +49,8 @@ fn cargo(alloc: Global, line: &CargoLine) -> Option<String> {
     format!(in alloc; "{number} {origin} {destination} {pieces} {tenths} {total} [{goods}]").ok()
 }
 
-/// The part's number, the flight, its date and where it was loaded, and each line with where it is
-/// unloaded.
+/// Returns a manifest: the part's number, the flight, its date and airport of loading, and each
+/// line with its airport of unloading.
 fn manifest(alloc: Global, part: &PartContent) -> Option<String> {
     let mut flight = [0; 7];
     let end = part.flight.write(&mut flight);
@@ -69,7 +67,7 @@ fn manifest(alloc: Global, part: &PartContent) -> Option<String> {
     Some(said)
 }
 
-/// The number of a status message, and its lines.
+/// Returns the number of a status message, and its lines.
 fn trail(alloc: Global, status: &StatusContent<'_>) -> Option<String> {
     let mut said = format!(in alloc; "FSU {}", status.awb).ok()?;
     for line in status.lines.as_slice() {
@@ -79,7 +77,7 @@ fn trail(alloc: Global, status: &StatusContent<'_>) -> Option<String> {
     Some(said)
 }
 
-/// A telegram's refusal, or `none`.
+/// Returns a telegram's refusal, or `none`.
 fn fault(alloc: Global, text: &[u8]) -> Option<String> {
     let Err(fault) = read_telegram(alloc, text) else {
         return say(alloc, "none");
@@ -90,13 +88,12 @@ fn fault(alloc: Global, text: &[u8]) -> Option<String> {
     }
 }
 
-/// The number of a refusal.
 fn number_said(alloc: Global, refusal: &Refusal) -> Option<String> {
     let number = refusal.number;
     format!(in alloc; "{number}").ok()
 }
 
-/// The number of a telegram's refusal, or `none`.
+/// Returns the number of a telegram's refusal, or `none`.
 fn refused(alloc: Global, text: &[u8]) -> Option<String> {
     let Err(fault) = read_telegram(alloc, text) else {
         return say(alloc, "none");
@@ -107,7 +104,7 @@ fn refused(alloc: Global, text: &[u8]) -> Option<String> {
     }
 }
 
-/// The numbers of the refusals of each beginning of a text, from the empty one on.
+/// Returns the numbers of the refusals of each prefix of a text, from the empty one on.
 fn beginnings(alloc: Global, text: &[u8]) -> Option<String> {
     let mut runs = Runs::new(alloc, 0);
     for len in 0..text.len() {

@@ -1,11 +1,10 @@
-//! Bodies of JSON that are read as commands.
+//! JSON bodies that are read as commands.
 use desk_commands::{Verb, command_text, read_command, read_command_text};
 use serde_json::Value;
 use std::alloc::Global;
 use test_kit::{say, shown};
 
-/// What comes of what is asked: the text of the command that a verb has with this body, from which
-/// it is read again, or `none`.
+/// Returns the text of the verb's command with this body, from which it is read back, or `none`.
 pub fn answer(alloc: Global, asked: &str, body: &[u8]) -> Option<String> {
     let verb = Verb::read(asked.as_bytes())?;
     let value = Value::from_str(alloc, shown(body)).ok()?;

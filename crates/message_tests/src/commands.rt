@@ -1,4 +1,4 @@
-//! Commands that are built from their fields, and their texts.
+//! Commands made from their fields, and their texts.
 use crate::said::{next_number, next_small_number};
 use agent_stock::{AgentCode, Order, Run, RunCount};
 use awb_number::Awb;
@@ -10,8 +10,8 @@ use std::alloc::Global;
 use std::str::SplitWhitespace;
 use test_kit::{say, shown};
 
-/// What comes of what is asked: whether a word is a verb, whether a text is a command's, or the
-/// text of the command with these fields. A day is given by its number.
+/// Runs one case and returns its result as text: whether a word is a verb, whether a text is a
+/// command's, or the text of the command with these fields. A day is given by its number.
 pub fn answer(alloc: Global, asked: &str, text: &[u8]) -> Option<String> {
     match asked {
         "verb" => verb(alloc, text),
@@ -22,7 +22,7 @@ pub fn answer(alloc: Global, asked: &str, text: &[u8]) -> Option<String> {
             command_text(alloc, &Command::Stock(order)).ok()
         }
         _ => {
-            // A blank may stand in the last field.
+            // The last field may have a space.
             let (fields, last) = shown(text).split_once('|').unwrap_or((shown(text), ""));
             let mut words = fields.split_whitespace();
             let command = command(asked, &mut words, last)?;
@@ -97,7 +97,7 @@ fn command(asked: &str, words: &mut SplitWhitespace<'_>, last: &str) -> Option<D
     }
 }
 
-/// Commands whose last field is a name, goods or an airline.
+/// Returns a command whose last field is a name, goods or an airline.
 fn at_the_desk(asked: &str, words: &mut SplitWhitespace<'_>, last: &[u8]) -> Option<DeskCommand> {
     let awb = number(words)?;
     match asked {
@@ -145,7 +145,6 @@ fn at_the_desk(asked: &str, words: &mut SplitWhitespace<'_>, last: &[u8]) -> Opt
     }
 }
 
-/// Commands on a flight.
 fn with_flight(asked: &str, words: &mut SplitWhitespace<'_>) -> Option<DeskCommand> {
     if asked == "depart" {
         let flight = flight(words)?;
@@ -184,7 +183,7 @@ fn with_flight(asked: &str, words: &mut SplitWhitespace<'_>) -> Option<DeskComma
     }
 }
 
-/// Commands on missing and found pieces, perhaps of a flight.
+/// Returns a command about missing or found pieces, optionally of a flight.
 fn irregular(asked: &str, words: &mut SplitWhitespace<'_>) -> Option<DeskCommand> {
     let awb = number(words)?;
     let pieces = pieces(words)?;

@@ -4,7 +4,7 @@ use imp_fields::read_consignment;
 use std::alloc::Global;
 use test_kit::say;
 
-/// What comes of what is asked.
+/// Runs one case and returns its result as text.
 pub fn answer(alloc: Global, asked: &str, text: &[u8]) -> Option<String> {
     match asked {
         "meaning" => meaning(alloc, text),
@@ -13,7 +13,7 @@ pub fn answer(alloc: Global, asked: &str, text: &[u8]) -> Option<String> {
     }
 }
 
-/// What a line means, and where its fields stand.
+/// Returns the values of a line, and the positions of its fields.
 fn meaning(alloc: Global, text: &[u8]) -> Option<String> {
     let Ok(line) = read_consignment(text) else {
         return None;

@@ -1,11 +1,11 @@
-//! Readers and writers that count, some of which fail.
+//! Readers and writers that count their calls. Some of them fail.
 use station_core::{ByteIn, ByteOut, Counted, ReadFault, WriteFault, send};
 use std::alloc::Global;
 use std::io;
 use std::io::Read;
 use test_kit::{Narrow, say, shown};
 
-/// What comes of what is asked.
+/// Runs one case and returns its result as text.
 pub fn answer(alloc: Global, asked: &str, text: &[u8]) -> Option<String> {
     match asked {
         "sent" => sent(alloc, shown(text)),
@@ -16,7 +16,7 @@ pub fn answer(alloc: Global, asked: &str, text: &[u8]) -> Option<String> {
     }
 }
 
-/// What a buffer holds after each line of a text was sent, with an empty text behind each.
+/// Returns the contents of a buffer after each line of a text was sent, followed by an empty text.
 fn sent(alloc: Global, text: &str) -> Option<String> {
     let mut writer = Counted::new(Vec::new(alloc));
     for line in text.split_inclusive('\n') {
@@ -26,7 +26,6 @@ fn sent(alloc: Global, text: &str) -> Option<String> {
     say(alloc, shown(writer.into_inner().as_slice()))
 }
 
-/// What is returned where not all bytes went out.
 fn sent_said(alloc: Global, sent: Result<(), usize>) -> Option<String> {
     match sent {
         Ok(()) => say(alloc, "all went out"),
@@ -40,7 +39,7 @@ fn sent_to_four_bytes(alloc: Global, text: &[u8]) -> Option<String> {
     sent_said(alloc, send(&mut writer, text))
 }
 
-/// A reader that is interrupted, then gives what it has, and then fails.
+/// A reader that is interrupted, then returns its bytes, and then fails.
 #[derive(Drop)]
 struct Halting<'a> {
     calls: u8,
@@ -66,7 +65,7 @@ fn read_said(alloc: Global, read: Result<usize, ReadFault>) -> Option<String> {
     }
 }
 
-/// What three reads into eight bytes give, and the bytes.
+/// Returns the results of three reads into eight bytes, and the bytes.
 fn read_haltingly(alloc: Global, bytes: &[u8]) -> Option<String> {
     let mut reader = Counted::new(Halting { calls: 0, bytes });
     let mut buf = [b'-'; 8];

@@ -7,7 +7,7 @@ use station_days::DayMonth;
 use std::alloc::Global;
 use test_kit::shown;
 
-/// What comes of what is asked.
+/// Runs one case and returns its result as text.
 pub fn answer(alloc: Global, asked: &str, text: &[u8]) -> Option<String> {
     match asked {
         "head" => head(alloc, &part(alloc, text)?),
@@ -20,7 +20,6 @@ pub fn answer(alloc: Global, asked: &str, text: &[u8]) -> Option<String> {
     }
 }
 
-/// The part of a manifest that a text is.
 fn part<'a>(alloc: Global, text: &'a [u8]) -> Option<Ffm<'a>> {
     let Ok(lines) = normal_text(alloc, text) else {
         return None;
@@ -31,7 +30,7 @@ fn part<'a>(alloc: Global, text: &'a [u8]) -> Option<Ffm<'a>> {
     }
 }
 
-/// The part's number, the flight, its date and where it was loaded.
+/// Returns the part's number, the flight, its date and airport of loading.
 fn head(alloc: Global, part: &Ffm<'_>) -> Option<String> {
     let mut flight = [0; 7];
     let end = part.flight.write(&mut flight);
@@ -47,7 +46,7 @@ fn head(alloc: Global, part: &Ffm<'_>) -> Option<String> {
     .ok()
 }
 
-/// Where a line's goods are unloaded, its number, its pieces, tenths and total, and its goods.
+/// Returns a line: the airport of unloading, the number, pieces, tenths, total and goods.
 fn line_said(alloc: Global, line: &FfmLine<'_>) -> Option<String> {
     let unload = line.unload.letters();
     let consignment = &line.consignment;
@@ -56,7 +55,6 @@ fn line_said(alloc: Global, line: &FfmLine<'_>) -> Option<String> {
     format!(in alloc; "; {} {number} {quantity} [{goods}]", shown(&unload)).ok()
 }
 
-/// How many lines of cargo there are, and each.
 fn cargo(alloc: Global, part: &Ffm<'_>) -> Option<String> {
     let mut said = format!(in alloc; "{}", part.cargo.len()).ok()?;
     for line in &part.cargo {
@@ -65,7 +63,7 @@ fn cargo(alloc: Global, part: &Ffm<'_>) -> Option<String> {
     Some(said)
 }
 
-/// How many lines of cargo there are, and where each is unloaded, with how many pieces.
+/// Returns the number of cargo lines, and for each its airport of unloading and its pieces.
 fn unloaded(alloc: Global, part: &Ffm<'_>) -> Option<String> {
     let mut said = format!(in alloc; "{}", part.cargo.len()).ok()?;
     for line in &part.cargo {
@@ -77,7 +75,7 @@ fn unloaded(alloc: Global, part: &Ffm<'_>) -> Option<String> {
     Some(said)
 }
 
-/// Where the goods of the first line of cargo stand.
+/// Returns the position of the goods of the first cargo line.
 fn goods(alloc: Global, part: &Ffm<'_>) -> Option<String> {
     token_said(alloc, &part.cargo.first()?.consignment.goods)
 }
@@ -93,8 +91,8 @@ fn fault(alloc: Global, text: &[u8]) -> Option<TextFault> {
     }
 }
 
-/// A load of a waybill from FRA to JFK that weighs 40.0 kg: its number, its pieces, those declared,
-/// and perhaps its goods.
+/// Reads a load from FRA to JFK of 40.0 kg: its number, its pieces, those declared, and optional
+/// goods.
 fn load(text: &str) -> Option<Load> {
     let mut words = text.split_whitespace();
     Some(Load {
@@ -108,8 +106,8 @@ fn load(text: &str) -> Option<Load> {
     })
 }
 
-/// The manifest of a flight from FRA to JFK on 12 January, behind a letter X: a flight, and its
-/// loads line by line.
+/// Returns the manifest of a flight from FRA to JFK on 12 January, after a letter X. The flight and
+/// its loads are given line by line.
 fn written(alloc: Global, text: &[u8]) -> Option<String> {
     let mut lines = shown(text).lines();
     let flight = Flight::read(lines.next()?.as_bytes())?;

@@ -7,7 +7,7 @@ use station_days::{DayMonth, DayTime, LocalDay, Moment, resolve};
 use std::alloc::Global;
 use test_kit::{say, shown};
 
-/// What comes of what is asked.
+/// Runs one case and returns its result as text.
 pub fn answer(alloc: Global, asked: &str, text: &[u8]) -> Option<String> {
     match asked {
         "airport" => printed_or_none(alloc, Airport::read(text)),
@@ -26,7 +26,6 @@ pub fn answer(alloc: Global, asked: &str, text: &[u8]) -> Option<String> {
     }
 }
 
-/// The number of an amount that is in its range.
 fn amount(alloc: Global, asked: &str, text: &[u8]) -> Option<String> {
     let mut words = words(text)?;
     let number = next_number(&mut words)?;
@@ -52,7 +51,7 @@ fn moment(alloc: Global, moment: Option<Moment>) -> Option<String> {
     }
 }
 
-/// The tenths of so many pieces of all.
+/// Returns the share of the tenths for a part of the pieces.
 fn share_of(alloc: Global, text: &[u8]) -> Option<String> {
     let mut words = words(text)?;
     let pieces = next_number(&mut words)?;
@@ -71,7 +70,6 @@ fn booked(alloc: Global, text: &[u8]) -> Option<String> {
     format!(in alloc; "{}", book_weight(pieces, tenths)).ok()
 }
 
-/// Whether two texts are one flight.
 fn is_one_flight(alloc: Global, text: &[u8]) -> Option<String> {
     let mut words = words(text)?;
     let first = Flight::read(words.next()?.as_bytes())?;
@@ -93,7 +91,6 @@ fn goods(alloc: Global, text: &[u8]) -> Option<String> {
     }
 }
 
-/// The day and the month of a date.
 fn date(alloc: Global, text: &[u8]) -> Option<String> {
     match DayMonth::read(text) {
         Some(date) => format!(in alloc; "{} {}", date.day, date.month).ok(),
@@ -101,12 +98,11 @@ fn date(alloc: Global, text: &[u8]) -> Option<String> {
     }
 }
 
-/// The minute of a date with a time.
 fn date_time(alloc: Global, text: &[u8]) -> Option<String> {
     printed_or_none(alloc, DayTime::read(text).map(|at| u32::from(at.minute)))
 }
 
-/// The date of a day, which is given by its number.
+/// Returns the date of a day, given by its number.
 fn date_on(alloc: Global, text: &[u8]) -> Option<String> {
     let mut words = words(text)?;
     let day = LocalDay::new(next_number(&mut words)?)?;
@@ -121,7 +117,7 @@ fn date_time_at(alloc: Global, text: &[u8]) -> Option<String> {
     say(alloc, shown(&DayTime::at(moment).write()))
 }
 
-/// The number of the day that a date means on a day of receipt.
+/// Returns the number of the day that a date means on a day of receipt.
 fn meant(alloc: Global, text: &[u8]) -> Option<String> {
     let mut words = words(text)?;
     let date = DayMonth::read(words.next()?.as_bytes())?;

@@ -4,7 +4,7 @@ use fsu_text::{Fsu, read};
 use imp_fields::{Lines, TextFault, normal_text};
 use std::alloc::Global;
 
-/// What comes of what is asked.
+/// Runs one case and returns its result as text.
 pub fn answer(alloc: Global, asked: &str, text: &[u8]) -> Option<String> {
     match asked {
         "trail" => trail(alloc, &message(alloc, text)?),
@@ -14,7 +14,6 @@ pub fn answer(alloc: Global, asked: &str, text: &[u8]) -> Option<String> {
     }
 }
 
-/// The message that a text is.
 fn message<'a>(alloc: Global, text: &'a [u8]) -> Option<Fsu<'a>> {
     let Ok(lines) = normal_text(alloc, text) else {
         return None;
@@ -25,7 +24,7 @@ fn message<'a>(alloc: Global, text: &'a [u8]) -> Option<Fsu<'a>> {
     }
 }
 
-/// The number of a message, and each line of its trail, with whether its layout is known.
+/// Returns the number of a message, and each line of its trail, with whether its layout is known.
 fn trail(alloc: Global, message: &Fsu<'_>) -> Option<String> {
     let mut said = format!(in alloc; "{}", message.consignment.awb).ok()?;
     for line in &message.trail {
@@ -52,7 +51,7 @@ fn fault(alloc: Global, text: &[u8]) -> Option<TextFault> {
     }
 }
 
-/// What a status line says behind a consignment line, or `None` where it is kept as it stands.
+/// Returns the values of a status line after a consignment line, or `None` if it is stored unread.
 fn status(alloc: Global, line: &[u8]) -> Option<String> {
     let mut text = b"FSU/12\r\n020-12345675FRAJFK/T10K100.0\r\n"
         .to_vec(alloc)

@@ -5,7 +5,7 @@ use imp_fields::{TextFault, normal_text};
 use std::alloc::Global;
 use test_kit::shown;
 
-/// What comes of what is asked.
+/// Runs one case and returns its result as text.
 pub fn answer(alloc: Global, asked: &str, text: &[u8]) -> Option<String> {
     match asked {
         "meaning" => meaning(alloc, text),
@@ -14,7 +14,7 @@ pub fn answer(alloc: Global, asked: &str, text: &[u8]) -> Option<String> {
     }
 }
 
-/// The number, the origin, the pieces, the tenths and the place of the quantity.
+/// Returns the number, the origin, the pieces, the tenths and the position of the quantity.
 fn meaning(alloc: Global, text: &[u8]) -> Option<String> {
     let Ok(lines) = normal_text(alloc, text) else {
         return None;

@@ -1,12 +1,12 @@
-//! Numbers, fields, messages, commands, orders and replies, each read or written as a file of cases
-//! says.
+//! Numbers, fields, messages, commands, orders and replies, each read or written as in a file of
+//! cases.
 //!
-//! A line of `messages/NAME.cases` is a case: what is asked, the text that is given, and what must
-//! come, as `airport 'FRA' = FRA`. So is one of `station/counted-ends.cases`, which is about
-//! readers and writers that count.
+//! A line of `messages/NAME.cases` is a case: the call, the text given, and the expected result,
+//! such as `airport 'FRA' = FRA`. The same holds for `station/counted-ends.cases`, about readers
+//! and writers that count their calls.
 //!
-//! `run_memory` writes and reads messages, and wants memory alone. Run it with each allocation
-//! failing in turn: each must be reported, and leave the buffer as it was.
+//! `run_memory` writes and reads messages. Run it with each allocation failing in turn: each
+//! failure must be reported, and leave the buffer unchanged.
 #![tactic(auto)]
 
 mod arrivals;
@@ -36,7 +36,7 @@ use std::io;
 use std::time::Instant;
 use test_kit::{Answers, go_through_file, print_told};
 
-/// The files of the folder `messages`, in the order in which they are gone through.
+/// The files of the folder `messages`, in the order in which they run.
 pub const FILES: &[&str] = &[
     "numbers",
     "fields",
@@ -56,7 +56,7 @@ pub const FILES: &[&str] = &[
     "replies",
 ];
 
-/// What answers the cases of a file. Orders act on its stock.
+/// The answers to the cases of a file. Orders act on its stock.
 #[derive(Drop)]
 struct FileAnswers<'a> {
     alloc: Global,
@@ -90,12 +90,8 @@ impl Answers for FileAnswers<'_> {
     }
 }
 
-/// Goes through a file of cases of a folder, and prints those that came out otherwise, or how many
-/// there were. Whether all came out as they must.
-///
-/// # Errors
-///
-/// Where nothing can be printed, or memory is out.
+/// Runs the cases of a file in a folder, and prints the failed ones, or the number of cases.
+/// Returns whether all passed. It fails if printing fails or memory runs out.
 pub fn run_file(rt: &HostRuntime, folder: &str, file: &str) -> Result<bool, io::Error> {
     let mut answers = FileAnswers {
         alloc: rt.alloc(),
@@ -105,11 +101,8 @@ pub fn run_file(rt: &HostRuntime, folder: &str, file: &str) -> Result<bool, io::
     go_through_file(rt, folder, file, &mut answers)
 }
 
-/// Writes and reads messages, and prints what came of each. Whether all came out as they must.
-///
-/// # Errors
-///
-/// Where nothing can be printed.
+/// Writes and reads messages, and prints the outcomes. Returns whether all are as expected. It
+/// fails if printing fails.
 pub fn run_memory(rt: &HostRuntime) -> Result<bool, io::Error> {
     let mut all = true;
     for message in Message::ALL {
@@ -118,15 +111,11 @@ pub fn run_memory(rt: &HostRuntime) -> Result<bool, io::Error> {
     Ok(all)
 }
 
-/// How often each message is written and read to be measured.
+/// The number of times that each message is written and read in a measurement.
 const TIMES: u64 = 100_000;
 
-/// Prints how often a second each message of `run_memory` is written and read. Whether each was,
-/// every time.
-///
-/// # Errors
-///
-/// Where nothing can be printed, or the clock can't be read.
+/// Prints how often a second each message of `run_memory` is written and read. Returns whether each
+/// was, every time. It fails if printing fails or the clock can't be read.
 pub fn run_bench(rt: &HostRuntime) -> Result<bool, io::Error> {
     println!(rt; "  a second    ns each  message")?;
     let mut all = true;

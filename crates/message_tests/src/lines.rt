@@ -4,7 +4,7 @@ use imp_fields::{cut_at_slash, first_field, is_head, normal_text};
 use std::alloc::Global;
 use test_kit::{say, shown};
 
-/// What comes of what is asked.
+/// Runs one case and returns its result as text.
 pub fn answer(alloc: Global, asked: &str, text: &[u8]) -> Option<String> {
     match asked {
         "is-waybill-head" => yes_or_no(alloc, is_head(b"FWB", text)),
@@ -31,7 +31,6 @@ fn cut(alloc: Global, text: &[u8]) -> Option<String> {
     }
 }
 
-/// The kind of a text, and where its lines stand.
 fn lines(alloc: Global, text: &[u8]) -> Option<String> {
     let Ok(read) = normal_text(alloc, text) else {
         return None;
@@ -52,8 +51,8 @@ fn fault(alloc: Global, text: &[u8]) -> Option<String> {
     }
 }
 
-/// The faults of a text of three lines with a byte put in at each place, from the end of the first
-/// line to that of the second.
+/// Returns the faults of a text of three lines with a byte inserted at each position, from the end
+/// of the first line to that of the second.
 fn at_each_place(alloc: Global, byte: &[u8]) -> Option<String> {
     let text = b"FWB/16\nABCDEFGHIJKLMNOPQRSTUVWXYZ".as_slice();
     let mut runs = Runs::new(alloc, 6);

@@ -1,4 +1,4 @@
-//! What is seen of a telegram before it is taken.
+//! Dry runs of telegrams.
 use crate::said::yes_or_no;
 use station_core::refusal_text;
 use std::alloc::Global;
@@ -6,7 +6,7 @@ use telegram_look::{look_at, look_object, look_text};
 use telegrams::TelegramFault;
 use test_kit::say;
 
-/// What comes of what is asked.
+/// Runs one case and returns its result as text.
 pub fn answer(alloc: Global, asked: &str, text: &[u8]) -> Option<String> {
     if asked == "fault" {
         return fault(alloc, text);
@@ -23,7 +23,7 @@ pub fn answer(alloc: Global, asked: &str, text: &[u8]) -> Option<String> {
     }
 }
 
-/// The refusal of a telegram, or `none`.
+/// Returns the refusal of a telegram, or `none`.
 fn fault(alloc: Global, text: &[u8]) -> Option<String> {
     let Err(fault) = look_at(alloc, text) else {
         return say(alloc, "none");
@@ -31,7 +31,6 @@ fn fault(alloc: Global, text: &[u8]) -> Option<String> {
     fault_said(alloc, fault)
 }
 
-/// A refusal.
 fn fault_said(alloc: Global, fault: TelegramFault) -> Option<String> {
     match fault {
         TelegramFault::Memory => None,

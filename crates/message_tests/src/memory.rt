@@ -1,5 +1,5 @@
-//! Messages that are written and read where memory may run out: that is reported, and leaves the
-//! buffer as it was.
+//! Writing and reading messages while memory runs out: that is reported, and leaves the buffer
+//! unchanged.
 use crate::notices::{consigned, manifest};
 use ffm_text::{Load, write_ffm};
 use fsu_text::{Handling, SentStatus, SentUpdate, write_fsu};
@@ -11,7 +11,7 @@ use station_days::{DayMonth, DayTime, Moment};
 use std::alloc::Global;
 use telegrams::{TelegramFault, notice_text, read_telegram};
 
-/// A message that is written or read, or both.
+/// A message that is written, read, or both.
 #[derive(Clone, Copy, Debug, PartialEq, Eq)]
 pub enum Message {
     Manifest,
@@ -23,7 +23,7 @@ pub enum Message {
 }
 
 impl Message {
-    /// Each of them, in the order in which they are gone through.
+    /// All messages, in the order in which they run.
     pub const ALL: [Message; 6] = [
         Message::Manifest,
         Message::Update,
@@ -33,7 +33,7 @@ impl Message {
         Message::ReceiptNotice,
     ];
 
-    /// What it is called.
+    /// Returns its name.
     pub fn name(self) -> &'static str {
         match self {
             Message::Manifest => "a manifest",
@@ -45,7 +45,7 @@ impl Message {
         }
     }
 
-    /// Whether it is written and read, or running out of memory is reported.
+    /// Returns whether it is written and read, or running out of memory is reported.
     pub fn is_told(self, alloc: Global) -> bool {
         match self {
             Message::Manifest => is_manifest_told(alloc),
@@ -57,7 +57,7 @@ impl Message {
         }
     }
 
-    /// The same so many times.
+    /// Returns the same for many times.
     pub fn is_told_often(self, alloc: Global, times: u64) -> bool {
         for _ in 0..times {
             if !self.is_told(alloc) {
@@ -72,7 +72,7 @@ fn fault(line: u32, why: Why) -> TextFault {
     TextFault { line, why }
 }
 
-/// Appends the manifest of a flight from FRA to JFK on 12 January; whether there was memory for it.
+/// Appends the manifest of a flight from FRA to JFK on 12 January. Returns whether memory sufficed.
 fn is_written(out: &mut Vec<u8>, flight: &[u8], loads: &[Load]) -> Option<bool> {
     let (here, unload) = (Airport::read(b"FRA")?, Airport::read(b"JFK")?);
     if loads.len() > 500 {
@@ -82,7 +82,7 @@ fn is_written(out: &mut Vec<u8>, flight: &[u8], loads: &[Load]) -> Option<bool> 
     Some(write_ffm(out, Flight::read(flight)?, date, here, unload, loads).is_ok())
 }
 
-/// Four of the ten pieces, three times.
+/// Returns three loads of four of the ten pieces.
 fn three_loads() -> Option<[Load; 3]> {
     let WaybillSummary {
         awb,
@@ -103,7 +103,7 @@ fn three_loads() -> Option<[Load; 3]> {
     Some([load; 3])
 }
 
-/// Whether three loads are written and read, or running out of memory is reported.
+/// Returns whether three loads are written and read, or running out of memory is reported.
 fn is_manifest_told(alloc: Global) -> bool {
     let Some(loads) = three_loads() else {
         return false;
@@ -116,7 +116,7 @@ fn is_manifest_told(alloc: Global) -> bool {
     }
 }
 
-/// Whether the three loads are read again, or running out of memory is reported.
+/// Returns whether the three loads are read back, or running out of memory is reported.
 fn is_manifest_read(alloc: Global, text: &[u8]) -> bool {
     let lines = match normal_text(alloc, text) {
         Ok(lines) => lines,
@@ -128,7 +128,7 @@ fn is_manifest_read(alloc: Global, text: &[u8]) -> bool {
     }
 }
 
-/// A receipt of the ten pieces from a shipper.
+/// Returns a receipt of the ten pieces from a shipper.
 fn receipt() -> Option<SentUpdate> {
     let status = SentStatus::Handled {
         event: Handling::ReceivedFromShipper,
@@ -144,7 +144,7 @@ fn receipt() -> Option<SentUpdate> {
     })
 }
 
-/// Whether a receipt is written and read, or running out of memory is reported.
+/// Returns whether a receipt is written and read, or running out of memory is reported.
 fn is_update_told(alloc: Global) -> bool {
     let Some(update) = receipt() else {
         return false;
@@ -163,14 +163,14 @@ fn is_update_told(alloc: Global) -> bool {
     }
 }
 
-/// The text of a manifest of four of the ten pieces.
+/// Returns the text of a manifest of four of the ten pieces.
 fn manifest_text(alloc: Global) -> Option<Vec<u8>> {
     let here = Airport::read(b"FRA")?;
     let notice = manifest(alloc, here, Pieces::new(4)?, BookTenths::new(400)?)?;
     notice_text(alloc, &notice).ok()
 }
 
-/// The text of a receipt of the ten pieces.
+/// Returns the text of a receipt of the ten pieces.
 fn receipt_text(alloc: Global) -> Option<Vec<u8>> {
     let event = Event::ReceivedFromShipper {
         name: Name::read(b"ACME")?,
@@ -186,7 +186,7 @@ fn receipt_text(alloc: Global) -> Option<Vec<u8>> {
     notice_text(alloc, &notice).ok()
 }
 
-/// Whether a telegram is read, where there is memory for it.
+/// Returns whether a telegram is read, or running out of memory is reported.
 fn is_read_or_unheard(alloc: Global, text: &[u8]) -> bool {
     let read = read_telegram(alloc, text);
     match &read {
@@ -195,7 +195,7 @@ fn is_read_or_unheard(alloc: Global, text: &[u8]) -> bool {
     }
 }
 
-/// Whether a telegram with a waybill's data is read, or running out of memory is reported.
+/// Returns the same for a waybill's data.
 fn is_waybill_told(alloc: Global) -> bool {
     is_read_or_unheard(
         alloc,
@@ -203,7 +203,7 @@ fn is_waybill_told(alloc: Global) -> bool {
     )
 }
 
-/// The same of a manifest.
+/// Returns the same for a manifest.
 fn is_arrival_told(alloc: Global) -> bool {
     is_read_or_unheard(
         alloc,
@@ -211,7 +211,7 @@ fn is_arrival_told(alloc: Global) -> bool {
     )
 }
 
-/// Whether the notice of a manifest has its length, or there was no memory for it.
+/// Returns whether the notice of a manifest has its length, or memory ran out for it.
 fn is_manifest_notice_told(alloc: Global) -> bool {
     match manifest_text(alloc) {
         Some(text) => text.len() == 74,
@@ -219,7 +219,6 @@ fn is_manifest_notice_told(alloc: Global) -> bool {
     }
 }
 
-/// The same of the notice of a receipt.
 fn is_receipt_notice_told(alloc: Global) -> bool {
     match receipt_text(alloc) {
         Some(text) => text.len() == 72,

@@ -9,9 +9,9 @@ use std::slice;
 use std::str::SplitWhitespace;
 use telegrams::notice_text;
 
-/// What comes of what is asked: the text of a notice on ten pieces of 100 kilograms from FRA to
-/// JFK. It is given by the airport here, its pieces, their tenths and what happened. A flight is
-/// LH400 on 2026-01-12, which has the number 20465.
+/// Returns the text of a notice about ten pieces of 100 kilograms from FRA to JFK. It is given by
+/// this airport, its pieces, their tenths and the event. A flight is LH400 on 2026-01-12, day
+/// number 20465.
 pub fn answer(alloc: Global, asked: &str, text: &[u8]) -> Option<String> {
     let mut words = words(text)?;
     let here = Airport::read(words.next()?.as_bytes())?;
@@ -31,7 +31,7 @@ pub fn answer(alloc: Global, asked: &str, text: &[u8]) -> Option<String> {
     String::from_utf8(notice_text(alloc, &notice).ok()?).ok()
 }
 
-/// Ten pieces of 100 kilograms from FRA to JFK.
+/// Returns ten pieces of 100 kilograms from FRA to JFK.
 pub fn consigned() -> Option<WaybillSummary> {
     Some(WaybillSummary {
         awb: Awb::read(b"020-12345675").ok()?,
@@ -49,7 +49,7 @@ fn lh400() -> Option<FlightDate> {
     })
 }
 
-/// What happened at a moment, which is given by its day and its minute, perhaps with a name.
+/// Reads an event at a moment, given by its day and its minute, with an optional name.
 fn event(asked: &str, words: &mut SplitWhitespace<'_>) -> Option<Event> {
     if asked == "MAN" || asked == "DEP" {
         return carried(asked == "MAN");
@@ -72,7 +72,7 @@ fn event(asked: &str, words: &mut SplitWhitespace<'_>) -> Option<Event> {
     }
 }
 
-/// LH400 leaves for JFK.
+/// Returns the event of LH400 leaving for JFK.
 fn carried(is_manifested: bool) -> Option<Event> {
     let (flight, unload) = (lh400()?, Airport::read(b"JFK")?);
     Some(if is_manifested {
@@ -91,7 +91,7 @@ fn discrepancy(word: &str) -> Option<Discrepancy> {
     }
 }
 
-/// LH400 leaves for JFK with pieces of the waybill.
+/// Returns the manifest of LH400 leaving for JFK with pieces of the waybill.
 pub fn manifest(
     alloc: Global,
     here: Airport,

@@ -4,7 +4,7 @@ use awb_number::Awb;
 use std::alloc::Global;
 use test_kit::{say, shown};
 
-/// What comes of what is asked.
+/// Runs one case and returns its result as text.
 pub fn answer(alloc: Global, asked: &str, text: &[u8]) -> Option<String> {
     match asked {
         "of-parts" => of_parts(alloc, text),
@@ -22,7 +22,6 @@ fn said(alloc: Global, number: Option<Awb>) -> Option<String> {
     }
 }
 
-/// The number with this prefix and this serial.
 fn of_parts(alloc: Global, text: &[u8]) -> Option<String> {
     let mut words = words(text)?;
     let prefix = next_small_number(&mut words)?;
@@ -30,7 +29,7 @@ fn of_parts(alloc: Global, text: &[u8]) -> Option<String> {
     said(alloc, Awb::new(prefix, serial))
 }
 
-/// The prefix and the serial of a number, or why it isn't one.
+/// Returns the prefix and the serial of a number, or its fault.
 fn read(alloc: Global, text: &[u8]) -> Option<String> {
     match Awb::read(text.first_chunk()?) {
         Ok(number) => format!(in alloc; "{} {}", number.prefix(), number.serial()).ok(),

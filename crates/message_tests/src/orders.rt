@@ -9,7 +9,7 @@ use std::alloc::{AllocError, Global};
 use std::str::SplitWhitespace;
 use test_kit::{say, shown};
 
-/// What comes of what is asked of the stock on which a file's orders act.
+/// Runs one case on the stock of a file, and returns its result as text.
 pub fn answer(alloc: Global, stock: &mut PlainRows, asked: &str, text: &[u8]) -> Option<String> {
     let mut words = shown(text).split_whitespace();
     match asked {
@@ -40,7 +40,7 @@ fn run(words: &mut SplitWhitespace<'_>) -> Option<Run> {
     Some(Run { first, count })
 }
 
-/// What an order on a run, and perhaps an agent, comes to.
+/// Runs an order on a run, with an optional agent.
 fn order(
     stock: &mut PlainRows,
     asked: &str,
@@ -80,7 +80,7 @@ fn holder(alloc: Global, stock: &mut PlainRows, words: &mut SplitWhitespace<'_>)
     }
 }
 
-/// How many runs there are, and each: its first number, its count and its holder.
+/// Returns the number of runs, and for each its first number, its count and its holder.
 fn runs_said(alloc: Global, runs: &[StockRun]) -> Option<String> {
     let mut said = format!(in alloc; "{}", runs.len()).ok()?;
     for run in runs {
@@ -90,7 +90,7 @@ fn runs_said(alloc: Global, runs: &[StockRun]) -> Option<String> {
     Some(said)
 }
 
-/// Numbers with their holders, each given by a serial of prefix 020 and a word.
+/// Reads numbers with their holders, each a serial of prefix 020 and a word.
 fn all_held(alloc: Global, words: &mut SplitWhitespace<'_>) -> Option<Vec<Held>> {
     let mut all = Vec::new(alloc);
     for _ in 0..100 {

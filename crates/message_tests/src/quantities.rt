@@ -5,7 +5,7 @@ use shipment_machine::Amount;
 use std::alloc::Global;
 use test_kit::{say, shown};
 
-/// What comes of what is asked.
+/// Runs one case and returns its result as text.
 pub fn answer(alloc: Global, asked: &str, text: &[u8]) -> Option<String> {
     match asked {
         "weight" => printed_or_none(alloc, weight_of(text).map(|tenths| tenths.number())),
@@ -16,7 +16,7 @@ pub fn answer(alloc: Global, asked: &str, text: &[u8]) -> Option<String> {
     }
 }
 
-/// The pieces, the tenths and the total of a quantity that is read.
+/// Returns the pieces, the tenths and the total of a quantity.
 fn read(alloc: Global, text: &[u8]) -> Option<String> {
     match read_quantity(text) {
         Some(quantity) => quantity_said(alloc, &quantity),
@@ -35,7 +35,7 @@ fn code(word: &str) -> Option<ShipmentCode> {
     }
 }
 
-/// How a quantity is written: its code, its pieces and its tenths, and perhaps its total.
+/// Writes a quantity from its code, its pieces, its tenths, and an optional total.
 fn write(alloc: Global, text: &[u8]) -> Option<String> {
     let mut words = words(text)?;
     let code = code(words.next()?)?;
@@ -50,7 +50,7 @@ fn write(alloc: Global, text: &[u8]) -> Option<String> {
     say(alloc, shown(&out[..end]))
 }
 
-/// How an amount is printed: its pieces and its tenths.
+/// Returns an amount of pieces and tenths as it is printed.
 fn amount(alloc: Global, text: &[u8]) -> Option<String> {
     let mut words = words(text)?;
     let pieces = next_number(&mut words)?;

@@ -1,4 +1,4 @@
-//! Answers as texts, keys, and what an order counts.
+//! Answers as texts, keys, and the counts of orders.
 use crate::said::{next_number, next_small_number, yes_or_no};
 use agent_stock::{Order, Run, RunCount};
 use awb_number::Awb;
@@ -12,7 +12,7 @@ use std::alloc::Global;
 use std::str::SplitWhitespace;
 use test_kit::{say, shown};
 
-/// What comes of what is asked.
+/// Runs one case and returns its result as text.
 pub fn answer(alloc: Global, asked: &str, text: &[u8]) -> Option<String> {
     let mut words = shown(text).split_whitespace();
     match asked {
@@ -44,7 +44,7 @@ pub fn answer(alloc: Global, asked: &str, text: &[u8]) -> Option<String> {
     }
 }
 
-/// What a refusal is about, by its kind and its parts.
+/// Reads the subject of a refusal, by its kind and its parts.
 fn detail(words: &mut SplitWhitespace<'_>) -> Option<Detail> {
     match words.next()? {
         "nothing" => Some(Detail::Nothing),
@@ -72,7 +72,7 @@ fn number(words: &mut SplitWhitespace<'_>) -> Option<Awb> {
     Awb::read(words.next()?.as_bytes().first_chunk()?).ok()
 }
 
-/// A flight on a day, which is given by its number.
+/// Reads a flight on a day, given by its number.
 fn flight(words: &mut SplitWhitespace<'_>) -> Option<FlightDate> {
     Some(FlightDate {
         flight: Flight::read(words.next()?.as_bytes())?,
@@ -100,7 +100,7 @@ fn why(word: &str) -> Option<Why> {
     }
 }
 
-/// An order on so many numbers.
+/// Returns an order on this many numbers.
 fn order(verb: &str, count: u32) -> Option<Order> {
     let first = Awb::new(20, 1234567)?;
     let run = Run {
@@ -114,18 +114,16 @@ fn order(verb: &str, count: u32) -> Option<Order> {
     }
 }
 
-/// What an accepted order counts.
 fn counted(alloc: Global, order: &Order) -> Option<String> {
     let numbers = count_of_order(order);
     format!(in alloc; "{numbers}").ok()
 }
 
-/// A refusal's number, and what it is about.
+/// Returns a refusal's number, and its subject.
 fn refusal_said(alloc: Global, refusal: &Refusal) -> Option<String> {
     format!(in alloc; "{} [{}]", refusal.number, refusal.detail).ok()
 }
 
-/// The text of a key, as bytes and as a text.
 fn key(alloc: Global, key: &Key) -> Option<String> {
     format!(in alloc; "{} {}", shown(key.as_bytes()), key.as_str()).ok()
 }

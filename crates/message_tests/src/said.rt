@@ -1,16 +1,16 @@
-//! What answers are made of.
+//! Parts of answers.
 use imp_fields::{Quantity, TextFault, Token};
 use std::alloc::Global;
 use std::fmt;
 use std::str::SplitWhitespace;
 use test_kit::{say, shown};
 
-/// The answer to whether something is so.
+/// Returns `yes` or `no`.
 pub fn yes_or_no(alloc: Global, is_so: bool) -> Option<String> {
     say(alloc, if is_so { "yes" } else { "no" })
 }
 
-/// What is printed of a value, or `none`.
+/// Returns a value as it is printed, or `none`.
 pub fn printed_or_none<T: fmt::Display + Drop>(alloc: Global, value: Option<T>) -> Option<String> {
     match value {
         Some(value) => format!(in alloc; "{value}").ok(),
@@ -18,7 +18,7 @@ pub fn printed_or_none<T: fmt::Display + Drop>(alloc: Global, value: Option<T>) 
     }
 }
 
-/// A number, or `-`.
+/// Returns a number, or `-`.
 pub fn told(alloc: Global, number: Option<u32>) -> Option<String> {
     match number {
         Some(number) => format!(in alloc; "{number}").ok(),
@@ -26,7 +26,7 @@ pub fn told(alloc: Global, number: Option<u32>) -> Option<String> {
     }
 }
 
-/// A quantity: its pieces, its tenths and its total.
+/// Returns a quantity: its pieces, its tenths and its total.
 pub fn quantity_said(alloc: Global, quantity: &Quantity) -> Option<String> {
     let pieces = quantity.pieces.number();
     let tenths = told(alloc, quantity.weight.map(|tenths| tenths.number()))?;
@@ -34,14 +34,13 @@ pub fn quantity_said(alloc: Global, quantity: &Quantity) -> Option<String> {
     format!(in alloc; "{pieces} {tenths} {total}").ok()
 }
 
-/// A part of a text: where it stands, and its bytes.
+/// Returns a token: its position and its bytes.
 pub fn token_said(alloc: Global, token: &Token<'_>) -> Option<String> {
     let (start, end, text) = (token.start, token.end, shown(token.text));
     format!(in alloc; "{start}-{end} [{text}]").ok()
 }
 
-/// The text that a list of numbers is, without the zeros at its end, where it is one of bytes of a
-/// text.
+/// Returns a list of numbers as text, without trailing zeros, if they are the bytes of one.
 fn text_of(alloc: Global, list: &str) -> Option<String> {
     let mut bytes = Vec::new(alloc);
     for number in list.split(", ") {
@@ -50,7 +49,7 @@ fn text_of(alloc: Global, list: &str) -> Option<String> {
     say(alloc, shown(&bytes).trim_end_matches('\0'))
 }
 
-/// Appends a list, as a text where it is one, and what stands behind it.
+/// Appends a list, as text if it is one, and the rest.
 fn push_list(alloc: Global, said: &mut String, list: &str, rest: &str) -> Option<()> {
     match text_of(alloc, list) {
         Some(text) => said.push_str(text.as_str()).ok()?,
@@ -60,7 +59,7 @@ fn push_list(alloc: Global, said: &mut String, list: &str, rest: &str) -> Option
     said.push_str(rest).ok()
 }
 
-/// What is written of a value, with its lists of bytes as texts: `letters: [70, 82, 65]` as
+/// Returns the debug form of a value, with its lists of bytes as texts: `letters: [70, 82, 65]` as
 /// `letters: [FRA]`.
 pub fn readable(alloc: Global, written: &str) -> Option<String> {
     let mut said = String::new(alloc);
@@ -76,7 +75,7 @@ pub fn readable(alloc: Global, written: &str) -> Option<String> {
     Some(said)
 }
 
-/// The fault of a text, or `none`.
+/// Returns the fault of a text, or `none`.
 pub fn fault_said(alloc: Global, fault: Option<TextFault>) -> Option<String> {
     match fault {
         Some(TextFault { line, why }) => format!(in alloc; "{line} {why:?}").ok(),
@@ -84,22 +83,22 @@ pub fn fault_said(alloc: Global, fault: Option<TextFault>) -> Option<String> {
     }
 }
 
-/// The words of a text.
+/// Returns the words of a text.
 pub fn words(text: &[u8]) -> Option<SplitWhitespace<'_>> {
     Some(std::str::from_utf8(text).ok()?.split_whitespace())
 }
 
-/// The number that the next word is.
+/// Reads the next word as a number.
 pub fn next_number(words: &mut SplitWhitespace<'_>) -> Option<u32> {
     words.next()?.parse::<u32>().ok()
 }
 
-/// The small number that the next word is.
+/// Reads the next word as a small number.
 pub fn next_small_number(words: &mut SplitWhitespace<'_>) -> Option<u16> {
     words.next()?.parse::<u16>().ok()
 }
 
-/// What came in turn, where equal answers beside one another are one: `6 Byte, 7-29 Long`.
+/// A sequence of answers, with equal neighbours combined: `6 Byte, 7-29 Long`.
 #[derive(Drop)]
 pub struct Runs {
     alloc: Global,
@@ -110,7 +109,7 @@ pub struct Runs {
 }
 
 impl Runs {
-    /// Nothing yet.
+    /// Starts without answers.
     pub fn new(alloc: Global, first: usize) -> Runs {
         Runs {
             alloc,
@@ -121,7 +120,6 @@ impl Runs {
         }
     }
 
-    /// Ends the run.
     fn close(&mut self) -> Option<()> {
         if self.first == self.end {
             return Some(());
@@ -132,7 +130,7 @@ impl Runs {
         self.said.push_str(said.as_str()).ok()
     }
 
-    /// What came next.
+    /// Adds the next answer.
     pub fn push(&mut self, came: &str) -> Option<()> {
         if self.last.as_str() != came {
             self.close()?;
@@ -143,7 +141,7 @@ impl Runs {
         Some(())
     }
 
-    /// All runs.
+    /// Returns all runs.
     pub fn said(mut self) -> Option<String> {
         self.close()?;
         Some(self.said)

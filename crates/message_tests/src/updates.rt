@@ -1,4 +1,4 @@
-//! Status updates that are sent.
+//! Sent status updates.
 use crate::notices::consigned;
 use crate::said::words;
 use fsu_text::{Handling, SentCarriage, SentStatus, SentUpdate, read, write_fsu};
@@ -7,9 +7,8 @@ use station_days::{DayMonth, DayTime};
 use std::alloc::Global;
 use std::str::SplitWhitespace;
 
-/// What comes of what is asked: the text of an update on ten pieces of 100 kilograms from FRA to
-/// JFK, written behind a letter X and read again. It is given by the airport, its pieces, their
-/// tenths and what happened.
+/// Returns the text of an update about ten pieces of 100 kilograms from FRA to JFK, written after a
+/// letter X and read back. It is given by the airport, its pieces, their tenths and the event.
 pub fn answer(alloc: Global, asked: &str, text: &[u8]) -> Option<String> {
     let mut words = words(text)?;
     let here = Airport::read(words.next()?.as_bytes())?;
@@ -30,7 +29,7 @@ pub fn answer(alloc: Global, asked: &str, text: &[u8]) -> Option<String> {
     String::from_utf8(out).ok()
 }
 
-/// Whether what stands behind the first letter is read.
+/// Returns whether the text after the first letter is read.
 fn is_read(alloc: Global, text: &[u8]) -> bool {
     let [_, text @ ..] = text else {
         return false;

@@ -1,4 +1,4 @@
--- A waybill that is built on a flight.
+-- Waybills built on a flight.
 use Rattle.std.specs.Prelude.{ℕ, Bool, nat_lt, List}
 use Rattle.shipment_machine.specs.declared.flight.FlightDate.{FlightDate}
 use Rattle.shipment_machine.specs.declared.moves.Move.{Move}
@@ -8,14 +8,12 @@ use Rattle.shipment_machine.specs.declared.moves.Place.TheVariants.{Built}
 use Rattle.shipment_machine.specs.Cargo.{Cargo}
 use Rattle.shipment_machine.specs.Views.{declaration}
 
--- whether a move goes onto a flight
 abbrev pub is_onto : FlightDate → Move → Bool
 is_onto flight m = same_place (Built flight) m.to
 
--- whether something of it is built
 abbrev pub is_built_on : List Move → FlightDate → ℕ → Bool
 is_built_on book flight w = nat_lt 0 (built book w flight).pieces
 
--- what is declared of it, and what is built
+-- the declaration, and the amount built
 abbrev pub aboard_of : Cargo → FlightDate → ℕ → FlightLoad
 aboard_of s flight w = record { awb = w; declared = declaration s w; load = built s.book w flight }

@@ -1,4 +1,4 @@
--- Amounts that a station may have of a waybill.
+-- Bounds of a waybill's amounts.
 use Rattle.std.specs.Prelude.{◌≤◌}
 use Rattle.shipment_machine.specs.declared.amount.Amount.{Amount}
 use Rattle.imp_fields.specs.Amount.{most_pieces, most_tenths}

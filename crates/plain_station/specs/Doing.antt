@@ -1,4 +1,4 @@
--- What is done with an input that isn't known yet.
+-- Acting on a new input.
 use Rattle.std.specs.Prelude.{◌≡◌, ℕ, true, false, Result, Ok, Err}
 use Rattle.shipment_machine.specs.Cargo.{Cargo}
 use Rattle.shipment_machine.specs.Lawful.{IsLawful}
@@ -13,12 +13,12 @@ pub record IsSteady (s : Cargo) : Type 0 where
   pub lawful : IsLawful s
   pub room : has_room s ≡ true
 
--- an input is refused for its own reason, or where the rows afterwards couldn't all be numbered
+-- an input is refused for its own reason, or if the rows couldn't all be numbered
 abbrev pub RefusedFor : Result Acted Refusal → Refusal → Type 0
 RefusedFor (Err due) told = due ≡ told
 RefusedFor (Ok a) told = (has_room (with_notices a) ≡ false) × (told ≡ record { number = 402; detail = detail.Nothing })
 
--- what was done: all that the input does, or nothing
+-- the whole effect of the input, or nothing
 abbrev pub Does : Result Acted Refusal → Cargo → Result ℕ ActFault → Cargo → Type 0
 Does acted old (Ok count) new = (a : Acted) × (acted ≡ Ok a) × (has_room (with_notices a) ≡ true) × (count ≡ a.count) × (new ≡ with_notices a)
 Does acted old (Err (fault.Refused refusal)) new = RefusedFor acted refusal × (new ≡ old)

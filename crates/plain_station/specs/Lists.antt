@@ -1,4 +1,4 @@
--- The cargo that lists of rows in memory stand for.
+-- The cargo in lists of rows.
 use Rattle.std.specs.Prelude.{ℕ, ◌&&◌, ◌==◌, Option, List, Vec, map}
 use Rattle.std.specs.Option.{option_map}
 use Rattle.std.specs.List.{find}
@@ -17,7 +17,7 @@ use Rattle.plain_station.specs.declared.rows.PartRow.{PartRow}
 use Rattle.plain_station.specs.declared.rows.TrailRow.{TrailRow}
 use Rattle.plain_station.specs.declared.lists.CargoLists.{CargoLists}
 
--- The first row of a key holds: rows are written in front of older ones.
+-- The first row of a key counts: newer rows are before older ones.
 abbrev pub declared_in : List DeclaredRow → ℕ → Option Declared
 declared_in rows w = option_map (λ row. row.declared) (find (λ row. w == row.awb) rows)
 

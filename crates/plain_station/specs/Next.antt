@@ -1,4 +1,4 @@
--- The cargo where some rows are to be taken over.
+-- The cargo after some rows are replaced.
 use Rattle.std.specs.Prelude.{◌++◌}
 use Rattle.agent_stock.specs.Plain.{holders_of}
 use Rattle.shipment_machine.specs.Cargo.{Cargo}

@@ -1,4 +1,4 @@
--- A cargo is lawful in one way at most.
+-- A cargo is lawful in at most one way.
 use Rattle.std.specs.Prelude.{Option, List, [], ◌∷◌}
 use Rattle.std.proofs.Props.{props}
 use Rattle.shipment_machine.specs.declared.flight.FlightDate.{FlightDate}

@@ -1,11 +1,10 @@
--- Where pieces are counted.
+-- The places counted.
 use Rattle.std.specs.Prelude.{Bool}
 use Rattle.shipment_machine.specs.declared.moves.Place.{Place}
 use Rattle.shipment_machine.specs.Book.{same_place, in_store}
 use Rattle.plain_station.specs.declared.balances.Spot.{Spot}
 use Rattle.plain_station.specs.declared.balances.Spot.TheVariants.{At, Store}
 
--- whether a place is of it
 abbrev pub is_in : Spot → Place → Bool
 is_in (At place) = same_place place
 is_in Store = in_store

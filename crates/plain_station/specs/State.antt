@@ -1,4 +1,4 @@
--- The state that a plain station has.
+-- The state of a plain station.
 use Rattle.station_core.specs.Step.{State}
 use Rattle.plain_station.specs.Lists.{cargo_of}
 use Rattle.plain_station.specs.Kept.{kept_under, kept_of}

@@ -1,4 +1,4 @@
-//! Rows of the movement book and of the trail that are asked for.
+//! Queries of the movement book and of the trail.
 ghost use Rattle.std.specs.Prelude.{◌≡◌, ◌==◌, nat_lt, filter};
 ghost use Rattle.station_core.specs.Readers.{is_of_flight, last_of, lines_for, movements_for};
 
@@ -6,7 +6,7 @@ use awb_number::Awb;
 use shipment_machine::{FlightDate, Move, Place};
 use station_core::{BookQuery, BookRow, TrailQuery, TrailRow};
 
-/// Whether a movement is of a flight: to or from what is built for it, or with its name.
+/// Returns whether a movement is one of a flight: to or from its built place, or with its name.
 fn is_of_flight(movement: &Move, flight: &FlightDate) -> bool
     ensures { result ≡ is_of_flight flight.now movement.now }
 {
@@ -19,7 +19,7 @@ fn is_of_flight(movement: &Move, flight: &FlightDate) -> bool
         }
 }
 
-/// Drops all rows but the last ones, at most so many.
+/// Keeps only the last rows, at most `most`.
 fn keep_last<Row: Drop>(rows: &mut Vec<Row>, most: u32)
     ensures { rows.new.items ≡ last_of most rows.old.items }
 {
@@ -28,28 +28,24 @@ fn keep_last<Row: Drop>(rows: &mut Vec<Row>, most: u32)
     rows.truncate(rows.len() - before);
 }
 
-/// Drops the movements without a greater number.
 fn keep_after(rows: &mut Vec<BookRow>, number: u32)
     ensures { rows.new.items ≡ filter (λ row. nat_lt number row.number) rows.old.items }
 {
     rows.retain(|row| row.number > number);
 }
 
-/// Drops the movements of other waybills.
 fn keep_of(rows: &mut Vec<BookRow>, awb: Awb)
     ensures { rows.new.items ≡ filter (λ row. row.movement.awb == awb) rows.old.items }
 {
     rows.retain(|row| row.movement.awb == awb);
 }
 
-/// Drops the movements that aren't of a flight.
 fn keep_on(rows: &mut Vec<BookRow>, flight: FlightDate)
     ensures { rows.new.items ≡ filter (λ row. is_of_flight flight row.movement) rows.old.items }
 {
     rows.retain(|row| is_of_flight(&row.movement, &flight));
 }
 
-/// Keeps the movements that are asked for.
 pub(crate) fn keep_movements(rows: &mut Vec<BookRow>, query: &BookQuery)
     ensures { rows.new.items ≡ movements_for query.now rows.old.items }
 {
@@ -62,21 +58,18 @@ pub(crate) fn keep_movements(rows: &mut Vec<BookRow>, query: &BookQuery)
     }
 }
 
-/// Drops the lines without a greater number.
 fn keep_lines_after(rows: &mut Vec<TrailRow>, number: u32)
     ensures { rows.new.items ≡ filter (λ row. nat_lt number row.number) rows.old.items }
 {
     rows.retain(|row| row.number > number);
 }
 
-/// Drops the lines of other waybills.
 fn keep_lines_of(rows: &mut Vec<TrailRow>, awb: Awb)
     ensures { rows.new.items ≡ filter (λ row. row.awb == awb) rows.old.items }
 {
     rows.retain(|row| row.awb == awb);
 }
 
-/// Keeps the lines that are asked for.
 pub(crate) fn keep_lines(rows: &mut Vec<TrailRow>, query: &TrailQuery)
     ensures { rows.new.items ≡ lines_for query.now rows.old.items }
 {

@@ -1,4 +1,4 @@
-//! What the movement book says of a waybill.
+//! The balances of a waybill, from the movement book.
 ghost use Rattle.std.specs.Prelude.{◌≡◌, ◌≤◌, ◌-◌, length};
 ghost use Rattle.plain_station.specs.Bounds.{IsWithin};
 ghost use Rattle.plain_station.specs.Spots.{is_in};
@@ -9,14 +9,13 @@ ghost use Rattle.station_core.specs.Step.{most_rows};
 use awb_number::Awb;
 use shipment_machine::{Amount, Move, Place};
 
-/// Whether a place is in the store.
 fn is_stored(place: &Place) -> bool
     ensures { result ≡ in_store place.now }
 {
     matches!(place, Place::Free | Place::Built(_))
 }
 
-/// Pieces and tenths, as a sum over the book has them.
+/// Pieces and tenths, summed over the book.
 #[derive(Clone, Copy)]
 struct Total {
     pieces: u64,
@@ -29,7 +28,7 @@ const NOTHING: Total = Total {
 };
 
 impl Total {
-    /// What is left after something is taken away.
+    /// Returns the difference of two sums.
     fn less(&self, other: &Total) -> Amount
         requires pieces { self.now.pieces - other.now.pieces ≤ most_pieces }
         requires tenths { self.now.tenths - other.now.tenths ≤ most_tenths }
@@ -46,7 +45,7 @@ impl Total {
     }
 }
 
-/// Where pieces are counted: a place, or the store with all that is free or built.
+/// The places counted: one place, or the store with all that is free or built.
 #[derive(Clone, Copy)]
 enum Spot {
     At(Place),
@@ -54,7 +53,6 @@ enum Spot {
 }
 
 impl Spot {
-    /// Whether a place is of it.
     fn has(&self, place: &Place) -> bool
         ensures { result ≡ is_in self.now place.now }
     {
@@ -65,7 +63,7 @@ impl Spot {
     }
 }
 
-/// What moved there.
+/// Returns the sum that moved there.
 fn total_in(book: &[Move], awb: &Awb, spot: &Spot) -> Total
     requires { length book.now ≤ most_rows }
     ensures pieces { result.pieces ≡ moved_in pieces_of book.now awb.now (is_in spot.now) }
@@ -81,7 +79,7 @@ fn total_in(book: &[Move], awb: &Awb, spot: &Spot) -> Total
     total
 }
 
-/// What moved from there.
+/// Returns the sum that moved from there.
 fn total_out(book: &[Move], awb: &Awb, spot: &Spot) -> Total
     requires { length book.now ≤ most_rows }
     ensures pieces { result.pieces ≡ moved_out pieces_of book.now awb.now (is_in spot.now) }
@@ -97,7 +95,6 @@ fn total_out(book: &[Move], awb: &Awb, spot: &Spot) -> Total
     total
 }
 
-/// What is at a place.
 pub(crate) fn held(book: &[Move], awb: &Awb, place: &Place) -> Amount
     requires few { length book.now ≤ most_rows }
     requires within { IsWithin (held book.now awb.now (same_place place.now)) }
@@ -107,7 +104,6 @@ pub(crate) fn held(book: &[Move], awb: &Awb, place: &Place) -> Amount
     total_in(book, awb, &spot).less(&total_out(book, awb, &spot))
 }
 
-/// What is in the store.
 pub(crate) fn stored(book: &[Move], awb: &Awb) -> Amount
     requires few { length book.now ≤ most_rows }
     requires within { IsWithin (store book.now awb.now) }
@@ -117,7 +113,6 @@ pub(crate) fn stored(book: &[Move], awb: &Awb) -> Amount
     total_in(book, awb, &spot).less(&total_out(book, awb, &spot))
 }
 
-/// What came from a place.
 pub(crate) fn drawn(book: &[Move], awb: &Awb, place: &Place) -> Amount
     requires few { length book.now ≤ most_rows }
     requires within { IsWithin (drawn book.now awb.now (same_place place.now)) }
@@ -127,7 +122,6 @@ pub(crate) fn drawn(book: &[Move], awb: &Awb, place: &Place) -> Amount
     total_out(book, awb, &spot).less(&total_in(book, awb, &spot))
 }
 
-/// Whether the book has a move of a waybill.
 pub(crate) fn is_moved(book: &[Move], awb: &Awb) -> bool
     ensures { result ≡ has_moves book.now awb.now }
 {

@@ -14,7 +14,7 @@ use shipment_machine::laws::opening_law;
 use shipment_machine::{Balances, Place};
 use std::alloc::Global;
 
-/// The cargo of a station in memory: it is lawful, and its rows can all be numbered.
+/// The cargo of a station in memory. It is lawful, and its rows can all be numbered.
 #[derive(Drop)]
 pub(crate) struct PlainCargo {
     pub(crate) lists: CargoLists,
@@ -22,7 +22,6 @@ pub(crate) struct PlainCargo {
 }
 
 impl PlainCargo {
-    /// The cargo of a station at an airport with nothing in it.
     pub(crate) fn new(alloc: Global, here: Airport) -> PlainCargo
         ensures { cargo_of result.lists ≡ opening_cargo here }
     {
@@ -32,7 +31,6 @@ impl PlainCargo {
         }
     }
 
-    /// What the moves of a waybill add up to.
     pub(crate) fn balances(&self, awb: &Awb) -> Balances
         ensures { result ≡ balances_of self.now.lists.book.items awb.now }
     {

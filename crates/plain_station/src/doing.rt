@@ -1,4 +1,4 @@
-//! What is done with an input that isn't known yet.
+//! Acting on a new input.
 ghost use Rattle.std.specs.Prelude.{◌≡◌, ℕ, List};
 ghost use Rattle.station_days.specs.Date.{LocalMinute};
 ghost use Rattle.agent_stock.specs.Stock.{order_refusal};
@@ -19,7 +19,6 @@ use station_days::Moment;
 use telegrams::Telegram;
 
 impl PlainCargo {
-    /// Does an order on the stock.
     fn do_order(&mut self, order: &Order) -> Result<u32, ActFault>
         ensures { Does (stock_acted (cargo_of self.old.lists) order.now
             (order_refusal (cargo_of self.old.lists).holders order.now)) (cargo_of self.old.lists)
@@ -40,7 +39,7 @@ impl PlainCargo {
         }
     }
 
-    /// Does a command on cargo, where the telegram in work has this text.
+    /// Acts on a cargo command; `text` is that of the current telegram.
     fn do_shipment(
         &mut self,
         text: &[u8],
@@ -55,12 +54,11 @@ impl PlainCargo {
             Ok(plan) => self.lists.carry_out(text, &plan),
             Err(PlanFault::Memory) => Err(ActFault::Memory),
             Err(PlanFault::Refused(refusal)) => Err(ActFault::Refused(refusal)),
-            // The view is that of this very cargo.
+            // The view is that of this same cargo.
             Err(PlanFault::Unfit) => unreachable!(),
         }
     }
 
-    /// Does a command of a caller.
     pub(crate) fn do_command(&mut self, command: &Command, at: Moment) -> Result<u32, ActFault>
         ensures { (key : List ℕ) → Does (acted (cargo_of self.old.lists) (Keyed key command.now) at)
             (cargo_of self.old.lists) result (cargo_of self.new.lists) }
@@ -74,7 +72,6 @@ impl PlainCargo {
         }
     }
 
-    /// Does what a telegram says.
     pub(crate) fn do_telegram<'a>(
         &mut self,
         telegram: &'a Telegram<'a>,

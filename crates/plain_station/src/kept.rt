@@ -1,4 +1,4 @@
-//! What was accepted, and the counts that were returned.
+//! Accepted inputs and their counts.
 ghost use Rattle.std.specs.Prelude.{◌≡◌};
 ghost use Rattle.std.specs.Option.{option_copied, option_map};
 ghost use Rattle.std.specs.List.{find};
@@ -8,7 +8,7 @@ ghost use Rattle.plain_station.specs.Kept.{kept_under, kept_of};
 
 use station_core::{Answer, Key, repeated_key};
 
-/// What was accepted under a key.
+/// The reply stored under a key.
 #[derive(Drop)]
 pub(crate) struct KeptReply {
     pub(crate) key: Key,
@@ -16,7 +16,7 @@ pub(crate) struct KeptReply {
     pub(crate) count: u32,
 }
 
-/// A telegram that was accepted, by its normal text.
+/// An accepted telegram, by its normal text.
 #[derive(Drop)]
 pub(crate) struct KeptText {
     pub(crate) text: Vec<u8>,
@@ -31,7 +31,6 @@ fn reply_under<'a>(replies: &'a [KeptReply], key: &Key) -> Option<&'a KeptReply>
         .find(|kept| key.as_bytes() == kept.key.as_bytes())
 }
 
-/// The answer to a request under a key that is known.
 pub(crate) fn answer_under(replies: &[KeptReply], key: &Key, request: &str) -> Option<Answer>
     ensures { result ≡ key_answer (kept_under replies.now key.now) request.now }
 {
@@ -39,7 +38,6 @@ pub(crate) fn answer_under(replies: &[KeptReply], key: &Key, request: &str) -> O
     Some(repeated_key(kept.request.as_str(), kept.count, request))
 }
 
-/// The count of a telegram that is known.
 pub(crate) fn count_of(texts: &[KeptText], text: &[u8]) -> Option<u32>
     ensures { result ≡ kept_of texts.now text.now }
 {

@@ -1,4 +1,4 @@
-//! A station in memory alone: the plain program that does what the definitions say.
+//! A station in memory: the plain program that follows the definitions.
 #![tactic(auto)]
 
 mod asked;

@@ -1,4 +1,5 @@
-//! The readers of the flights and of what they are to bring.
+//! The readers of flights and expectations. They hand out rows until the sink stops, or none if
+//! memory runs out.
 ghost use Rattle.std.specs.Prelude.{◌≡◌, ◌≤◌, length, sum_by, List, ℕ, take, IsSome, IfOk, OnOk, OnErr, IfErr};
 ghost use Rattle.row_sinks.specs.Handed.{HandedOut};
 ghost use Rattle.shipment_machine.specs.Book.{built};
@@ -20,7 +21,6 @@ use station_core::{
 use std::alloc::AllocError;
 
 impl PlainCargo {
-    /// The flights that are noted, in their order.
     fn noted(&self) -> Result<Vec<NotedFlight>, AllocError>
         ensures { IfOk result (λ noted. AreNoted (cargo_of self.now.lists).flights noted.items) }
     {
@@ -31,7 +31,7 @@ impl PlainCargo {
         Ok(noted)
     }
 
-    /// What is built of some waybills on a flight: pieces, and tenths.
+    /// Returns the sums of pieces and of tenths that are built of some waybills on a flight.
     fn built_of(&self, numbers: &[Awb], flight: &FlightDate) -> (u64, u64)
         requires { length numbers.now ≤ most_waybills }
         ensures pieces { result.0 ≡ sum_by
@@ -49,7 +49,6 @@ impl PlainCargo {
         (pieces, tenths)
     }
 
-    /// A flight with what is built on it.
     fn flight_row(&self, noted: &NotedFlight) -> Result<FlightRow, AllocError>
         ensures { IfOk result (λ row. row ≡ flight_row (cargo_of self.now.lists) noted.now) }
     {
@@ -64,7 +63,6 @@ impl PlainCargo {
         })
     }
 
-    /// The flights with what is built on them, in their order.
     fn flight_rows(&self) -> Result<Vec<FlightRow>, AllocError>
         ensures { IfOk result (λ rows. AreFlightRows (cargo_of self.now.lists) rows.items) }
     {
@@ -75,8 +73,7 @@ impl PlainCargo {
         Ok(rows)
     }
 
-    /// Hands out the flights that are noted, with what is built on each, by their written form and
-    /// then by the day, until the sink takes no more. Out of memory, it hands out none.
+    /// Hands out the noted flights with their loads, by written form and then by day.
     pub(crate) fn flights<S: Sink<FlightRow>>(&self, sink: &mut S) -> Result<(), ActFault>
         ensures rows { OnOk result ((rows : List AnyFlight)
             × AreFlightRows (cargo_of self.now.lists) rows
@@ -96,7 +93,6 @@ impl PlainCargo {
 }
 
 impl PlainCargo {
-    /// What flights are to bring, in its order.
     fn expectations(&self) -> Result<Vec<Expectation>, AllocError>
         ensures { IfOk result (λ all. AreExpectations (cargo_of self.now.lists).expected
             all.items) }
@@ -108,7 +104,6 @@ impl PlainCargo {
         Ok(all)
     }
 
-    /// What a flight is to bring of a waybill, with the waybill's route.
     fn expected_row(&self, expectation: &Expectation) -> ExpectedRow
         requires declared { IsSome ((cargo_of self.now.lists).declared expectation.now.awb) }
         ensures { result ≡ expected_row (cargo_of self.now.lists) expectation.now }
@@ -121,7 +116,7 @@ impl PlainCargo {
         }
     }
 
-    /// What flights are to bring of what is asked for, with the waybills' routes, in its order.
+    /// Returns the rows of the queried expectations, in order.
     fn expected_rows(&self, query: &ExpectedQuery) -> Result<Vec<ExpectedRow>, AllocError>
         ensures { IfOk result (λ rows.
             AreExpectedBy query.now (cargo_of self.now.lists) rows.items) }
@@ -134,8 +129,7 @@ impl PlainCargo {
         Ok(rows)
     }
 
-    /// Hands out what flights are to bring of what is asked for, by flight and then by waybill,
-    /// until the sink takes no more. Out of memory, it hands out nothing.
+    /// Hands out the queried expectations, by flight and then by waybill.
     pub(crate) fn expected_by<S: Sink<ExpectedRow>>(
         &self,
         query: &ExpectedQuery,

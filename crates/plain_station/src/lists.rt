@@ -10,14 +10,14 @@ use imp_fields::Airport;
 use shipment_machine::{Declared, Expected, FlightDate, Move, Outbound, Part};
 use std::alloc::Global;
 
-/// The rows of a cargo, in lists. A row that is written anew stands in front of the older one.
+/// The rows of a cargo, in lists. A newer row is before the older one that it replaces.
 #[derive(Drop)]
 pub(crate) struct CargoLists {
     pub(crate) alloc: Global,
     pub(crate) here: Airport,
     pub(crate) stock: PlainRows,
     pub(crate) declared: Vec<DeclaredRow>,
-    // In the order in which they were made, as the trail and the outbox.
+    // In the order in which they were made, like the trail and the outbox.
     pub(crate) book: Vec<Move>,
     pub(crate) flights: Vec<FlightRow>,
     pub(crate) expected: Vec<ExpectedRow>,
@@ -28,7 +28,6 @@ pub(crate) struct CargoLists {
 }
 
 impl CargoLists {
-    /// The lists of a station at an airport, with no row in them.
     pub(crate) fn new(alloc: Global, here: Airport) -> CargoLists
         ensures { cargo_of result ≡ opening_cargo here }
     {
@@ -47,7 +46,6 @@ impl CargoLists {
         }
     }
 
-    /// What is declared of a waybill.
     pub(crate) fn declared_of(&self, awb: &Awb) -> Option<Declared>
         ensures { result ≡ declared_in self.now.declared.items awb.now }
     {
@@ -55,7 +53,6 @@ impl CargoLists {
         Some(row.declared)
     }
 
-    /// What is declared of a waybill that is declared.
     pub(crate) fn declaration_of(&self, awb: &Awb) -> Declared
         requires declared { IsSome (declared_in self.now.declared.items awb.now) }
         ensures { declared_in self.now.declared.items awb.now ≡ Some result }
@@ -66,7 +63,6 @@ impl CargoLists {
         }
     }
 
-    /// What is noted of an outbound flight.
     pub(crate) fn outbound_of(&self, flight: &FlightDate) -> Option<Outbound>
         ensures { result ≡ flights_in self.now.flights.items flight.now }
     {
@@ -74,7 +70,6 @@ impl CargoLists {
         Some(row.outbound)
     }
 
-    /// What a flight brings of a waybill.
     pub(crate) fn expected_of(&self, flight: &FlightDate, awb: &Awb) -> Option<Expected>
         ensures { result ≡ expected_in self.now.expected.items flight.now awb.now }
     {
@@ -82,7 +77,6 @@ impl CargoLists {
         Some(row.expected)
     }
 
-    /// The telegram of a part of a manifest that was taken.
     pub(crate) fn text_of(&self, part: &Part) -> Option<&[u8]>
         ensures { option_copied result ≡ parts_in self.now.parts.items part.now }
     {

@@ -1,4 +1,4 @@
-//! Rows that rise: what is noted of flights, and what flights are to bring.
+//! Sorted rows of noted flights and of expectations.
 ghost use Rattle.std.specs.Prelude.{◌≡◌, ◌≤◌, ◌&&◌, ◌==◌, ◌++◌, ◌∷◌, [], None, Err, IfSome, OnOk, IsTrue, List, length};
 ghost use Rattle.std.specs.List.{list_any};
 ghost use Rattle.std.specs.List.Sorted.{IsBinarySearchResult};
@@ -15,7 +15,7 @@ use station_core::{Expectation, NotedFlight};
 use std::alloc::AllocError;
 use std::cmp::Ordering;
 
-/// How two flights stand to each other: by their written form, and then by the day.
+/// Compares two flights by their written form, and then by day.
 fn compare(a: &FlightDate, b: &FlightDate) -> Ordering
     ensures order { result ≡ by_flight a.now b.now }
     ensures same { result ≡ Equal → IsTrue (same_flight_date a.now b.now) }
@@ -31,7 +31,6 @@ fn compare(a: &FlightDate, b: &FlightDate) -> Ordering
     }
 }
 
-/// How two rows of what flights are to bring stand to each other.
 fn compare_expected(a: &Expectation, b: &Expectation) -> Ordering
     ensures order { result ≡ by_expectation (a.now.flight, a.now.awb) (b.now.flight, b.now.awb) }
     ensures same { result ≡ Equal → IsTrue (same_flight_date a.now.flight b.now.flight
@@ -44,7 +43,7 @@ fn compare_expected(a: &Expectation, b: &Expectation) -> Ordering
     }
 }
 
-/// Where a flight belongs among flights that rise, if it isn't one of them.
+/// Returns the index at which a flight belongs among sorted ones, unless it is there.
 fn flight_place(rows: &[NotedFlight], new: &NotedFlight) -> Option<usize>
     ensures listed { result ≡ None
         → IsTrue (list_any (λ row. same_flight_date new.now.flight row.flight) rows.now) }
@@ -54,7 +53,8 @@ fn flight_place(rows: &[NotedFlight], new: &NotedFlight) -> Option<usize>
 {
     match rows.binary_search_by(|row| compare(&row.flight, &new.flight)) {
         Ok(at) => {
-            // What ties is one flight, of which only the comparison tells the checker.
+            // Flights that compare as equal are the same, which the checker learns only from the
+            // comparison.
             let _ties = compare(&rows[at].flight, &new.flight);
             None
         }
@@ -62,8 +62,7 @@ fn flight_place(rows: &[NotedFlight], new: &NotedFlight) -> Option<usize>
     }
 }
 
-/// Puts a flight in its place among flights that rise, if it isn't one of them: of two rows of one
-/// flight the first holds.
+/// Inserts a flight into sorted ones, unless it is there: the first of two rows of a flight counts.
 pub(crate) fn put_flight(rows: &mut Vec<NotedFlight>, row: &FlightRow) -> Result<(), AllocError>
     ensures { (seen : List Noting) → AreNoted (flights_in seen) rows.old.items
         → OnOk result (AreNoted (flights_in (seen ++ row.now ∷ [])) rows.new.items) }
@@ -78,8 +77,8 @@ pub(crate) fn put_flight(rows: &mut Vec<NotedFlight>, row: &FlightRow) -> Result
     Ok(())
 }
 
-/// Where a row belongs among rows that rise of what flights are to bring, if none of them is of its
-/// flight and waybill.
+/// Returns the index at which an expectation belongs among sorted ones, unless its flight and
+/// waybill are there.
 fn expected_place(rows: &[Expectation], new: &Expectation) -> Option<usize>
     ensures listed { result ≡ None → IsTrue (list_any (λ row.
         same_flight_date new.now.flight row.flight && (new.now.awb == row.awb)) rows.now) }
@@ -97,8 +96,8 @@ fn expected_place(rows: &[Expectation], new: &Expectation) -> Option<usize>
     }
 }
 
-/// Puts a row in its place among rows that rise of what flights are to bring, if none of them is of
-/// its flight and waybill: of two such rows the first holds.
+/// Inserts an expectation into sorted ones, unless its flight and waybill are there: the first of
+/// two such rows counts.
 pub(crate) fn put_expected(rows: &mut Vec<Expectation>, row: &ExpectedRow) -> Result<(), AllocError>
     ensures { (seen : List Expecting) → AreExpectations (expected_in seen) rows.old.items
         → OnOk result (AreExpectations (expected_in (seen ++ row.now ∷ [])) rows.new.items) }

@@ -1,4 +1,4 @@
-//! What a command does to the cargo.
+//! Planning a command on the cargo.
 ghost use Rattle.std.specs.Prelude.{◌≡◌, ℕ, List, Ok, IfOk, IfErr};
 ghost use Rattle.shipment_machine.specs.Agreement.{RefusesAs, outcome_of};
 ghost use Rattle.shipment_machine.specs.Effect.{effect, carried_out};
@@ -11,8 +11,8 @@ use shipment_machine::{Plan, PlanFault, ShipmentCommand, plan};
 use station_days::Moment;
 
 impl PlainCargo {
-    /// What a command does at a moment, or the first refusal that is due, with its detail. Out of
-    /// memory, nothing is said of the command.
+    /// Returns what a command does at a moment, or its first refusal, with its detail. If memory
+    /// runs out there is no guarantee.
     pub(crate) fn plan<'a>(
         &self,
         command: &ShipmentCommand<'a>,
@@ -22,7 +22,7 @@ impl PlainCargo {
             (λ plan. effect (cargo_of self.now.lists) command.now at ≡ Ok (outcome_of plan)) }
         ensures refused { IfErr result
             (RefusesAs (effect (cargo_of self.now.lists) command.now at)) }
-        // The text of a part that the telegram is has yet to be kept.
+        // The text of the noted part is not yet stored.
         ensures stays_lawful { IfOk result (λ plan. (text : List ℕ) (messages : List (List ℕ))
             → IsLawful (sent messages
             (carried_out text (outcome_of plan) (cargo_of self.now.lists)))) }

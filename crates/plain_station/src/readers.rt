@@ -1,4 +1,5 @@
-//! The readers of the cargo.
+//! The readers of the cargo. Those of rows hand them out until the sink stops, or hand out none if
+//! memory runs out.
 ghost use Rattle.std.specs.Prelude.{◌≡◌, List, ◌<◌, ℕ, ◌+◌, ◌++◌, [], ◌∷◌, if◌then◌else◌, length, get_or, take, IsSome, IfOk, OnOk, OnErr, IfErr};
 ghost use Rattle.agent_stock.specs.Runs.{AreStockRuns};
 ghost use Rattle.agent_stock.specs.declared.runs.StockRun.{StockRun};
@@ -23,15 +24,13 @@ use station_core::{
 use std::alloc::AllocError;
 
 impl PlainCargo {
-    /// Who holds a number.
     pub(crate) fn holder(&self, number: &Awb) -> Option<Holder>
         ensures { result ≡ (cargo_of self.now.lists).holders number.now }
     {
         self.lists.stock.get(number)
     }
 
-    /// Hands out the stock as its maximal runs of one holder, ascending, until the sink takes no
-    /// more. Out of memory, it hands out none.
+    /// Hands out the stock as maximal runs of one holder, ascending.
     pub(crate) fn stock<S: Sink<StockRun>>(&self, sink: &mut S) -> Result<(), ActFault>
         ensures rows { OnOk result ((rows : List StockRun)
             × AreStockRuns (cargo_of self.now.lists).holders rows
@@ -49,7 +48,6 @@ impl PlainCargo {
         Ok(())
     }
 
-    /// What is known of a waybill, where this is declared of it.
     fn known(&self, number: &Awb, declared: &Declared) -> Waybill
         ensures { result ≡ told_of (cargo_of self.now.lists) number.now declared.now }
     {
@@ -66,7 +64,6 @@ impl PlainCargo {
         }
     }
 
-    /// What is known of a waybill, if it was declared.
     pub(crate) fn waybill(&self, number: &Awb) -> Option<Waybill>
         ensures { result ≡ waybill_of (cargo_of self.now.lists) number.now }
     {
@@ -74,7 +71,7 @@ impl PlainCargo {
         Some(self.known(number, &declared))
     }
 
-    /// A waybill with its pieces missing and found.
+    /// Returns a waybill with its missing and found pieces.
     fn irregular_row(&self, number: &Awb) -> IrregularRow
         requires declared { IsSome ((cargo_of self.now.lists).declared number.now) }
         ensures { result ≡ irregular_row (cargo_of self.now.lists) number.now }
@@ -90,7 +87,7 @@ impl PlainCargo {
         }
     }
 
-    /// Puts a waybill behind the others, if pieces are missing or were found.
+    /// Appends a waybill, if pieces are missing or were found.
     fn put_irregular(&self, rows: &mut Vec<IrregularRow>, number: &Awb) -> Result<(), AllocError>
         requires declared { IsSome ((cargo_of self.now.lists).declared number.now) }
         ensures { OnOk result (rows.new.items ≡ rows.old.items ++
@@ -104,7 +101,7 @@ impl PlainCargo {
         Ok(())
     }
 
-    /// The waybills of which pieces are missing or were found, ascending.
+    /// Returns the waybills with missing or found pieces, ascending.
     fn irregular_rows(&self) -> Result<Vec<IrregularRow>, AllocError>
         ensures { IfOk result (λ rows. rows.items ≡ irregular_rows (cargo_of self.now.lists)) }
     {
@@ -115,8 +112,7 @@ impl PlainCargo {
         Ok(rows)
     }
 
-    /// Hands out the waybills of which pieces are missing or were found, ascending, until the sink
-    /// takes no more. Out of memory, it hands out none.
+    /// Hands out the waybills with missing or found pieces, ascending.
     pub(crate) fn irregular<S: Sink<IrregularRow>>(&self, sink: &mut S) -> Result<(), ActFault>
         ensures rows { OnOk result
             (HandedOut S.takes (irregular_rows (cargo_of self.now.lists)) sink.old sink.new) }
@@ -135,14 +131,14 @@ impl PlainCargo {
 }
 
 impl PlainCargo {
-    /// What is in store of a waybill but isn't free: it is built on flights.
+    /// Returns the amount of a waybill in store that isn't free: it is built on flights.
     fn built_anywhere(&self, number: &Awb, free: &Amount) -> Amount
         ensures { result ≡ less (store self.now.lists.book.items number.now) free.now }
     {
         stored(self.lists.book.as_slice(), number).less(*free)
     }
 
-    /// A waybill with what is free of it and what is built.
+    /// Returns a waybill with its free and its built amount.
     fn shed_row(&self, number: &Awb) -> ShedRow
         requires declared { IsSome ((cargo_of self.now.lists).declared number.now) }
         ensures { result ≡ shed_row (cargo_of self.now.lists) number.now }
@@ -159,14 +155,14 @@ impl PlainCargo {
         }
     }
 
-    /// Whether pieces of a waybill are in store.
+    /// Returns whether pieces of a waybill are in store.
     fn is_in_shed(&self, number: &Awb) -> bool
         ensures { result ≡ is_in_shed (cargo_of self.now.lists) number.now }
     {
         stored(self.lists.book.as_slice(), number).pieces > 0
     }
 
-    /// Puts a waybill behind the others, if pieces of it are in store.
+    /// Appends a waybill, if pieces of it are in store.
     fn put_stored(&self, rows: &mut Vec<ShedRow>, number: &Awb) -> Result<(), AllocError>
         requires declared { IsSome ((cargo_of self.now.lists).declared number.now) }
         ensures { OnOk result (rows.new.items ≡ rows.old.items ++
@@ -179,7 +175,7 @@ impl PlainCargo {
         Ok(())
     }
 
-    /// The waybills with pieces in store, ascending.
+    /// Returns the waybills with pieces in store, ascending.
     fn shed_rows(&self) -> Result<Vec<ShedRow>, AllocError>
         ensures { IfOk result (λ rows. rows.items ≡ shed_rows (cargo_of self.now.lists)) }
     {
@@ -190,8 +186,7 @@ impl PlainCargo {
         Ok(rows)
     }
 
-    /// Hands out the waybills with pieces in store, ascending, until the sink takes no more. Out of
-    /// memory, it hands out none.
+    /// Hands out the waybills with pieces in store, ascending.
     pub(crate) fn shed<S: Sink<ShedRow>>(&self, sink: &mut S) -> Result<(), ActFault>
         ensures rows { OnOk result
             (HandedOut S.takes (shed_rows (cargo_of self.now.lists)) sink.old sink.new) }
@@ -209,7 +204,7 @@ impl PlainCargo {
 }
 
 impl PlainCargo {
-    /// The movement book, numbered from 1.
+    /// Returns the movement book, numbered from 1.
     fn book_rows(&self) -> Result<Vec<BookRow>, AllocError>
         ensures { IfOk result (λ rows. rows.items ≡ book_rows (cargo_of self.now.lists)) }
     {
@@ -223,7 +218,6 @@ impl PlainCargo {
         Ok(rows)
     }
 
-    /// The movements that are asked for.
     fn movements(&self, query: &BookQuery) -> Result<Vec<BookRow>, AllocError>
         ensures { IfOk result (λ rows. rows.items
             ≡ book_by query.now (cargo_of self.now.lists)) }
@@ -233,8 +227,7 @@ impl PlainCargo {
         Ok(rows)
     }
 
-    /// Hands out the movements that are asked for, with their numbers from 1, until the sink takes
-    /// no more. Out of memory, it hands out nothing.
+    /// Hands out the queried movements, with their numbers from 1.
     pub(crate) fn book_by<S: Sink<BookRow>>(
         &self,
         query: &BookQuery,
@@ -254,7 +247,7 @@ impl PlainCargo {
         Ok(())
     }
 
-    /// The message at a place of the outbox, numbered from 1.
+    /// Returns the message at an index of the outbox, numbered from 1.
     fn message_at(&self, at: usize) -> Result<Message, AllocError>
         requires within { at < length self.now.lists.outbox.items }
         ensures { IfOk result (λ row. row ≡ message (at + 1)
@@ -266,7 +259,6 @@ impl PlainCargo {
         })
     }
 
-    /// The messages that weren't confirmed yet.
     fn pending_rows(&self) -> Result<Vec<Message>, AllocError>
         ensures { IfOk result (λ rows. rows.items ≡ pending_messages (cargo_of self.now.lists)) }
     {
@@ -277,8 +269,7 @@ impl PlainCargo {
         Ok(rows)
     }
 
-    /// Hands out the messages that weren't confirmed yet, with their places in the outbox from 1,
-    /// until the sink takes no more. Out of memory, it hands out none.
+    /// Hands out the unconfirmed messages, with their numbers from 1.
     pub(crate) fn pending<S: Sink<Message>>(&self, sink: &mut S) -> Result<(), ActFault>
         ensures rows { OnOk result
             (HandedOut S.takes (pending_messages (cargo_of self.now.lists)) sink.old sink.new) }
@@ -295,7 +286,6 @@ impl PlainCargo {
         Ok(())
     }
 
-    /// A line of the trail, under its number.
     fn line_of(&self, number: u32, row: &rows::TrailRow) -> Result<TrailRow, AllocError>
         ensures { IfOk result (λ line. line ≡ trail_row number (kept_line row.now)) }
     {
@@ -306,7 +296,7 @@ impl PlainCargo {
         })
     }
 
-    /// The trail, numbered from 1.
+    /// Returns the trail, numbered from 1.
     fn trail_lines(&self) -> Result<Vec<TrailRow>, AllocError>
         ensures { IfOk result (λ rows. rows.items ≡ trail_rows (cargo_of self.now.lists)) }
     {
@@ -317,7 +307,6 @@ impl PlainCargo {
         Ok(rows)
     }
 
-    /// The lines of the trail that are asked for.
     fn lines(&self, query: &TrailQuery) -> Result<Vec<TrailRow>, AllocError>
         ensures { IfOk result (λ rows. rows.items
             ≡ trail_by query.now (cargo_of self.now.lists)) }
@@ -327,8 +316,7 @@ impl PlainCargo {
         Ok(rows)
     }
 
-    /// Hands out the lines of the trail that are asked for, with their numbers from 1, until the
-    /// sink takes no more. Out of memory, it hands out nothing.
+    /// Hands out the queried lines of the trail, with their numbers from 1.
     pub(crate) fn trail_by<S: Sink<TrailRow>>(
         &self,
         query: &TrailQuery,

@@ -5,21 +5,20 @@ ghost use Rattle.shipment_machine.specs.Flights.{same_flight_date};
 use awb_number::Awb;
 use shipment_machine::{Declared, Expected, FlightDate, Outbound, Part};
 
-/// What was declared of a waybill.
 #[derive(Clone, Copy, Debug)]
 pub(crate) struct DeclaredRow {
     pub(crate) awb: Awb,
     pub(crate) declared: Declared,
 }
 
-/// What was noted of an outbound flight.
+/// The note of an outbound flight.
 #[derive(Clone, Copy, Debug)]
 pub(crate) struct FlightRow {
     pub(crate) flight: FlightDate,
     pub(crate) outbound: Outbound,
 }
 
-/// What a flight brings of a waybill.
+/// The expectation of a waybill on a flight.
 #[derive(Clone, Copy, Debug)]
 pub(crate) struct ExpectedRow {
     pub(crate) flight: FlightDate,
@@ -28,7 +27,7 @@ pub(crate) struct ExpectedRow {
 }
 
 impl ExpectedRow {
-    /// Whether it is of this waybill on this flight.
+    /// Returns whether the row is of this waybill on this flight.
     pub(crate) fn is_of(&self, flight: &FlightDate, awb: &Awb) -> bool
         ensures { result ≡ same_flight_date flight.now self.now.flight &&
             (awb.now == self.now.awb) }
@@ -45,7 +44,6 @@ pub(crate) struct PartRow {
 }
 
 impl PartRow {
-    /// Whether it is this part.
     pub(crate) fn is_of(&self, part: &Part) -> bool
         ensures { result ≡ same_part part.now self.now.part }
     {

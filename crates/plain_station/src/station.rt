@@ -25,19 +25,18 @@ use station_days::Moment;
 use std::alloc::Global;
 use telegrams::Telegram;
 
-/// A station in memory alone. Its faults are `Refused` and `Memory`, and after both it is as
-/// before.
+/// A station in memory. Its only faults are `Refused` and `Memory`, which change nothing.
 #[derive(Drop)]
 pub struct PlainStation {
     alloc: Global,
     cargo: PlainCargo,
-    // In the order in which they were accepted, each key and each text once.
+    // In the order of acceptance, each key and each text once.
     kept_keys: Vec<KeptReply>,
     kept_texts: Vec<KeptText>,
 }
 
 impl PlainStation {
-    /// A station at an airport with nothing in it.
+    /// Returns an empty station at an airport.
     pub fn new(alloc: Global, here: Airport) -> PlainStation
         ensures { state_of result ≡ opening here }
     {
@@ -49,7 +48,6 @@ impl PlainStation {
         }
     }
 
-    /// Does a command under a new key.
     fn act_keyed(
         &mut self,
         key: &Key,
@@ -81,7 +79,6 @@ impl PlainStation {
         Ok(Reply { count })
     }
 
-    /// Does what a new telegram says.
     fn act_wire<'a>(&mut self, telegram: &'a Telegram<'a>, at: Moment) -> Result<Reply, ActFault>
         requires new_text { (state_of self.old).kept_texts telegram.now.text ≡ None }
         ensures acts { Acts (state_of self.old) (Wire telegram.now) at result
@@ -104,7 +101,7 @@ impl PlainStation {
         Ok(Reply { count })
     }
 
-    /// A command of a caller: a known key is answered by what was kept.
+    /// Answers a command: a known key gets the stored answer.
     fn act_on_command(
         &mut self,
         key: &Key,
@@ -125,7 +122,7 @@ impl PlainStation {
         }
     }
 
-    /// A telegram: a known text is answered by the count that was kept.
+    /// Answers a telegram: a known text gets the stored count.
     fn act_on_telegram<'a>(
         &mut self,
         telegram: &'a Telegram<'a>,
@@ -166,7 +163,7 @@ impl Keeper for PlainStation {
         }
     }
 
-    // It takes no memory, and always returns.
+    // It allocates nothing, and never fails.
     fn holder(&mut self, number: &Awb) -> Result<Option<Holder>, ActFault>
         ensures answer { result ≡ Ok ((state_of self.old).cargo.holders number.now) }
         ensures as_before { self.new ≡ self.old }
@@ -174,7 +171,7 @@ impl Keeper for PlainStation {
         Ok(self.cargo.holder(number))
     }
 
-    // It takes no memory, and always returns.
+    // It allocates nothing, and never fails.
     fn waybill(&mut self, number: &Awb) -> Result<Option<Waybill>, ActFault>
         ensures answer { result ≡ Ok (waybill_of (state_of self.old).cargo number.now) }
         ensures as_before { self.new ≡ self.old }

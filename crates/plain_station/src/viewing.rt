@@ -1,4 +1,4 @@
-//! What a command is planned from.
+//! The views from which commands are planned.
 ghost use Rattle.std.specs.Prelude.{Some, false, [], ◌≡◌, map, IfOk};
 ghost use Rattle.std.specs.List.{filter};
 ghost use Rattle.shipment_machine.specs.declared.command.ShipmentCommand.TheVariants as order;
@@ -21,7 +21,6 @@ use shipment_machine::{
 use station_days::Moment;
 use std::alloc::AllocError;
 
-/// Whether a move goes onto a flight.
 fn is_onto(flight: &FlightDate, movement: &Move) -> bool
     ensures { result ≡ is_onto flight.now movement.now }
 {
@@ -32,7 +31,6 @@ fn is_onto(flight: &FlightDate, movement: &Move) -> bool
 }
 
 impl PlainCargo {
-    /// The moves onto a flight, in their order.
     fn moves_onto(&self, flight: &FlightDate) -> Result<Vec<Move>, AllocError>
         ensures { IfOk result (λ moves. moves.items ≡ filter (is_onto flight.now)
             self.now.lists.book.items) }
@@ -46,8 +44,8 @@ impl PlainCargo {
         Ok(moves)
     }
 
-    /// The waybills that are built on a flight, ascending: of those that were ever built on it, the
-    /// ones of which something is there yet.
+    /// Returns the waybills built on a flight, ascending: those that were ever built on it and
+    /// still are.
     pub(crate) fn numbers_on(&self, flight: &FlightDate) -> Result<Vec<Awb>, AllocError>
         ensures { IfOk result (λ numbers. numbers.items ≡ waybills_on self.now.lists.book.items
             flight.now) }
@@ -62,21 +60,19 @@ impl PlainCargo {
         Ok(numbers)
     }
 
-    /// What is built of a waybill on a flight.
     pub(crate) fn load_on(&self, awb: &Awb, flight: &FlightDate) -> Amount
         ensures { result ≡ built self.now.lists.book.items awb.now flight.now }
     {
         held(self.lists.book.as_slice(), awb, &Place::Built(*flight))
     }
 
-    /// Whether a waybill is built on a flight.
     fn is_on(&self, awb: &Awb, flight: &FlightDate) -> bool
         ensures { result ≡ is_built_on self.now.lists.book.items flight.now awb.now }
     {
         self.load_on(awb, flight).pieces > 0
     }
 
-    /// A flight, seen from a waybill that is to be built on it.
+    /// Returns a flight, viewed from a waybill to be built on it.
     fn flight_view(&self, awb: &Awb, flight: &FlightDate) -> Result<FlightView, AllocError>
         ensures { IfOk result (λ view. view ≡ flight_view (cargo_of self.now.lists) awb.now
             flight.now) }
@@ -89,7 +85,6 @@ impl PlainCargo {
         })
     }
 
-    /// A waybill that is built on a flight, with what is declared of it.
     fn aboard(&self, awb: &Awb, declared: &Declared, flight: &FlightDate) -> FlightLoad
         requires { (cargo_of self.now.lists).declared awb.now ≡ Some declared.now }
         ensures { result ≡ aboard_of (cargo_of self.now.lists) flight.now awb.now }
@@ -101,11 +96,10 @@ impl PlainCargo {
         }
     }
 
-    /// What is built on a flight, ascending.
     fn loads(&self, flight: &FlightDate) -> Result<Loads, AllocError>
         ensures { IfOk result (λ loads. loads ≡ loads_of (cargo_of self.now.lists) flight.now) }
     {
-        // The type of a day is named for the checker, which isn't told of it by a declaration.
+        // Names the type of a day for the checker, which doesn't learn it from a declaration.
         let _day = flight.day;
         let mut loads = Vec::new(self.lists.alloc);
         let numbers = self.numbers_on(flight)?;
@@ -116,7 +110,7 @@ impl PlainCargo {
         Ok(Loads::new(loads).unwrap())
     }
 
-    /// What is kept of each line of a manifest that is for here.
+    /// Returns the rows stored for each line of a manifest for here.
     fn line_rows(&self, flight: &FlightDate, lines: &[InboundLine]) -> Result<LineViews, AllocError>
         ensures { IfOk result (λ rows. rows ≡ map
             (line_view_of (cargo_of self.now.lists) flight.now)
@@ -140,7 +134,6 @@ impl PlainCargo {
 }
 
 impl PlainCargo {
-    /// What the declaration of a waybill is planned from.
     fn declaration_rows(&self, awb: &Awb) -> Rows
         ensures { result ≡ rows.Declaration (declaration_view (cargo_of self.now.lists) awb.now) }
     {
@@ -153,7 +146,6 @@ impl PlainCargo {
         }
     }
 
-    /// A waybill with its balances.
     fn waybill_view(&self, awb: &Awb) -> WaybillView
         ensures { result ≡ waybill_view (cargo_of self.now.lists) awb.now }
     {
@@ -163,7 +155,6 @@ impl PlainCargo {
         }
     }
 
-    /// What a command on a waybill is planned from.
     fn waybill_rows(&self, awb: &Awb) -> Rows
         ensures { result ≡ rows.Waybill (waybill_view (cargo_of self.now.lists) awb.now) }
     {
@@ -172,7 +163,6 @@ impl PlainCargo {
         }
     }
 
-    /// What the building of a waybill on a flight is planned from.
     fn manifest_rows(&self, awb: &Awb, flight: &FlightDate) -> Result<Rows, AllocError>
         ensures { IfOk result (λ made. made ≡ rows.Manifest
             (waybill_view (cargo_of self.now.lists) awb.now)
@@ -184,7 +174,6 @@ impl PlainCargo {
         })
     }
 
-    /// What taking a waybill off a flight is planned from.
     fn offload_rows(&self, awb: &Awb, flight: &FlightDate) -> Rows
         ensures { result ≡ rows.Offload ((cargo_of self.now.lists).declared awb.now)
             ((cargo_of self.now.lists).flights flight.now)
@@ -197,7 +186,6 @@ impl PlainCargo {
         }
     }
 
-    /// What the check-in of a waybill is planned from.
     fn check_in_rows(&self, awb: &Awb, flight: &FlightDate) -> Rows
         ensures { result ≡ rows.CheckIn (waybill_view (cargo_of self.now.lists) awb.now)
             ((cargo_of self.now.lists).expected flight.now awb.now) }
@@ -208,7 +196,6 @@ impl PlainCargo {
         }
     }
 
-    /// What a status update is planned from.
     fn status_rows(&self, awb: &Awb) -> Rows
         ensures { result ≡ rows.Status ((cargo_of self.now.lists).declared awb.now) }
     {
@@ -217,7 +204,7 @@ impl PlainCargo {
         }
     }
 
-    /// What a part of a manifest is planned from whose date names no day.
+    /// Returns the rows for a part of a manifest whose date isn't an existing day.
     fn no_lines(&self) -> Rows
         ensures { result ≡ rows.Lines false [] }
     {
@@ -227,7 +214,6 @@ impl PlainCargo {
         }
     }
 
-    /// What a part of a manifest is planned from: nothing where its date names no day.
     fn part_rows(&self, part: &InboundPart<'_>, at: Moment) -> Result<Rows, AllocError>
         ensures { IfOk result (λ made. made ≡ rows_for (cargo_of self.now.lists)
             (order.Ffm part.now) at) }
@@ -250,7 +236,6 @@ impl PlainCargo {
         })
     }
 
-    /// The rows with this key, as a command of the desk reads them.
     fn desk_rows(&self, key: &RowsKey) -> Result<Rows, AllocError>
         ensures { IfOk result (λ made. made ≡ rows_of (cargo_of self.now.lists) key.now) }
     {
@@ -271,7 +256,6 @@ impl PlainCargo {
         }
     }
 
-    /// What a command is planned from: all that the state has for it.
     pub(crate) fn view(&self, command: &ShipmentCommand<'_>, at: Moment) -> Result<View, AllocError>
         ensures { IfOk result (λ view. view ≡ view_of (cargo_of self.now.lists) command.now at) }
     {

@@ -1,4 +1,4 @@
-//! What an accepted command changes.
+//! Changes of an accepted command.
 ghost use Rattle.std.specs.Prelude.{◌≡◌, ◌==◌, ◌+◌, if◌then◌else◌, nat_le, ℕ, Some, Ok, [], ◌∷◌, ◌++◌, map, IfOk, OnOk, OnErr};
 ghost use Rattle.agent_stock.specs.Plain.{holders_of};
 ghost use Rattle.agent_stock.specs.declared.stock.Holder.TheVariants.{Used};
@@ -20,7 +20,7 @@ use station_core::{ActFault, NO_NUMBERS_LEFT};
 use std::alloc::{AllocError, Global};
 use telegrams::notice_text;
 
-/// An agent's number is used up.
+/// Marks an agent's number as used.
 fn use_up(stock: &mut PlainRows, awb: &Awb) -> Result<(), AllocError>
     ensures { OnOk result ((q : ℕ)
         → holders_of stock.new q ≡ (if q == awb.now then Some Used else holders_of stock.old q)) }
@@ -28,7 +28,7 @@ fn use_up(stock: &mut PlainRows, awb: &Awb) -> Result<(), AllocError>
     stock.assign(&Run::of_one(*awb), &Holder::Used)
 }
 
-/// The rows that a command changes, made beside those that are kept.
+/// The rows that a command changes, copied from the stored ones.
 #[derive(Drop)]
 pub(crate) struct Next {
     alloc: Global,
@@ -36,14 +36,13 @@ pub(crate) struct Next {
     declared: Vec<DeclaredRow>,
     flights: Vec<FlightRow>,
     expected: Vec<ExpectedRow>,
-    // Parts and lines that are new.
+    // New parts and lines.
     parts: Vec<PartRow>,
     trail: Vec<TrailRow>,
     confirmed: u32,
 }
 
 impl Next {
-    /// The rows as they are.
     fn of(cargo: &CargoLists) -> Result<Next, AllocError>
         ensures { IfOk result (λ next. cargo_with cargo.now next ≡ cargo_of cargo.now) }
     {
@@ -59,7 +58,7 @@ impl Next {
         })
     }
 
-    /// Writes a row, where the telegram in work has this text.
+    /// Writes a row; `text` is that of the current telegram.
     fn write(&mut self, text: &[u8], change: &Change<'_>) -> Result<(), AllocError>
         ensures { (c : CargoLists)
             → OnOk result (cargo_with c self.new ≡ written text.now change.now
@@ -112,7 +111,7 @@ impl Next {
         Ok(())
     }
 
-    /// The rows after some were written, in order.
+    /// Returns the rows after changes, in order.
     fn after(cargo: &CargoLists, text: &[u8], changes: &[Change<'_>]) -> Result<Next, AllocError>
         ensures { IfOk result (λ next. cargo_with cargo.now next ≡ written_all text.now changes.now
             (cargo_of cargo.now)) }
@@ -125,7 +124,6 @@ impl Next {
     }
 }
 
-/// Appends the text of a message.
 fn put_text(alloc: Global, texts: &mut Vec<Vec<u8>>, notice: &Notice) -> Result<(), AllocError>
     ensures { OnOk result (texts_in texts.new.items ≡ texts_in texts.old.items ++ notice_text
         notice.now ∷ []) }
@@ -135,7 +133,6 @@ fn put_text(alloc: Global, texts: &mut Vec<Vec<u8>>, notice: &Notice) -> Result<
     Ok(())
 }
 
-/// The texts of messages, in order.
 fn texts_of(alloc: Global, notices: &[Notice]) -> Result<Vec<Vec<u8>>, AllocError>
     ensures { IfOk result (λ texts. texts_in texts.items ≡ map notice_text notices.now) }
 {
@@ -146,7 +143,7 @@ fn texts_of(alloc: Global, notices: &[Notice]) -> Result<Vec<Vec<u8>>, AllocErro
     Ok(texts)
 }
 
-/// Whether rows and some more are no more than can be numbered.
+/// Returns whether `rows` and `more` rows can be numbered.
 fn can_be_numbered(rows: usize, more: usize) -> bool
     ensures { result ≡ nat_le (rows + more) most_rows }
 {
@@ -155,7 +152,7 @@ fn can_be_numbered(rows: usize, more: usize) -> bool
 }
 
 impl CargoLists {
-    /// Whether the moves, the trail and the messages can be numbered once rows are taken over.
+    /// Returns whether all moves, trail lines and messages could be numbered.
     fn has_room_for(&self, next: &Next, moves: &[Move], messages: &Vec<Vec<u8>>) -> bool
         ensures { result ≡ has_room
             (sent (texts_in messages.now.items)
@@ -166,7 +163,7 @@ impl CargoLists {
             && can_be_numbered(self.outbox.len(), messages.len())
     }
 
-    /// Takes rows over, with moves and messages behind the others.
+    /// Replaces the rows, and appends moves and messages.
     fn take_over(
         &mut self,
         mut next: Next,
@@ -199,9 +196,9 @@ impl CargoLists {
         Ok(())
     }
 
-    /// Does what a plan says, where the telegram in work has this text: its rows are written, and
-    /// its moves and its messages stand behind the others. A fault changes nothing: it is refused
-    /// where the rows couldn't all be numbered afterwards.
+    /// Carries out a plan: writes its rows, and appends its moves and its messages. `text` is that
+    /// of the current telegram. A fault changes nothing. If the rows couldn't all be numbered, it
+    /// refuses.
     pub(crate) fn carry_out(&mut self, text: &[u8], plan: &Plan<'_>) -> Result<u32, ActFault>
         ensures { Does (cargo_acted text.now (cargo_of self.old) (Ok (outcome_of plan.now)))
             (cargo_of self.old) result (cargo_of self.new) }

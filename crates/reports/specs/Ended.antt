@@ -1,4 +1,4 @@
--- What a report that ended before its end leaves.
+-- Reports that broke off.
 use Rattle.std.specs.Prelude.{◌≡◌, ◌⊎◌, ℕ, ◌<◌, Bool, true, Result, Ok, Err, List, ◌++◌, length}
 use Rattle.station_core.specs.Given.{Given}
 use Rattle.station_core.specs.Ends.{Sent, HasCause, NoneFailed, OneFailed}
@@ -8,59 +8,60 @@ use Rattle.reports.specs.declared.fault.ReportCause.{ReportCause}
 use Rattle.reports.specs.declared.fault.ReportCause.TheVariants as cause
 use Rattle.reports.specs.declared.fault.ReportFault.{ReportFault}
 
--- the station has to be opened again, and nothing went out
+-- the station must be opened again, and nothing was written
 abbrev pub IsReopen : Result (Unit {0}) ReportFault → Type 0
 IsReopen result = result ≡ Err (record { sent = 0; cause = cause.Act act.Reopen })
 
--- one that has to be opened again stays as it is, and so does the writer
+-- a broken station stays as it is, and so does the writer
 abbrev pub OnlyReopens : {K : Type 0} → Bool → Result (Unit {0}) ReportFault → K → K → Given → Given → Type 0
 OnlyReopens is_broken result old new from to = is_broken ≡ true → IsReopen result × (new ≡ old) × (to ≡ from)
 
--- of a station that is open: the writer's fault, out of memory, or the store's, where it may fail
+-- on a station that isn't broken: the writer's fault, memory ran out, or the store's fault, if it
+-- may fail
 abbrev pub IsCause : Type 0 → ReportCause → Type 0
 IsCause may_fail cause.Write = Unit {0}
 IsCause may_fail (cause.Act e) = IsReadersFault may_fail e
 
--- at a fault of the writer it failed or took no byte; at another it did neither
+-- after a fault of the writer it failed or wrote 0 bytes; after another fault it did neither
 abbrev pub HasTold : ReportCause → Given → Given → Type 0
 HasTold cause.Write old new = HasCause old new
 HasTold (cause.Act e) old new = (new.failures ≡ old.failures) × (new.idle ≡ old.idle)
 
--- At a fault of the writer one write failed. At another none did, and nothing went out, or all that
--- stands in front and a byte of the report at least.
+-- After a fault of the writer exactly one write failed. After another fault none did, and either
+-- nothing was written, or the whole text before the report and at least one byte of the report.
 abbrev pub StopsBy : List ℕ → ReportCause → ℕ → Given → Given → Type 0
 StopsBy front cause.Write sent old new = OneFailed old new
 StopsBy front (cause.Act e) sent old new = NoneFailed old new × ((sent ≡ 0) ⊎ (length front < sent))
 
--- how the writing of a report ended, whatever the station keeps
+-- the end of a report, whatever the station keeps
 abbrev pub StopsWriting : List ℕ → Given → Given → Result (Unit {0}) ReportFault → Type 0
 StopsWriting front old new (Ok x) = NoneFailed old new
 StopsWriting front old new (Err e) = StopsBy front e.cause e.sent old new
 
--- as many bytes went out as it returns, and they are a beginning of the text
+-- the returned number of bytes was written, and they are a prefix of the text
 abbrev pub IsBegun : List ℕ → ReportFault → Given → Given → Type 0
 IsBegun text e old new = Sent old new text e.sent × HasTold e.cause old new
 
--- so many bytes went out
+-- `sent` bytes were written
 abbrev pub HaveGone : ℕ → Given → Given → Type 0
 HaveGone sent old new = (out : List ℕ) × (length out ≡ sent) × (new.bytes ≡ old.bytes ++ out)
 
--- the same of a report that is known by what it is, behind what stands in front: of one text that
--- is it, or of each
+-- the same for a report that is described by a property, after the text before it: for one of its
+-- texts, or for each
 abbrev pub IsBegunBy : (List ℕ → Type 0) → List ℕ → ReportFault → Given → Given → Type 0
 IsBegunBy Is front e old new =
     ((text : List ℕ) × Is text × IsBegun (front ++ text) e old new)
     ⊎ ((text : List ℕ) → Is text → IsBegun (front ++ text) e old new)
 
--- A report ended: its text went out, or a beginning of it. A fault is no refusal, nor Reopen of a
--- station that is open.
+-- A report ended: its text was written, or a prefix. The fault is never a refusal, and is Reopen
+-- only of a broken station.
 abbrev pub HasEnded : Type 0 → Type 0 → List ℕ → Given → Given
     → Result (Unit {0}) ReportFault → Type 0
 HasEnded open_station may_fail text old new (Ok x) = new.bytes ≡ old.bytes ++ text
 HasEnded open_station may_fail text old new (Err e) =
     IsBegun text e old new × (open_station → IsCause may_fail e.cause)
 
--- the same of a report that is known by what it is, behind what stands in front
+-- the same for a report that is described by a property, after the text before it
 abbrev pub HasEndedBy : Type 0 → Type 0 → (List ℕ → Type 0) → List ℕ → Given → Given
     → Result (Unit {0}) ReportFault → Type 0
 HasEndedBy open_station may_fail Is front old new (Ok x) =
@@ -69,7 +70,7 @@ HasEndedBy open_station may_fail Is front old new (Err e) =
     IsBegunBy Is front e old new × HaveGone e.sent old new × HasTold e.cause old new
     × (open_station → IsCause may_fail e.cause)
 
--- the same of each text that is the report: there is one at most
+-- the same for each text of the report: there is at most one
 pub record HasEndedEach (open_station may_fail : Type 0) (Is : List ℕ → Type 0) (front : List ℕ) (old new : Given) (result : Result (Unit {0}) ReportFault) : Type 0 where
   pub text : (text : List ℕ) → Is text
       → HasEnded open_station may_fail (front ++ text) old new result

@@ -1,4 +1,4 @@
--- Listings of a station's rows: a report, or some rows of one, in the form of lines or of JSON.
+-- Listings of a station's rows: a report, or some rows of one, in lines or in JSON.
 use Rattle.std.specs.Prelude.{◌≡◌, ℕ, nat_lt, Bool, false, not, if◌then◌else◌, Option, Some, List, [], ◌∷◌, ◌++◌, length, filter, codes, option_map}
 use Rattle.std.specs.Str.{bytes_eq}
 use Rattle.serde_json.specs.Data.{Data, array, Items, item, no_items}
@@ -32,12 +32,10 @@ use Rattle.reports.specs.declared.report.Report.TheVariants as report
 
 -- The forms.
 
--- the rows, in order
 abbrev pub items_of : {Row : Type 0} → (Row → Data) → List Row → Items
 items_of data_of [] = no_items
 items_of data_of (row ∷ rows) = item (data_of row) (items_of data_of rows)
 
--- one object: the rows, and how many there are
 abbrev pub rows_data : {Row : Type 0} → (Row → Data) → List Row → Data
 rows_data data_of rows = object_of ((codes "rows", array (items_of data_of rows)) ∷ (codes "count", count_data (length rows)) ∷ [])
 
@@ -46,17 +44,16 @@ abbrev pub rows_text : {Row : Type 0} → Form → (Row → List ℕ) → (Row �
 rows_text form.Text line_of data_of rows = report_text line_of rows
 rows_text form.Json line_of data_of rows = compact_text (rows_data data_of rows) ++ 10 ∷ []
 
--- the text has those of the rows that are picked
 abbrev pub IsTextOf : {Row : Type 0} → Form → (Row → List ℕ) → (Row → Data) → (List Row → Type 0) → (List Row → List Row) → List ℕ → Type 0
 IsTextOf {Row} f line_of data_of AreRows picked text = (rows : List Row) × AreRows rows × (text ≡ rows_text f line_of data_of (picked rows))
 
--- Which rows are listed.
+-- Selections of rows.
 
 -- a noted flight that hasn't departed
 abbrev pub is_open : FlightRow → Bool
 is_open row = not row.noted.outbound.closed
 
--- what a flight is to bring that wasn't checked in
+-- an expectation that wasn't checked in
 abbrev pub is_awaited : ExpectedRow → Bool
 is_awaited row = not row.expectation.expected.checked
 
@@ -68,33 +65,29 @@ is_agent code _ = false
 abbrev pub is_held_by : List ℕ → StockRun → Bool
 is_held_by code run = is_agent code run.holder
 
--- a message with a greater number
 abbrev pub is_behind : ℕ → Message → Bool
 is_behind n message = nat_lt n message.number
 
 -- The listings.
 
--- the movements that are asked for, and the lines of the trail
+-- the queried movements, and lines of the trail
 abbrev pub IsMovements : Form → State → BookQuery → List ℕ → Type 0
 IsMovements f s query text = text ≡ rows_text f book_line book_data (book_by query s.cargo)
 
 abbrev pub IsTrail : Form → State → TrailQuery → List ℕ → Type 0
 IsTrail f s query text = text ≡ rows_text f trail_line trail_data (trail_by query s.cargo)
 
--- the messages that aren't confirmed, those with a greater number
+-- the unconfirmed messages with a greater number
 abbrev pub IsPendingAfter : Form → State → ℕ → List ℕ → Type 0
 IsPendingAfter f s n text = text ≡ rows_text f message_lines message_data (filter (is_behind n) (pending_messages s.cargo))
 
--- what is on a flight
 abbrev pub IsManifest : Form → State → FlightDate → List ℕ → Type 0
 IsManifest f s flight text = text ≡ rows_text f manifest_line manifest_data (manifest_rows s.cargo flight)
 
--- what flights are to bring of what is asked for
 abbrev pub IsExpected : Form → State → ExpectedQuery → List ℕ → Type 0
 IsExpected f s query text =
     (rows : List ExpectedRow) × AreExpectedBy query s.cargo rows × (text ≡ rows_text f expected_line expected_data rows)
 
--- a whole report in a form
 abbrev pub IsWhole : Form → State → Report → List ℕ → Type 0
 IsWhole f s report.Stock text = (rows : List StockRun) × AreStockRuns s.cargo.holders rows × (text ≡ rows_text f stock_line stock_data rows)
 IsWhole f s report.Shed text = text ≡ rows_text f shed_line shed_data (shed_rows s.cargo)
@@ -122,7 +115,7 @@ IsListing f s (listing.TrailLast n) text = IsTrail f s (trail.Last n) text
 IsListing f s (listing.PendingAfter n) text = IsPendingAfter f s n text
 IsListing f s (listing.Manifest flight) text = IsManifest f s flight text
 
--- the listing of a name: a report's, or one of open rows
+-- the listing with a name: a report, or open rows
 abbrev pub listing_called : List ℕ → Option Listing
 listing_called name =
     if bytes_eq name (codes "open-flights") then Some listing.OpenFlights

@@ -1,5 +1,5 @@
--- The manifest of a flight: of each waybill what is built for the flight now, and what left with
--- it.
+-- The manifest of a flight: for each waybill the amount built for the flight now, and the amount
+-- that departed with it.
 use Rattle.std.specs.Prelude.{ℕ, Bool, ◌&&◌, ◌||◌, ◌==◌, nat_lt, if◌then◌else◌, List, [], ◌∷◌}
 use Rattle.std.specs.List.{flat_map, sum_by}
 use Rattle.shipment_machine.specs.Amount.{amount}
@@ -11,18 +11,18 @@ use Rattle.shipment_machine.specs.declared.moves.Move.{Move}
 use Rattle.shipment_machine.specs.declared.moves.Place.TheVariants.{Built, Departed}
 use Rattle.reports.specs.declared.manifest.ManifestRow.{ManifestRow}
 
--- whether a move takes what is built for a flight away with it
+-- true if a move takes what is built for a flight away with it
 abbrev pub leaves : FlightDate → Move → Bool
 leaves f m = same_place (Built f) m.from && same_place Departed m.to
 
--- what left of a waybill with a flight: the sum of these moves
+-- the sum of a waybill's moves that left with a flight
 abbrev pub takes_away : (Move → ℕ) → ℕ → FlightDate → Move → ℕ
 takes_away measure w f m = if (m.awb == w) && leaves f m then measure m else 0
 
 abbrev pub departed_with : List Move → ℕ → FlightDate → Amount
 departed_with book w f = amount (sum_by (takes_away pieces_of w f) book) (sum_by (takes_away tenths_of w f) book)
 
--- a waybill's row, and whether it has pieces
+-- a waybill's row; true if it has pieces
 abbrev pub manifest_row : List Move → FlightDate → ℕ → ManifestRow
 manifest_row book f w = record { awb = w; built = built book w f; departed = departed_with book w f }
 

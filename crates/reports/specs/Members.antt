@@ -1,4 +1,4 @@
--- Members of the rows' objects as text, some at a time.
+-- Members of the rows' objects as text.
 use Rattle.std.specs.Prelude.{ℕ, ◌+◌, ◌-◌, List, ◌++◌, codes, decimal}
 use Rattle.serde_json.specs.Data.{string}
 use Rattle.serde_json.specs.Written.{compact_text}

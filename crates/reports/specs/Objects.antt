@@ -1,5 +1,5 @@
--- The rows of the reports as JSON objects. Their members follow a line's fields, and each weight is
--- in tenths of a kilogram.
+-- The rows of the reports as JSON objects. Their members are the fields of a line, with weights in
+-- tenths of a kilogram.
 use Rattle.std.specs.Prelude.{ℕ, ◌+◌, ◌-◌, Option, Some, None, List, [], ◌∷◌, codes}
 use Rattle.serde_json.specs.Data.{Data, null, boolean, number, unsigned, string, object, Members, member, no_members}
 use Rattle.awb_number.specs.Digits.{padded}
@@ -23,7 +23,7 @@ use Rattle.reports.specs.Layout.{clock_text}
 use Rattle.reports.specs.Lines.{place_text}
 use Rattle.reports.specs.declared.manifest.ManifestRow.{ManifestRow}
 
--- an object of these members, in order
+-- an object with these members, in order
 abbrev pub members_of : List (List ℕ × Data) → Members
 members_of [] = no_members
 members_of (m ∷ ms) = member m.0 m.1 (members_of ms)
@@ -34,7 +34,7 @@ object_of ms = object (members_of ms)
 abbrev pub count_data : ℕ → Data
 count_data n = number (unsigned n)
 
--- Stock: the prefix, the first and the last serial, how many there are, and who has them.
+-- Stock: the prefix, the first and the last serial, the count, and the holder.
 abbrev pub holder_word : Holder → List ℕ
 holder_word Desk = codes "desk"
 holder_word (Agent code) = codes "agent"
@@ -56,21 +56,21 @@ stock_data row =
 abbrev pub amount_data : Amount → Data
 amount_data a = object_of ((codes "pieces", count_data a.pieces) ∷ (codes "tenths", count_data a.tenths) ∷ [])
 
--- The shed: the waybill, its route, what is free and what is built, and whether the consignee was
+-- The shed: the waybill, its route, the free and the built pieces, and whether the consignee was
 -- notified.
 abbrev pub shed_data : ShedRow → Data
 shed_data row =
     object_of ((codes "awb", string (number_text row.awb)) ∷ (codes "origin", string row.origin) ∷ (codes "destination", string row.destination)
     ∷ (codes "free", amount_data row.free) ∷ (codes "built", amount_data row.built) ∷ (codes "notified", boolean row.notified) ∷ [])
 
--- Irregularities: the waybill, its route, and what is missing and was found.
+-- Irregularities: the waybill, its route, and the missing and found pieces.
 abbrev pub irregular_data : IrregularRow → Data
 irregular_data row =
     object_of ((codes "awb", string (number_text row.awb)) ∷ (codes "origin", string row.origin) ∷ (codes "destination", string row.destination)
     ∷ (codes "missing", amount_data row.missing) ∷ (codes "found", amount_data row.found) ∷ [])
 
--- Flights: the flight, its day, where it unloads, how many waybills are built on it, their pieces
--- and weight, and whether it has departed.
+-- Flights: the flight, its day, the airport of unloading, the number of waybills built on it, their
+-- pieces and weight, and whether it has departed.
 abbrev pub flight_data : FlightRow → Data
 flight_data row =
     object_of ((codes "flight", string (flight_text row.noted.flight.flight)) ∷ (codes "date", string (day_line row.noted.flight.day))
@@ -78,13 +78,13 @@ flight_data row =
     ∷ (codes "pieces", count_data row.pieces) ∷ (codes "tenths", count_data row.tenths)
     ∷ (codes "closed", boolean row.noted.outbound.closed) ∷ [])
 
--- What is on a flight: the waybill, what is built for the flight, and what left with it.
+-- Manifest: the waybill, the pieces built for the flight, and those that departed with it.
 abbrev pub manifest_data : ManifestRow → Data
 manifest_data row =
     object_of ((codes "awb", string (number_text row.awb)) ∷ (codes "built", amount_data row.built) ∷ (codes "departed", amount_data row.departed) ∷ [])
 
--- What flights are to bring: the flight, its day, the waybill, its route, what is expected, and
--- whether it was checked in.
+-- Expectations: the flight, its day, the waybill, its route, the expected pieces, and whether they
+-- were checked in.
 abbrev pub expected_data : ExpectedRow → Data
 expected_data row =
     object_of ((codes "flight", string (flight_text row.expectation.flight.flight)) ∷ (codes "date", string (day_line row.expectation.flight.day))
@@ -92,7 +92,7 @@ expected_data row =
     ∷ (codes "pieces", count_data row.expectation.expected.pieces) ∷ (codes "tenths", count_data row.expectation.expected.tenths)
     ∷ (codes "checked", boolean row.expectation.expected.checked) ∷ [])
 
--- Movements: the number, the day, the time, the waybill, from where to where, how much, and the
+-- Movements: the number, the day, the time, the waybill, the two places, the pieces, and the
 -- flight.
 abbrev pub flight_or_null : Option FlightDate → Data
 flight_or_null None = null

@@ -1,4 +1,4 @@
--- What is added to a text for each row, and at the end.
+-- The text added for each row, and at the end.
 use Rattle.std.specs.Prelude.{ℕ, zero, suc, ◌+◌, decimal, List, [], ◌∷◌, ◌++◌, length, codes}
 use Rattle.serde_json.specs.Data.{Data}
 use Rattle.serde_json.specs.Written.{compact_text}
@@ -6,17 +6,17 @@ use Rattle.reports.specs.Lines.{end_line}
 use Rattle.reports.specs.declared.form.Form.{Form}
 use Rattle.reports.specs.declared.form.Form.TheVariants as form
 
--- what stands in front of a row as an object, after so many rows
+-- the text before a row's object, after `rows` rows
 abbrev pub before_row : ℕ → List ℕ
 before_row zero = codes "{\"rows\":["
 before_row (suc rows) = codes ","
 
--- a row, after so many
+-- a row, after `rows` others
 abbrev pub row_piece : Form → ℕ → List ℕ → Data → List ℕ
 row_piece form.Text rows line data_of = line
 row_piece form.Json rows line data_of = before_row rows ++ compact_text data_of
 
--- what closes an object of so many rows: where there are none, it begins it too
+-- the end of an object; without rows it has the start too
 abbrev pub close_of_none : ℕ → List ℕ
 close_of_none zero = codes "{\"rows\":["
 close_of_none (suc rows) = []
@@ -25,7 +25,7 @@ abbrev pub end_piece : Form → ℕ → List ℕ
 end_piece form.Text rows = end_line rows
 end_piece form.Json rows = close_of_none rows ++ (codes "],\"count\":" ++ (decimal rows ++ codes "}\n"))
 
--- the pieces of rows, after so many
+-- the pieces of rows, after `n` others
 abbrev pub pieces_of : {Row : Type 0} → (ℕ → Row → List ℕ) → ℕ → List Row → List ℕ
 pieces_of piece n [] = []
 pieces_of piece n (row ∷ rows) = piece n row ++ pieces_of piece (n + 1) rows

@@ -1,4 +1,4 @@
--- The sums of a flight's movements by waybill, as one pass over them makes them.
+-- Sums of a flight's movements by waybill, made in one pass.
 use Rattle.std.specs.Prelude.{◌≡◌, ℕ, ◌+◌, ◌-◌, Bool, true, false, cond, if◌then◌else◌, Some, None, List, [], ◌∷◌}
 use Rattle.std.specs.BTreeMap.{get}
 use Rattle.std.specs.Option.{unwrap_or}
@@ -21,12 +21,12 @@ zero = record { pieces = 0; tenths = 0 }
 abbrev pub nothing_of : ℕ → Tally
 nothing_of w = record { awb = w; brought = zero; removed = zero; departed = zero }
 
--- a count with a movement more, if it is counted
+-- a count with another movement, if it is counted
 abbrev pub counted : Bool → Move → Count → Count
 counted true m c = record { pieces = c.pieces + m.pieces; tenths = c.tenths + m.tenths }
 counted false m c = c
 
--- the sums of a waybill with a movement more
+-- the sums of a waybill with another movement
 abbrev pub with_move : FlightDate → Move → Tally → Tally
 with_move f m t = record {
   awb = t.awb;
@@ -35,7 +35,6 @@ with_move f m t = record {
   departed = counted (leaves f m) m t.departed;
 }
 
--- the row that the sums make
 abbrev pub row_of : Tally → ManifestRow
 row_of t = record {
   awb = t.awb;
@@ -56,7 +55,7 @@ pub record IsNew (f : FlightDate) (new : Tallies) : Type 0 where
   pub none : (w : ℕ) → get nat_cmp new.by_number w ≡ None
   pub room : new.is_full ≡ false
 
--- a movement is added to the sums of its waybill, or there is no room for it
+-- a movement is added to the sums of its waybill, or it doesn't fit
 abbrev pub TakesMove : Tallies → Move → Bool → Tallies → Type 0
 TakesMove old m true new =
     (new.flight ≡ old.flight) × (new.is_full ≡ old.is_full)

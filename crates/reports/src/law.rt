@@ -1,4 +1,4 @@
-//! Laws of the definitions: each report has one text.
+//! Laws about the definitions: each report has exactly one text.
 ghost use Rattle.std.specs.Prelude.{◌≡◌, ℕ, List, filter};
 ghost use Rattle.agent_stock.specs.Stock.{Holders};
 ghost use Rattle.agent_stock.specs.Runs.{AreStockRuns};
@@ -24,13 +24,13 @@ pub fn flight_report_law()
         → IsFlightReport s other → text ≡ other }
 {}
 
-/// A cargo has one list of what flights are to bring, and its report has one text.
+/// A cargo has one list of expectations, and its report has one text.
 pub fn expected_report_law()
     ensures { (s : Cargo) (text other : List ℕ) → IsExpectedReport s text
         → IsExpectedReport s other → text ≡ other }
 {}
 
-/// The lines of what flights are to bring that weren't checked in are those that are open.
+/// The open expectations are those that weren't checked in.
 pub fn open_expected_law()
     ensures { (s : Cargo) (rows : List ExpectedRow) → AreExpectedRows s rows
         → AreExpectedBy Open s (filter is_awaited rows) }

@@ -1,4 +1,4 @@
-//! What a report lists.
+//! Listings.
 ghost use Rattle.std.specs.Prelude.{◌≡◌};
 ghost use Rattle.reports.specs.Listings.{listing_called};
 
@@ -7,38 +7,39 @@ use agent_stock::AgentCode;
 use awb_number::Awb;
 use shipment_machine::FlightDate;
 
-/// Rows of a station that are listed, in the order of the report that has all of them.
+/// A listing of rows, in the order of the report that has all of them.
 #[derive(Clone, Copy, Debug, PartialEq, Eq)]
 pub enum Listing {
     /// All rows of a report.
     All(Report),
     /// The noted flights that haven't departed.
     OpenFlights,
-    /// What flights are expected to bring that isn't checked in.
+    /// The expectations that aren't checked in.
     OpenExpected,
     /// The runs of the stock that an agent holds.
     AgentStock(AgentCode),
     /// The movements of a waybill, with their numbers in the movement book.
     Movements(Awb),
-    /// The movements whose number is greater.
+    /// The movements with a greater number.
     MovementsAfter(u32),
     /// The last movements, at most this many.
     MovementsLast(u32),
     /// The lines of the trail of a waybill, with their numbers in the trail.
     Trail(Awb),
-    /// The lines of the trail whose number is greater. The first line has number 1.
+    /// The lines of the trail with a greater number. The first line has number 1.
     TrailAfter(u32),
     /// The last lines of the trail, at most this many.
     TrailLast(u32),
-    /// The messages that aren't confirmed and whose number is greater.
+    /// The unconfirmed messages with a greater number.
     PendingAfter(u32),
-    /// The waybills on a flight, ascending: what is built for it now, and what left with it.
+    /// The manifest of a flight, ascending by waybill: the pieces built for it now, and those that
+    /// departed with it.
     Manifest(FlightDate),
 }
 
 impl Listing {
-    /// The listing of a name: `open-flights`, `open-expected`, or all rows of the report that
-    /// [`Report::read`] finds. Every other listing has no name.
+    /// Returns the listing with a name: `open-flights`, `open-expected`, or a whole report (see
+    /// [`Report::read`]). The other listings have no name.
     pub fn read(name: &[u8]) -> Option<Listing>
         ensures { result ≡ listing_called name.now }
     {

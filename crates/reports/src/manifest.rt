@@ -1,4 +1,4 @@
-//! What is on a flight.
+//! Manifests of flights.
 ghost use Rattle.std.specs.Prelude.{◌≡◌, true, false, IfErr, IfOk, Err};
 ghost use Rattle.reports.specs.Manifest.{has_pieces, manifest_rows};
 ghost use Rattle.station_core.specs.Keeping.{IsReadersFault, OnlyReads, keeping};
@@ -15,14 +15,13 @@ use std::alloc::Global;
 #[derive(Clone, Copy, Debug, PartialEq, Eq)]
 pub struct ManifestRow {
     pub awb: Awb,
-    /// What is built for the flight now.
+    /// The amount built for the flight now.
     pub built: Amount,
-    /// What left with the flight.
+    /// The amount that departed with the flight.
     pub departed: Amount,
 }
 
 impl ManifestRow {
-    /// Whether it has pieces.
     pub(crate) fn has_pieces(&self) -> bool
         ensures { result ≡ has_pieces self.now }
     {
@@ -30,7 +29,7 @@ impl ManifestRow {
     }
 }
 
-/// The manifest of a flight. Its movements are read once.
+/// Returns the manifest of a flight, in one pass over its movements.
 fn manifest_of<K: Keeper>(
     alloc: Global,
     keeper: &mut K,
@@ -51,7 +50,6 @@ fn manifest_of<K: Keeper>(
     }
 }
 
-/// What is on a flight.
 #[derive(Drop)]
 pub(crate) struct ManifestReading {
     pub(crate) alloc: Global,

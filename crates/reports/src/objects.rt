@@ -24,7 +24,6 @@ use station_core::{BookRow, Expectation, ExpectedRow, FlightRow, IrregularRow, S
 use station_days::{LocalDay, Moment};
 use std::alloc::{AllocError, Global};
 
-/// A waybill number.
 pub(crate) fn awb_text(alloc: Global, awb: &Awb) -> Result<String, AllocError>
     ensures { IfOk result (λ text. string_bytes text ≡ compact_text
         (string (number_text awb.now))) }
@@ -32,14 +31,12 @@ pub(crate) fn awb_text(alloc: Global, awb: &Awb) -> Result<String, AllocError>
     quoted(alloc, awb.to_string(alloc)?.as_str())
 }
 
-/// An airport.
 fn airport_text(alloc: Global, airport: &Airport) -> Result<String, AllocError>
     ensures { IfOk result (λ text. string_bytes text ≡ compact_text (string airport.now)) }
 {
     quoted(alloc, airport.to_string(alloc)?.as_str())
 }
 
-/// A flight.
 fn designator_text(alloc: Global, flight: &Flight) -> Result<String, AllocError>
     ensures { IfOk result (λ text. string_bytes text ≡ compact_text
         (string (flight_text flight.now))) }
@@ -47,14 +44,12 @@ fn designator_text(alloc: Global, flight: &Flight) -> Result<String, AllocError>
     quoted(alloc, flight.to_string(alloc)?.as_str())
 }
 
-/// A day.
 fn date_text(alloc: Global, day: LocalDay) -> Result<String, AllocError>
     ensures { IfOk result (λ text. string_bytes text ≡ compact_text (string (day_line day))) }
 {
     quoted(alloc, day.to_string(alloc)?.as_str())
 }
 
-/// A minute of a day.
 fn time_text(alloc: Global, minute: u16) -> Result<String, AllocError>
     ensures { IfOk result (λ text. string_bytes text ≡ compact_text (string (clock_text minute))) }
 {
@@ -62,7 +57,6 @@ fn time_text(alloc: Global, minute: u16) -> Result<String, AllocError>
     quoted(alloc, ascii_text(&time))
 }
 
-/// A place, by its name.
 fn place(alloc: Global, place: &Place) -> Result<String, AllocError>
     ensures { IfOk result (λ text. string_bytes text ≡ compact_text
         (string (place_text place.now))) }
@@ -70,7 +64,6 @@ fn place(alloc: Global, place: &Place) -> Result<String, AllocError>
     quoted(alloc, place_name(place))
 }
 
-/// A waybill, and its route.
 fn route_members(
     alloc: Global,
     awb: &Awb,
@@ -86,7 +79,6 @@ fn route_members(
     format!(in alloc; "\"awb\":{awb},\"origin\":{origin},\"destination\":{destination}")
 }
 
-/// A flight, and its day.
 fn flight_members(alloc: Global, flight: &FlightDate) -> Result<String, AllocError>
     ensures { IfOk result (λ text. string_bytes text ≡ flight_members flight.now) }
 {
@@ -95,7 +87,6 @@ fn flight_members(alloc: Global, flight: &FlightDate) -> Result<String, AllocErr
     format!(in alloc; "\"flight\":{flight},\"date\":{date}")
 }
 
-/// The day of a moment.
 fn day_text(alloc: Global, at: &Moment) -> Result<String, AllocError>
     ensures { IfOk result (λ text. string_bytes text ≡ compact_text
         (string (day_line at.now.day))) }
@@ -106,7 +97,6 @@ fn day_text(alloc: Global, at: &Moment) -> Result<String, AllocError>
     date_text(alloc, day)
 }
 
-/// The time of a moment.
 fn minute_text(alloc: Global, at: &Moment) -> Result<String, AllocError>
     ensures { IfOk result (λ text. string_bytes text ≡ compact_text
         (string (clock_text at.now.minute))) }
@@ -114,7 +104,6 @@ fn minute_text(alloc: Global, at: &Moment) -> Result<String, AllocError>
     time_text(alloc, at.minute)
 }
 
-/// A moment's day, and its time.
 fn moment_members(alloc: Global, at: &Moment) -> Result<String, AllocError>
     ensures { IfOk result (λ text. string_bytes text ≡ moment_members at.now) }
 {
@@ -123,7 +112,6 @@ fn moment_members(alloc: Global, at: &Moment) -> Result<String, AllocError>
     format!(in alloc; "\"date\":{date},\"time\":{time}")
 }
 
-/// From where, and to where.
 fn place_members(alloc: Global, from: &Place, to: &Place) -> Result<String, AllocError>
     ensures { IfOk result (λ text. string_bytes text ≡ place_members from.now to.now) }
 {
@@ -132,14 +120,13 @@ fn place_members(alloc: Global, from: &Place, to: &Place) -> Result<String, Allo
     format!(in alloc; "\"from\":{from},\"to\":{to}")
 }
 
-/// Pieces, and their weight.
 fn amount_members(alloc: Global, pieces: u64, tenths: u64) -> Result<String, AllocError>
     ensures { IfOk result (λ text. string_bytes text ≡ amount_members pieces tenths) }
 {
     format!(in alloc; "\"pieces\":{pieces},\"tenths\":{tenths}")
 }
 
-/// Pieces that were moved or announced, and their weight.
+/// Returns the members of pieces that were moved or announced.
 fn part_members(alloc: Global, pieces: Pieces, tenths: BookTenths) -> Result<String, AllocError>
     ensures { IfOk result (λ text. string_bytes text ≡ amount_members pieces tenths) }
 {
@@ -150,7 +137,6 @@ fn part_members(alloc: Global, pieces: Pieces, tenths: BookTenths) -> Result<Str
     )
 }
 
-/// Pieces and their weight.
 fn amount_object(alloc: Global, amount: &Amount) -> Result<String, AllocError>
     ensures { IfOk result (λ text. string_bytes text ≡ compact_text (amount_data amount.now)) }
 {
@@ -158,14 +144,12 @@ fn amount_object(alloc: Global, amount: &Amount) -> Result<String, AllocError>
     format!(in alloc; "{{\"pieces\":{pieces},\"tenths\":{tenths}}}")
 }
 
-/// Yes or no.
 fn flag(yes: bool) -> &'static str
     ensures { result.now ≡ compact_text (boolean yes) }
 {
     if yes { "true" } else { "false" }
 }
 
-/// The word of a holder.
 fn holder_word(holder: &Holder) -> &'static str
     ensures { result.now ≡ holder_word holder.now }
 {
@@ -177,7 +161,7 @@ fn holder_word(holder: &Holder) -> &'static str
     }
 }
 
-/// The code of a holder that is an agent.
+/// Returns the code of an agent, or an empty text.
 fn holder_name(holder: &Holder) -> &str
     ensures { result.now ≡ holder_name holder.now }
 {
@@ -187,7 +171,6 @@ fn holder_name(holder: &Holder) -> &str
     }
 }
 
-/// The flight of a movement, or null.
 fn flight_or_null(alloc: Global, flight: &Option<FlightDate>) -> Result<String, AllocError>
     ensures { IfOk result (λ text. string_bytes text ≡ compact_text (flight_or_null flight.now)) }
 {
@@ -197,7 +180,6 @@ fn flight_or_null(alloc: Global, flight: &Option<FlightDate>) -> Result<String, 
     }
 }
 
-/// The last serial of a run.
 pub(crate) fn last_serial(run: &StockRun) -> [u8; 7]
     ensures value { result ≡ padded 7 (serial_of run.now.first + run.now.count - 1) }
     ensures ascii { IsAscii result }
@@ -206,7 +188,7 @@ pub(crate) fn last_serial(run: &StockRun) -> [u8; 7]
     seven_digits(behind.saturating_sub(1))
 }
 
-/// The prefix, and the first and the last serial of a run.
+/// Returns the members of a run's prefix, first and last serial.
 fn serial_members(alloc: Global, run: &StockRun) -> Result<String, AllocError>
     ensures { IfOk result (λ text. string_bytes text ≡ serial_members run.now) }
 {
@@ -218,7 +200,6 @@ fn serial_members(alloc: Global, run: &StockRun) -> Result<String, AllocError>
     format!(in alloc; "\"prefix\":{prefix},\"first\":{first},\"last\":{last}")
 }
 
-/// Who has numbers.
 fn holder_members(alloc: Global, holder: &Holder) -> Result<String, AllocError>
     ensures { IfOk result (λ text. string_bytes text ≡ holder_members holder.now) }
 {
@@ -227,7 +208,6 @@ fn holder_members(alloc: Global, holder: &Holder) -> Result<String, AllocError>
     format!(in alloc; "\"holder\":{word},\"name\":{name}")
 }
 
-/// A run of the stock.
 pub(crate) fn stock_object(alloc: Global, row: &StockRun) -> Result<String, AllocError>
     ensures { IfOk result (λ text. string_bytes text ≡ compact_text (stock_data row.now)) }
 {
@@ -237,7 +217,6 @@ pub(crate) fn stock_object(alloc: Global, row: &StockRun) -> Result<String, Allo
     format!(in alloc; "{{{serials},\"count\":{count},{holder}}}")
 }
 
-/// A waybill with pieces in store.
 pub(crate) fn shed_object(alloc: Global, row: &ShedRow) -> Result<String, AllocError>
     ensures { IfOk result (λ text. string_bytes text ≡ compact_text (shed_data row.now)) }
 {
@@ -248,7 +227,6 @@ pub(crate) fn shed_object(alloc: Global, row: &ShedRow) -> Result<String, AllocE
     format!(in alloc; "{{{route},\"free\":{free},\"built\":{built},\"notified\":{notified}}}")
 }
 
-/// A waybill of which pieces are missing or were found.
 pub(crate) fn irregular_object(alloc: Global, row: &IrregularRow) -> Result<String, AllocError>
     ensures { IfOk result (λ text. string_bytes text ≡ compact_text (irregular_data row.now)) }
 {
@@ -258,7 +236,6 @@ pub(crate) fn irregular_object(alloc: Global, row: &IrregularRow) -> Result<Stri
     format!(in alloc; "{{{route},\"missing\":{missing},\"found\":{found}}}")
 }
 
-/// A waybill on a flight.
 pub(crate) fn manifest_object(alloc: Global, row: &ManifestRow) -> Result<String, AllocError>
     ensures { IfOk result (λ text. string_bytes text ≡ compact_text (manifest_data row.now)) }
 {
@@ -268,7 +245,6 @@ pub(crate) fn manifest_object(alloc: Global, row: &ManifestRow) -> Result<String
     format!(in alloc; "{{\"awb\":{awb},\"built\":{built},\"departed\":{departed}}}")
 }
 
-/// A flight, and what is built on it.
 pub(crate) fn flight_object(alloc: Global, row: &FlightRow) -> Result<String, AllocError>
     ensures { IfOk result (λ text. string_bytes text ≡ compact_text (flight_data row.now)) }
 {
@@ -282,7 +258,6 @@ pub(crate) fn flight_object(alloc: Global, row: &FlightRow) -> Result<String, Al
     )
 }
 
-/// What a flight is to bring of a waybill.
 pub(crate) fn expected_object(alloc: Global, row: &ExpectedRow) -> Result<String, AllocError>
     ensures { IfOk result (λ text. string_bytes text ≡ compact_text (expected_data row.now)) }
 {
@@ -298,7 +273,7 @@ pub(crate) fn expected_object(alloc: Global, row: &ExpectedRow) -> Result<String
     format!(in alloc; "{{{flight},{route},{amount},\"checked\":{checked}}}")
 }
 
-/// The number of a movement, its moment and its waybill.
+/// Returns the members of a movement's number, moment and waybill.
 fn numbered_members(alloc: Global, row: &BookRow) -> Result<String, AllocError>
     ensures { IfOk result (λ text. string_bytes text ≡ numbered_members row.now) }
 {
@@ -308,7 +283,6 @@ fn numbered_members(alloc: Global, row: &BookRow) -> Result<String, AllocError>
     format!(in alloc; "\"number\":{number},{moment},\"awb\":{awb}")
 }
 
-/// A row of the movement book.
 pub(crate) fn book_object(alloc: Global, row: &BookRow) -> Result<String, AllocError>
     ensures { IfOk result (λ text. string_bytes text ≡ compact_text (book_data row.now)) }
 {

@@ -1,23 +1,21 @@
-//! Rows that are picked out of those of a report.
+//! Rows selected from those of a report.
 ghost use Rattle.std.specs.Prelude.{◌≡◌, true, not};
 ghost use Rattle.reports.specs.Listings.{is_open, is_held_by, is_behind};
 
 use agent_stock::{AgentCode, Holder, StockRun};
 use station_core::{FlightRow, Message};
 
-/// Which rows are wanted.
+/// A selection of rows.
 pub(crate) trait Pick<Row> {
     ghost use Rattle.std.specs.Prelude.{Bool};
 
-    /// Whether a row is wanted.
+    /// True if a row is selected.
     ghost wanted: { Self → Row → Bool };
 
-    /// Whether a row is wanted.
     fn wants(&self, row: &Row) -> bool
         ensures { result ≡ wanted self.now row.now };
 }
 
-/// Every row.
 #[derive(Drop)]
 pub(crate) struct EveryRow;
 
@@ -41,7 +39,6 @@ impl Pick<FlightRow> for OpenFlights {
     }
 }
 
-/// The runs that an agent holds.
 #[derive(Drop)]
 pub(crate) struct OfAgent {
     pub(crate) code: AgentCode,
@@ -58,7 +55,7 @@ impl Pick<StockRun> for OfAgent {
     }
 }
 
-/// The messages whose number is greater.
+/// The messages with a greater number.
 #[derive(Drop)]
 pub(crate) struct Behind {
     pub(crate) number: u32,

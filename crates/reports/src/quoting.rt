@@ -8,14 +8,13 @@ ghost use Rattle.serde_json.specs.Written.{compact_text};
 use serde_json::json;
 use std::alloc::{AllocError, Global};
 
-/// A text as a JSON string.
 pub(crate) fn quoted(alloc: Global, text: &str) -> Result<String, AllocError>
     ensures { IfOk result (λ quoted. string_bytes quoted ≡ compact_text (string text.now)) }
 {
     json!(in alloc; text)?.to_string(alloc)
 }
 
-/// The letter of a byte's short escape, or 0 if it has none.
+/// Returns the letter of a byte's short escape, or 0 if it has none.
 fn escape_letter(byte: u8) -> u8
     ensures { result ≡ escape_letter byte }
 {
@@ -30,7 +29,6 @@ fn escape_letter(byte: u8) -> u8
     }
 }
 
-/// A hexadecimal digit.
 fn hex_digit(digit: u8) -> u8
     requires { digit < 16 }
     ensures { result ≡ digit_char digit }
@@ -42,7 +40,7 @@ fn hex_digit(digit: u8) -> u8
     }
 }
 
-/// Appends what a JSON string has for a byte.
+/// Appends a byte as in a JSON string.
 #[tactic(auto, unfolding(json::specs::Print::escape_byte))]
 fn put_escaped(out: &mut Vec<u8>, byte: u8) -> Result<(), AllocError>
     ensures { OnOk result (out.new.items ≡ out.old.items ++ escape_byte byte) }
@@ -58,7 +56,7 @@ fn put_escaped(out: &mut Vec<u8>, byte: u8) -> Result<(), AllocError>
     out.extend_from_slice(&[byte])
 }
 
-/// Appends what a JSON string has for each byte.
+/// Appends bytes as in a JSON string.
 fn put_all_escaped(out: &mut Vec<u8>, text: &[u8]) -> Result<(), AllocError>
     ensures { OnOk result (out.new.items ≡ out.old.items ++ escape text.now) }
 {

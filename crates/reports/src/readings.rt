@@ -1,4 +1,4 @@
-//! What a keeper hands out for each report.
+//! Readers of a keeper, for each report.
 ghost use Rattle.std.specs.Prelude.{◌≡◌};
 ghost use Rattle.agent_stock.specs.Runs.{AreStockRuns};
 ghost use Rattle.station_core.specs.Readers.{shed_rows, AreFlightRows, AreExpectedBy, irregular_rows, book_by, pending_messages, trail_by};
@@ -15,10 +15,10 @@ pub(crate) trait Reading<Row> {
     ghost use Rattle.shipment_machine.specs.Cargo.{Cargo};
     ghost use Rattle.station_core.specs.Keeping.{HandsOut, keeping};
 
-    /// The rows are these.
+    /// The relation of a cargo to its rows.
     ghost rows: { Self → Cargo → List Row → Type 0 };
 
-    /// Has a keeper hand out the rows.
+    /// Makes a keeper hand out the rows.
     fn hand_out<K: Keeper, S: Sink<Row>>(
         &self,
         keeper: &mut K,
@@ -28,7 +28,6 @@ pub(crate) trait Reading<Row> {
             keeper.old keeper.new result S.takes (rows self.now) sink.old sink.new };
 }
 
-/// The runs of the stock.
 #[derive(Drop)]
 pub(crate) struct StockReading;
 
@@ -44,7 +43,6 @@ impl Reading<StockRun> for StockReading {
     }
 }
 
-/// The waybills in store.
 #[derive(Drop)]
 pub(crate) struct ShedReading;
 
@@ -60,7 +58,6 @@ impl Reading<ShedRow> for ShedReading {
     }
 }
 
-/// The noted flights.
 #[derive(Drop)]
 pub(crate) struct FlightReading;
 
@@ -76,7 +73,6 @@ impl Reading<FlightRow> for FlightReading {
     }
 }
 
-/// What flights are to bring.
 #[derive(Drop)]
 pub(crate) struct ExpectedReading {
     pub(crate) query: ExpectedQuery,
@@ -94,7 +90,7 @@ impl Reading<ExpectedRow> for ExpectedReading {
     }
 }
 
-/// The waybills of which pieces are missing or were found.
+/// The waybills with missing or found pieces.
 #[derive(Drop)]
 pub(crate) struct IrregularReading;
 
@@ -110,7 +106,6 @@ impl Reading<IrregularRow> for IrregularReading {
     }
 }
 
-/// Movements of the movement book.
 #[derive(Drop)]
 pub(crate) struct BookReading {
     pub(crate) query: BookQuery,
@@ -128,7 +123,6 @@ impl Reading<BookRow> for BookReading {
     }
 }
 
-/// The pending messages.
 #[derive(Drop)]
 pub(crate) struct PendingReading;
 
@@ -144,7 +138,6 @@ impl Reading<Message> for PendingReading {
     }
 }
 
-/// Lines of the trail.
 #[derive(Drop)]
 pub(crate) struct TrailReading {
     pub(crate) query: TrailQuery,

@@ -1,4 +1,4 @@
-//! The sums of a flight's movements, by waybill.
+//! Sums of a flight's movements, by waybill.
 ghost use Rattle.std.specs.Prelude.{◌≡◌, ◌++◌, true, false, IfErr, IfOk, IfSome, OnOk};
 ghost use Rattle.std.specs.BTreeMap.{IsOrdered};
 ghost use Rattle.std.specs.List.{flat_map};
@@ -13,22 +13,21 @@ use station_core::{ActFault, BookRow, Sink};
 use std::alloc::Global;
 use std::collections::BTreeMap;
 
-/// Pieces and tenths of a kilogram of some movements.
+/// The pieces and tenths of a kilogram of some movements.
 #[derive(Clone, Copy, Debug, PartialEq, Eq)]
 struct Count {
     pieces: u64,
     tenths: u64,
 }
 
-/// No movements.
 const ZERO: Count = Count {
     pieces: 0,
     tenths: 0,
 };
 
 impl Count {
-    /// The count, with a movement more if it is counted. `None`: a sum doesn't fit 64 bits, which
-    /// takes more than 10^12 movements.
+    /// Returns the count with another movement, if `is_counted`. It is `None` if a sum doesn't fit
+    /// into 64 bits, which takes more than 10^12 movements.
     fn with(self, is_counted: bool, movement: &Move) -> Option<Count>
         ensures { IfSome result (λ sum. sum ≡ counted is_counted movement.now self) }
     {
@@ -44,19 +43,19 @@ impl Count {
     }
 }
 
-/// What the movements of a waybill on a flight add up to.
+/// The sums of a waybill's movements on a flight.
 #[derive(Clone, Copy, Debug, PartialEq, Eq)]
 struct Tally {
     awb: Awb,
-    /// What was built for the flight.
+    /// The amount built for the flight.
     brought: Count,
-    /// What was taken from there again: off the flight, or away with it.
+    /// The amount taken from the flight: offloaded, or departed.
     removed: Count,
-    /// What left with the flight.
+    /// The amount that departed with the flight.
     departed: Count,
 }
 
-/// An amount of so many pieces and tenths. `None`: it doesn't fit 32 bits.
+/// Returns an amount, or `None` if it doesn't fit into 32 bits.
 fn amount_of(pieces: u64, tenths: u64) -> Option<Amount>
     ensures { IfSome result (λ amount. amount ≡ record { pieces = pieces; tenths = tenths }) }
 {
@@ -66,7 +65,7 @@ fn amount_of(pieces: u64, tenths: u64) -> Option<Amount>
 }
 
 impl Tally {
-    /// A waybill without movements.
+    /// Returns the sums without movements.
     fn new(awb: Awb) -> Tally
         ensures { result ≡ nothing_of awb }
     {
@@ -78,7 +77,7 @@ impl Tally {
         }
     }
 
-    /// The sums, with a movement more.
+    /// Returns the sums with another movement.
     fn with(&self, flight: &FlightDate, movement: &Move) -> Option<Tally>
         ensures { IfSome result (λ tally. tally ≡ with_move flight.now movement.now self.now) }
     {
@@ -93,7 +92,6 @@ impl Tally {
         })
     }
 
-    /// The row of the waybill.
     fn row(&self) -> Option<ManifestRow>
         ensures { IfSome result (λ row. row ≡ row_of self.now) }
     {
@@ -107,7 +105,7 @@ impl Tally {
     }
 }
 
-/// Puts the row of a waybill after the others, if it has pieces.
+/// Appends the row of a waybill, if it has pieces.
 fn put_row(rows: &mut Vec<ManifestRow>, tally: &Tally) -> Result<(), ActFault>
     ensures fault { IfErr result IsMemory }
     ensures rows { OnOk result (rows.new.items ≡ rows.old.items ++ listed tally.now) }
@@ -124,19 +122,19 @@ fn put_row(rows: &mut Vec<ManifestRow>, tally: &Tally) -> Result<(), ActFault>
     }
 }
 
-/// The sums of a flight's movements, by waybill.
+/// Sums of a flight's movements, by waybill.
 #[derive(Drop)]
 pub(crate) struct Tallies {
     flight: FlightDate,
     by_number: BTreeMap<u64, Tally>,
-    // Whether there was no room for a movement.
+    // True if a movement didn't fit.
     is_full: bool,
 }
 
 impl Tallies {
     ghost use Rattle.reports.specs.Tallies.{IsNew, TakesMove, tally_in};
 
-    /// No movements.
+    /// Starts without movements.
     pub(crate) fn new(alloc: Global, flight: &FlightDate) -> Tallies
         ensures { IsNew flight.now result }
     {
@@ -147,7 +145,6 @@ impl Tallies {
         }
     }
 
-    /// What the movements of a waybill add up to so far.
     fn tally(&self, awb: Awb) -> Tally
         ensures { result ≡ tally_in self.now awb }
     {
@@ -157,7 +154,7 @@ impl Tallies {
         }
     }
 
-    /// Adds a movement; `false` if there is no room for it.
+    /// Adds a movement. Returns false if it doesn't fit.
     fn add(&mut self, movement: &Move) -> bool
         ensures { result ≡ true → TakesMove self.old movement.now true self.new }
     {
@@ -167,7 +164,7 @@ impl Tallies {
         self.by_number.insert(movement.awb.key(), tally).is_ok()
     }
 
-    /// The rows of the waybills that have pieces, ascending.
+    /// Returns the rows of the waybills with pieces, ascending.
     pub(crate) fn rows(&self, alloc: Global) -> Result<Vec<ManifestRow>, ActFault>
         ensures fault { IfErr result IsMemory }
         ensures room { OnOk result (self.now.is_full ≡ false) }

@@ -1,5 +1,4 @@
--- Running counts: what the moves of a waybill come to at each place, by the rows of `counts` and
--- `build`.
+-- Running counts: the sums of a waybill's moves at each place, in the rows of `counts` and `build`.
 use Rattle.std.specs.Prelude.{◌≡◌, ℕ, ℤ, pos, negsuc, Bool, ◌&&◌, if◌then◌else◌, Option, Some, None, List}
 use Rattle.std.specs.Option.{option_map}
 use Rattle.std.specs.Ordering.{int_eq}
@@ -24,14 +23,13 @@ running book w place = record {
   tenths = balance tenths_of book w (same_place place);
 }
 
--- there is no row where both are 0
+-- zero sums have no row
 abbrev pub is_nothing : Running → Bool
 is_nothing r = int_eq r.pieces (pos 0) && int_eq r.tenths (pos 0)
 
 abbrev pub unless_nothing : Running → Option Running
 unless_nothing r = if is_nothing r then None else Some r
 
--- what stands in a row
 abbrev pub running_in : Count → Running
 running_in row = record { pieces = row.pieces; tenths = row.tenths }
 
@@ -44,7 +42,7 @@ count_row r = record { pieces = r.pieces; tenths = r.tenths }
 abbrev pub build_row : Running → Build
 build_row r = record { pieces = r.pieces; tenths = r.tenths }
 
--- what the book has for a waybill and the code of a place that isn't built
+-- the row of the book's sums for a waybill and the code of a place that isn't built
 abbrev pub count_at : List Move → ℕ → Option Place → Option Count
 count_at book w None = None
 count_at book w (Some place) = option_map count_row (unless_nothing (running book w place))
@@ -53,7 +51,7 @@ abbrev pub counted : List Move → CountKey → Option Count
 counted book (pos w, code) = count_at book w (plain_place code)
 counted book (negsuc _, code) = None
 
--- what the book has for a written flight, a day and a waybill
+-- the row of the book's sums for a flight, a day and a waybill
 abbrev pub build_at : List Move → ℕ → ℕ → Option Designator → Option Build
 build_at book day w None = None
 build_at book day w (Some f) = option_map build_row (unless_nothing (running book w (Built (record { flight = f; day = day }))))
@@ -65,7 +63,7 @@ abbrev pub built_up : List Move → BuildKey → Option Build
 built_up book (text, (pos day, pos w)) = build_at book day w (written_flight text)
 built_up book _ = None
 
--- every row is the book's balance, and none is missing
+-- the rows are exactly the book's balances
 abbrev pub AreCounts : FinMap count_cmp Count → List Move → Type 0
 AreCounts counts book = (key : CountKey) → get counts key ≡ counted book key
 

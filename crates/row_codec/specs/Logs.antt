@@ -7,11 +7,10 @@ use Rattle.station_core.specs.declared.rows.TrailRow.{TrailRow}
 use Rattle.station_schema.specs.Tables.{TrailLine, Message}
 use Rattle.row_codec.specs.Numbers.{natural, is_number}
 
--- a waybill and its line
 abbrev pub line_by : TrailLine → ℕ × List ℕ
 line_by row = (natural row.awb, row.line)
 
--- a line with its number, as readers are given it
+-- a trail line with its number, as readers return it
 abbrev pub trail_row_by : TrailLine → TrailRow
 trail_row_by row = trail_row (natural row.number) (line_by row)
 
@@ -21,14 +20,12 @@ line_row n w line = record { number = pos n; awb = pos w; line = line }
 abbrev pub trail_in : List TrailLine → List (ℕ × List ℕ)
 trail_in rows = map line_by rows
 
--- within range
 abbrev pub is_trail_row : TrailLine → Bool
 is_trail_row row = is_number row.awb && is_line row.line
 
 abbrev pub message_row : ℕ → List ℕ → Message
 message_row n text = record { number = pos n; body = text }
 
--- a text
 abbrev pub is_message_row : Message → Bool
 is_message_row row = is_utf8 row.body
 

@@ -1,4 +1,4 @@
--- What the tables of a station mean.
+-- The state in the tables of a station.
 use Rattle.std.specs.Prelude.{◌≡◌, ℕ, pos, Bool, false, ◌&&◌, IsTrue, List, [], ◌∷◌, Option, Some, None}
 use Rattle.std.specs.List.{list_all}
 use Rattle.std.specs.Ordering.{int_eq}
@@ -32,7 +32,6 @@ is_station [] = false
 is_station (row ∷ []) = int_eq row.id (pos 1) && is_airport row.airport && int_eq row.version (pos 2) && is_count row.confirmed
 is_station (row ∷ other ∷ rows) = false
 
--- the state that the rows stand for
 abbrev pub meaning_of : Tables → State
 meaning_of t = record {
   cargo = record {
@@ -51,9 +50,9 @@ meaning_of t = record {
   kept_texts = kept_texts_in t.kept_texts;
 }
 
--- Every value is within range, `waybill` is empty, no number is in two rows of the stock, what is
--- numbered has the numbers from 1, what was accepted under a key is a command, and the running
--- counts are the book's sums.
+-- Every value is in range, `waybill` is empty, no number is in two rows of the stock, numbered rows
+-- are numbered from 1, the entry of each key is a command, and the running counts are the book's
+-- sums.
 pub record IsReadable (t : Tables) : Type 0 where
   pub station : IsTrue (is_station t.stations)
   pub old : t.old_waybills ≡ []
@@ -74,7 +73,6 @@ pub record IsReadable (t : Tables) : Type 0 where
   pub counts : AreCounts t.counts (book_in t.moves)
   pub builds : AreBuilds t.builds (book_in t.moves)
 
--- the tables mean this state, or none
 abbrev pub Means : Tables → Option State → Type 0
 Means t (Some s) = IsReadable t × (meaning_of t ≡ s)
 Means t None = ¬ IsReadable t

@@ -1,4 +1,4 @@
--- The movement book, by the rows of `moves`.
+-- The movement book in the rows of `moves`.
 use Rattle.std.specs.Prelude.{ℕ, ℤ, pos, ◌==◌, Bool, ◌&&◌, ◌||◌, if◌then◌else◌, is_some, Option, Some, None, List, [], map, length}
 use Rattle.std.specs.Option.{option_map, unwrap_or}
 use Rattle.std.specs.Ordering.{int_eq}
@@ -14,7 +14,6 @@ use Rattle.row_codec.specs.Numbers.{natural, is_within, is_number, is_day}
 use Rattle.row_codec.specs.Flights.{is_flight_text, flight_date_of}
 use Rattle.imp_fields.specs.Amount.{most_pieces, most_tenths}
 
--- the code of a place
 abbrev pub place_code : Place → ℕ
 place_code Hand = 0
 place_code Surplus = 1
@@ -32,11 +31,10 @@ plain_place code =
     else if int_eq code (pos 4) then Some Departed else if int_eq code (pos 5) then Some Delivered else if int_eq code (pos 6) then Some Missing
     else if int_eq code (pos 7) then Some Transferred else None
 
--- the place of a code, where a built one is on this flight
+-- the place with a code; a built one is on this flight
 abbrev pub place_of : ℤ → Option FlightDate → Option Place
 place_of code flight = if int_eq code (pos 3) then option_map Built flight else plain_place code
 
--- the move in a row
 abbrev pub move_by : table.Move → Move
 move_by row = record {
   awb = natural row.awb;
@@ -48,7 +46,7 @@ move_by row = record {
   at = record { day = natural row.day; minute = natural row.minute };
 }
 
--- the move in a row with its number, as readers are given it
+-- the move in a row with its number, as readers return it
 abbrev pub book_row_by : table.Move → BookRow
 book_row_by row = book_row (natural row.number) (move_by row)
 
@@ -61,7 +59,6 @@ abbrev pub day_column : Option FlightDate → ℤ
 day_column None = pos 0
 day_column (Some f) = pos f.day
 
--- the row of a move
 abbrev pub move_row : ℕ → Move → table.Move
 move_row n m = record {
   number = pos n;
@@ -79,11 +76,10 @@ move_row n m = record {
 abbrev pub book_in : List table.Move → List Move
 book_in rows = map move_by rows
 
--- flight and day both or neither
+-- both flight and day, or neither
 abbrev pub are_flight_columns : List ℕ → ℤ → Bool
 are_flight_columns text day = ((length text == 0) && int_eq day (pos 0)) || (is_flight_text text && is_day day)
 
--- within range
 abbrev pub is_move_row : table.Move → Bool
 is_move_row row =
     is_number row.awb && is_some (place_of row.src (flight_date_of row.flight row.fday)) && is_some (place_of row.dst (flight_date_of row.flight row.fday))

@@ -1,4 +1,4 @@
--- Whole numbers of rows.
+-- Whole numbers in rows.
 use Rattle.std.specs.Prelude.{◌≡◌, ℕ, ◌-◌, ℤ, pos, negsuc, int_le, Bool, ◌&&◌, ◌||◌, if◌then◌else◌, List, map, length}
 use Rattle.std.specs.List.{range_with_len}
 use Rattle.std.specs.Ordering.{int_eq}
@@ -10,15 +10,15 @@ abbrev pub natural : ℤ → ℕ
 natural (pos n) = n
 natural (negsuc n) = 0
 
--- from one number to another, both included
+-- from one number to another, inclusive
 abbrev pub is_within : ℕ → ℕ → ℤ → Bool
 is_within low high z = int_le (pos low) z && int_le z (pos high)
 
--- a waybill number, by its key: up to the last serial of prefix 999
+-- the key of a waybill number: up to the last serial of prefix 999
 abbrev pub is_number : ℤ → Bool
 is_number = is_within 0 (key_of 999 (serials - 1))
 
--- what a column `count` or `confirmed` has, and the number of a row
+-- the value of a column `count` or `confirmed`, or a row's number
 abbrev pub is_count : ℤ → Bool
 is_count = is_within 0 most_rows
 

@@ -1,4 +1,4 @@
--- What is asked of the tables for what is asked of a station.
+-- Queries of tables for queries of a station.
 use Rattle.std.specs.Prelude.{◌≡◌, ℕ, Some, length, map}
 use Rattle.station_core.specs.Step.{State}
 use Rattle.station_core.specs.Readers.{book_by, trail_by}
@@ -12,12 +12,12 @@ use Rattle.row_codec.specs.Meaning.{Means}
 use Rattle.row_codec.specs.Moves.{book_row_by}
 use Rattle.row_codec.specs.Logs.{trail_row_by}
 
--- Of tables with so many moves, the rows that are asked for are the movements that are.
+-- In tables with `count` moves, the queried rows are the queried movements.
 abbrev pub AsksMoves : BookQuery → ℕ → MoveQuery → Type 0
 AsksMoves query count asked = (t : Tables) (s : State) → Means t (Some s) → length s.cargo.book ≡ count
     → map book_row_by (moves_for asked t.moves) ≡ book_by query s.cargo
 
--- Of tables with so many lines, the rows that are asked for are the lines that are.
+-- In tables with `count` lines, the queried rows are the queried lines.
 abbrev pub AsksLines : TrailQuery → ℕ → LineQuery → Type 0
 AsksLines query count asked = (t : Tables) (s : State) → Means t (Some s) → length s.cargo.trail ≡ count
     → map trail_row_by (lines_for asked t.trail) ≡ trail_by query s.cargo

@@ -1,4 +1,4 @@
--- What was accepted, by the rows of `kept_key` and `kept_text`.
+-- Accepted inputs in the rows of `kept_key` and `kept_text`.
 use Rattle.std.specs.Prelude.{◌≡◌, ℕ, ℤ, pos, Bool, ◌&&◌, Option, Some, List}
 use Rattle.std.specs.Option.{option_map}
 use Rattle.std.specs.Str.{is_utf8}
@@ -9,7 +9,7 @@ use Rattle.station_core.specs.Told.{IsRequest}
 use Rattle.station_schema.specs.Tables.{Kept, kept_cmp, kept_text_cmp}
 use Rattle.row_codec.specs.Numbers.{natural, is_count}
 
--- what is kept under a key
+-- the entry under a key
 abbrev pub kept_by : Kept → step.Kept
 kept_by row = record { request = row.command; count = natural row.count }
 
@@ -19,17 +19,17 @@ kept_row kept = record { command = kept.request; count = pos kept.count }
 abbrev pub kept_keys_in : FinMap kept_cmp Kept → List ℕ → Option step.Kept
 kept_keys_in rows key = option_map kept_by (get rows key)
 
--- within range, and the command is a text
+-- in range, and the command is a text
 abbrev pub is_kept_row : List ℕ × Kept → Bool
 is_kept_row row = is_key row.0 && is_utf8 row.1.command && is_count row.1.count
 
--- under each key stands the text of a command
+-- each key has the text of a command
 abbrev pub AreRequests : FinMap kept_cmp Kept → Type 0
 AreRequests rows = (key : List ℕ) (row : Kept) → get rows key ≡ Some row → IsRequest row.command
 
 abbrev pub kept_texts_in : FinMap kept_text_cmp ℤ → List ℕ → Option ℕ
 kept_texts_in rows text = option_map natural (get rows text)
 
--- a text, and its count within range
+-- a text, and a count in range
 abbrev pub is_kept_text_row : List ℕ × ℤ → Bool
 is_kept_text_row row = is_utf8 row.0 && is_count row.1

@@ -1,4 +1,4 @@
--- What the rows of `waybill2` declare.
+-- Declarations in the rows of `waybill2`.
 use Rattle.std.specs.Prelude.{ℕ, ℤ, zero, suc, pos, negsuc, Bool, ◌&&◌, ◌||◌, if◌then◌else◌, Option, Some, None, List}
 use Rattle.std.specs.Ordering.{int_eq}
 use Rattle.std.specs.Option.{option_map}
@@ -10,11 +10,11 @@ use Rattle.station_schema.specs.Tables.{Waybill, waybill_id}
 use Rattle.row_codec.specs.Numbers.{natural, is_within, is_number, is_day, flag, is_set, is_flag}
 use Rattle.imp_fields.specs.Amount.{most_pieces, most_tenths}
 
--- the day of a declaration, where one is kept
+-- the day of a declaration, if recorded
 abbrev pub since_of : ℤ → Option ℕ
 since_of z = if int_eq z (pos 0) then None else Some (natural z)
 
--- its column. No moment has the day 0, which has a column apart from that of no day
+-- its column; day 0 isn't a day of a moment, and has a column different from that of no day
 abbrev pub since_column : Option ℕ → ℤ
 since_column None = pos 0
 since_column (Some zero) = negsuc 0
@@ -23,7 +23,6 @@ since_column (Some (suc n)) = pos (suc n)
 abbrev pub is_since : ℤ → Bool
 is_since z = int_eq z (pos 0) || is_day z
 
--- what a row declares
 abbrev pub declared_by : Waybill → Declared
 declared_by row = record {
   origin = row.origin;
@@ -35,7 +34,6 @@ declared_by row = record {
   since = since_of row.since;
 }
 
--- the row of what is declared of a waybill
 abbrev pub waybill_row : ℕ → Declared → Waybill
 waybill_row w d = record {
   awb = pos w;
@@ -51,7 +49,6 @@ waybill_row w d = record {
 abbrev pub declared_in : List Waybill → ℕ → Option Declared
 declared_in rows w = option_map declared_by (get_by waybill_id rows (pos w))
 
--- within range
 abbrev pub is_waybill_row : Waybill → Bool
 is_waybill_row row =
     is_number row.awb && is_airport row.origin && is_airport row.destination && is_within 1 most_pieces row.pieces

@@ -1,4 +1,4 @@
-//! One column of a row: the value that stands in it. `None`: what stands there is out of range.
+//! Reading the columns of a row. The result is `None` if the value is out of range.
 ghost use Rattle.std.specs.Prelude.{◌≡◌, is_some, IfSome};
 ghost use Rattle.imp_fields.specs.Airport.{is_airport};
 ghost use Rattle.imp_fields.specs.Name.{is_goods};
@@ -9,7 +9,7 @@ use awb_number::Awb;
 use imp_fields::{Airport, BookTenths, Goods, PartNumber, Pieces};
 use station_days::LocalDay;
 
-/// The waybill's number of a key.
+/// Reads a waybill number from its key.
 #[tactic(auto, using(crate::proofs::Exact::within_number))]
 pub(crate) fn awb_by(column: i64) -> Option<Awb>
     ensures exact { is_some result ≡ is_number column }
@@ -18,7 +18,6 @@ pub(crate) fn awb_by(column: i64) -> Option<Awb>
     Awb::of_key(u64::try_from(column).ok()?)
 }
 
-/// A count of pieces.
 #[tactic(auto, using(crate::proofs::Exact::within_both))]
 pub(crate) fn pieces_by(column: i64) -> Option<Pieces>
     ensures exact { is_some result ≡ is_within 1 most_pieces column }
@@ -27,7 +26,7 @@ pub(crate) fn pieces_by(column: i64) -> Option<Pieces>
     Pieces::new(u32::try_from(column).ok()?)
 }
 
-/// A weight in tenths of a kilogram that the book can have.
+/// Reads a book weight in tenths of a kilogram.
 #[tactic(auto, using(crate::proofs::Exact::within_most))]
 pub(crate) fn tenths_by(column: i64) -> Option<BookTenths>
     ensures exact { is_some result ≡ is_within 0 most_tenths column }
@@ -36,7 +35,6 @@ pub(crate) fn tenths_by(column: i64) -> Option<BookTenths>
     BookTenths::new(u32::try_from(column).ok()?)
 }
 
-/// The number of a part of a manifest.
 #[tactic(auto, using(crate::proofs::Exact::within_both))]
 pub(crate) fn part_number_by(column: i64) -> Option<PartNumber>
     ensures exact { is_some result ≡ is_within 1 most_parts column }
@@ -45,7 +43,6 @@ pub(crate) fn part_number_by(column: i64) -> Option<PartNumber>
     PartNumber::new(u32::try_from(column).ok()?)
 }
 
-/// A day from 2000-01-01 to 2099-12-31.
 #[tactic(auto, using(crate::proofs::Exact::within_both))]
 pub(crate) fn day_by(column: i64) -> Option<LocalDay>
     ensures exact { is_some result ≡ is_day column }
@@ -54,7 +51,7 @@ pub(crate) fn day_by(column: i64) -> Option<LocalDay>
     LocalDay::new(u32::try_from(column).ok()?)
 }
 
-/// Whether a flag is set: 1 or 0.
+/// Reads a flag: 1 or 0.
 pub(crate) fn flag_by(column: i64) -> Option<bool>
     ensures exact { is_some result ≡ is_flag column }
     ensures value { IfSome result (λ set. set ≡ is_set column) }
@@ -66,7 +63,6 @@ pub(crate) fn flag_by(column: i64) -> Option<bool>
     }
 }
 
-/// The airport of a code.
 #[tactic(auto, using(crate::proofs::Exact::some_where))]
 pub(crate) fn airport_of(text: &str) -> Option<Airport>
     ensures exact { is_some result ≡ is_airport text.now }
@@ -75,7 +71,6 @@ pub(crate) fn airport_of(text: &str) -> Option<Airport>
     Airport::read(text.as_bytes())
 }
 
-/// What the goods are.
 #[tactic(auto, using(crate::proofs::Exact::same_tests))]
 pub(crate) fn goods_of(text: &str) -> Option<Goods>
     ensures exact { is_some result ≡ is_goods text.now }
@@ -84,7 +79,7 @@ pub(crate) fn goods_of(text: &str) -> Option<Goods>
     Goods::read(text.as_bytes())
 }
 
-/// A count. `None`: it is negative, or above 4,294,967,295.
+/// Reads a count. It is `None` if negative, or above 4,294,967,295.
 pub fn count_of(column: i64) -> Option<u32>
     ensures exact { is_some result ≡ is_count column }
     ensures value { IfSome result (λ count. count ≡ natural column) }

@@ -17,7 +17,7 @@ use station_days::LocalDay;
 use station_rows::{FlightRow, NotedFlightRow, StoreFault};
 use std::alloc::Global;
 
-/// A waybill number as a column has it: prefix and serial in one.
+/// Returns a waybill number as a column: prefix and serial in one number.
 pub fn awb_key(awb: &Awb) -> i64
     ensures value { result ≡ pos awb.now }
     ensures in_range { IsTrue (is_number (pos awb.now)) }
@@ -25,7 +25,7 @@ pub fn awb_key(awb: &Awb) -> i64
     awb.key() as i64
 }
 
-/// A day as a column has it: days since 1970-01-01.
+/// Returns a day as a column: the days since 1970-01-01.
 pub fn day_number(day: LocalDay) -> i64
     ensures value { result ≡ pos day }
     ensures in_range { IsTrue (is_day (pos day)) }
@@ -33,8 +33,8 @@ pub fn day_number(day: LocalDay) -> i64
     i64::from(day.number())
 }
 
-/// A flight as a column has it: carrier, at least three digits, and perhaps a letter. A fault: out
-/// of memory.
+/// Returns a flight as a column: the carrier, at least three digits, and an optional letter. It
+/// fails if memory runs out.
 #[tactic(auto, using(crate::proofs::FlightKeys::designator_test, crate::proofs::FlightKeys::written_reads))]
 pub fn flight_text(alloc: Global, flight: &Flight) -> Result<String, StoreFault>
     ensures text { IfOk result (λ text. string_bytes text ≡ flight_text flight.now) }
@@ -46,7 +46,6 @@ pub fn flight_text(alloc: Global, flight: &Flight) -> Result<String, StoreFault>
     text(alloc, &buffer[..len])
 }
 
-/// Whether the designator is written so.
 fn is_written(flight: &Flight, text: &[u8]) -> bool
     ensures { result ≡ bytes_eq (flight_text flight.now) text.now }
 {
@@ -55,7 +54,7 @@ fn is_written(flight: &Flight, text: &[u8]) -> bool
     &buffer[..len] == text
 }
 
-/// The flight of a text that is its written form.
+/// Returns the flight if the text is its written form.
 fn flight_of(text: &str) -> Option<Flight>
     ensures exact { is_some result ≡ is_flight_text text.now }
     ensures value { IfSome result (λ flight. Some flight ≡ flight_of text.now) }
@@ -68,7 +67,7 @@ fn flight_of(text: &str) -> Option<Flight>
     }
 }
 
-/// The flight of a text and a day. `None`: one of them is out of range.
+/// Returns the flight of a text and a day, or `None` if one of them is out of range.
 pub(crate) fn flight_date_by(text: &str, day: i64) -> Option<FlightDate>
     ensures exact { is_some result ≡ is_flight_key (text.now, day) }
     ensures value { IfSome result (λ flight. Some flight ≡ flight_date_of text.now day) }
@@ -78,7 +77,7 @@ pub(crate) fn flight_date_by(text: &str, day: i64) -> Option<FlightDate>
     Some(FlightDate { flight, day })
 }
 
-/// What the columns of a row note of a flight.
+/// Returns the note of a flight in these columns.
 fn outbound_of(unload: &str, closed: i64) -> Option<Outbound>
     ensures exact { is_some result ≡ is_airport unload.now && is_flag closed }
     ensures value { IfSome result (λ outbound. outbound
@@ -89,7 +88,7 @@ fn outbound_of(unload: &str, closed: i64) -> Option<Outbound>
     Some(Outbound { unload, closed })
 }
 
-/// What a row notes of a flight. `None`: a column is out of range.
+/// Returns the note of a flight in a row, or `None` if a column is out of range.
 #[tactic(auto, using(crate::proofs::Exact::under_flight))]
 pub fn outbound_by(row: &FlightRow) -> Option<Outbound>
     ensures exact { (key : FlightKey) → IsTrue (is_flight_key key)
@@ -99,8 +98,7 @@ pub fn outbound_by(row: &FlightRow) -> Option<Outbound>
     outbound_of(&row.unload, row.closed)
 }
 
-/// The flight of a row with these columns, and what the row notes of it. `None`: a column is out of
-/// range.
+/// Returns the flight in these columns with its note, or `None` if a column is out of range.
 pub fn noted_of(flight: &str, day: i64, unload: &str, closed: i64) -> Option<NotedFlight>
     ensures exact { is_some result ≡ is_flight_row
         ((flight.now, day), record { unload = unload.now; closed = closed }) }
@@ -112,7 +110,7 @@ pub fn noted_of(flight: &str, day: i64, unload: &str, closed: i64) -> Option<Not
     Some(NotedFlight { flight, outbound })
 }
 
-/// The flight that a row is of, and what it notes of it. `None`: a column is out of range.
+/// Returns the flight in a row with its note, or `None` if a column is out of range.
 pub fn noted_by(row: &NotedFlightRow) -> Option<NotedFlight>
     ensures exact { is_some result ≡ is_flight_row (noted_flight_meant row.now) }
     ensures value { IfSome result (λ noted. Some noted ≡ noted_by (noted_flight_meant row.now)) }
@@ -120,8 +118,7 @@ pub fn noted_by(row: &NotedFlightRow) -> Option<NotedFlight>
     noted_of(&row.flight, row.day, &row.unload, row.closed)
 }
 
-/// The row of what is noted of a flight, within range under the key of any flight. A fault: out of
-/// memory.
+/// Returns the row of a flight's note, in range for any flight's key. It fails if memory runs out.
 #[tactic(auto, using(crate::proofs::Fits::outbound_fits))]
 pub fn outbound_row(alloc: Global, outbound: &Outbound) -> Result<FlightRow, StoreFault>
     ensures value { IfOk result (λ row. flight_meant row ≡ outbound_row outbound.now) }

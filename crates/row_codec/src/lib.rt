@@ -1,7 +1,7 @@
-//! The rows of a station's tables as values, and back. No call of a store is made here.
+//! Conversion between the rows of a station's tables and values, without calls of a store.
 //!
-//! A row whose columns are out of range stands for no value: reading it returns `None`. Writing
-//! takes memory for the texts, and fails where there is none.
+//! A row with columns out of range isn't a value: reading it returns `None`. Writing allocates the
+//! texts, and fails if memory runs out.
 #![tactic(auto)]
 
 mod columns;

@@ -15,21 +15,20 @@ use station_core::{Message, RowText, TrailRow as ReaderLine};
 use station_rows::{MessageRow, StoreFault, TrailRow};
 use std::alloc::Global;
 
-/// Whether each byte prints.
 fn prints(text: &[u8]) -> bool
     ensures { result ≡ list_all is_printable text.now }
 {
     text.iter().all(|byte| 32 <= *byte && *byte <= 126)
 }
 
-/// Whether it is a line of a message.
+/// Returns whether the text is a line of a message.
 fn is_line(text: &str) -> bool
     ensures { result ≡ is_line text.now }
 {
     prints(text.as_bytes()) && text.len() <= 255
 }
 
-/// The row of a line of a waybill's trail, under its number from 1. A fault: out of memory.
+/// Returns the row of a waybill's trail line, with its number from 1. It fails if memory runs out.
 #[tactic(auto, using(crate::proofs::Fits::line_fits))]
 pub fn trail_row(
     alloc: Global,
@@ -48,7 +47,8 @@ pub fn trail_row(
     })
 }
 
-/// The row of a message, under its number from 1. A fault: the text is no UTF-8, or out of memory.
+/// Returns the row of a message, with its number from 1. It fails if the text isn't UTF-8, or
+/// memory runs out.
 pub fn message_row(alloc: Global, number: u32, message: &[u8]) -> Result<MessageRow, StoreFault>
     ensures value { IfOk result (λ row. message_meant row ≡ message_row number message.now) }
     ensures lawful { OnOk result (IsTrue (is_message_row (message_row number message.now))) }
@@ -59,7 +59,7 @@ pub fn message_row(alloc: Global, number: u32, message: &[u8]) -> Result<Message
     })
 }
 
-/// The waybill that a row of the trail is of. `None`: a column is out of range.
+/// Returns the waybill of a trail row, or `None` if a column is out of range.
 pub fn waybill_of_line(row: &TrailRow) -> Option<Awb>
     ensures exact { is_some result ≡ is_trail_row (trail_meant row.now) }
     ensures value { IfSome result (λ awb. awb ≡ natural row.now.awb) }
@@ -68,7 +68,7 @@ pub fn waybill_of_line(row: &TrailRow) -> Option<Awb>
     if is_line(&row.line) { Some(awb) } else { None }
 }
 
-/// A line of the trail with its number, as readers are given it. `None`: a column is out of range.
+/// Returns a trail line with its number, as readers do, or `None` if a column is out of range.
 pub fn line_by(row: TrailRow) -> Option<ReaderLine>
     ensures exact { is_some result ≡ is_count row.number && is_trail_row (trail_meant row) }
     ensures value { IfSome result (λ line. line ≡ trail_row_by (trail_meant row)) }
@@ -82,7 +82,7 @@ pub fn line_by(row: TrailRow) -> Option<ReaderLine>
     })
 }
 
-/// A message, as readers are given it. `None`: its number is out of range.
+/// Returns a message, as readers do, or `None` if its number is out of range.
 pub fn message_by(row: MessageRow) -> Option<Message>
     ensures exact { is_some result ≡ is_count row.number }
     ensures value { IfSome result (λ one. one

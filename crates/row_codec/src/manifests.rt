@@ -11,7 +11,6 @@ use shipment_machine::{Expected, Part};
 use station_core::Expectation;
 use station_rows::{ExpectedRow, ListedWaybillRow};
 
-/// What the columns of a row say is expected.
 fn expected_of(pieces: i64, tenths: i64, checked: i64) -> Option<Expected>
     ensures exact { is_some result
         ≡ is_within 1 most_pieces pieces && is_within 0 most_tenths tenths && is_flag checked }
@@ -28,7 +27,7 @@ fn expected_of(pieces: i64, tenths: i64, checked: i64) -> Option<Expected>
     })
 }
 
-/// What a row says is expected. `None`: a column is out of range.
+/// Returns the expectation in a row, or `None` if a column is out of range.
 #[tactic(auto, using(crate::proofs::Exact::under_expected))]
 pub fn expected_by(row: &ExpectedRow) -> Option<Expected>
     ensures exact { (key : ExpectedKey) → IsTrue (is_expected_key key)
@@ -38,7 +37,7 @@ pub fn expected_by(row: &ExpectedRow) -> Option<Expected>
     expected_of(row.pieces, row.tenths, row.checked)
 }
 
-/// The flight and the waybill of a row with this key, and what the row says is expected. `None`: a
+/// Returns the expectation in a row with this key, with its flight and waybill, or `None` if a
 /// column is out of range.
 pub fn expectation_of(flight: &str, day: i64, awb: i64, row: &ExpectedRow) -> Option<Expectation>
     ensures exact { is_some result ≡ is_expected_row
@@ -56,8 +55,8 @@ pub fn expectation_of(flight: &str, day: i64, awb: i64, row: &ExpectedRow) -> Op
     })
 }
 
-/// The flight and the waybill that a row is of, and what it says is expected. `None`: a column is
-/// out of range.
+/// Returns the expectation in a row, with its flight and waybill, or `None` if a column is out of
+/// range.
 pub fn expectation_by(row: &ListedWaybillRow) -> Option<Expectation>
     ensures exact { is_some result ≡ is_expected_row (listed_waybill_meant row.now) }
     ensures value { IfSome result (λ one. Some one
@@ -71,7 +70,7 @@ pub fn expectation_by(row: &ListedWaybillRow) -> Option<Expectation>
     expectation_of(&row.flight, row.day, row.awb, &columns)
 }
 
-/// The row of what is expected, within range under the key of any flight and waybill.
+/// Returns the row of an expectation, in range for the key of any flight and waybill.
 #[tactic(auto, using(crate::proofs::Fits::expected_fits))]
 pub fn expected_row(expected: &Expected) -> ExpectedRow
     ensures value { expected_meant result ≡ expected_row expected.now }
@@ -85,7 +84,7 @@ pub fn expected_row(expected: &Expected) -> ExpectedRow
     }
 }
 
-/// The part of a manifest that has this key. `None`: a column is out of range.
+/// Returns the part of a manifest with this key, or `None` if a column is out of range.
 pub fn part_by(flight: &str, day: i64, airport: &str, number: i64) -> Option<Part>
     ensures exact { is_some result ≡ is_part_key (flight.now, (day, (airport.now, number))) }
     ensures value { IfSome result (λ part. Some part

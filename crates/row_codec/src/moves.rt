@@ -12,7 +12,6 @@ use station_days::Moment;
 use station_rows::{MoveRow, StoreFault};
 use std::alloc::Global;
 
-/// The moment of a day and a minute.
 #[tactic(auto, using(crate::proofs::Exact::within_moment))]
 fn moment_by(day: i64, minute: i64) -> Option<Moment>
     ensures exact { is_some result ≡ is_day day && is_within 0 1439 minute }
@@ -22,7 +21,7 @@ fn moment_by(day: i64, minute: i64) -> Option<Moment>
     Moment::new(u32::try_from(day).ok()?, u16::try_from(minute).ok()?)
 }
 
-/// The flight of a text and a day. No text and no day are no flight.
+/// Returns the flight of a text and a day. An empty text and day 0 mean no flight.
 fn flight_by(text: &str, day: i64) -> Option<Option<FlightDate>>
     ensures exact { is_some result ≡ are_flight_columns text.now day }
     ensures value { IfSome result (λ flight. flight ≡ flight_date_of text.now day) }
@@ -34,7 +33,6 @@ fn flight_by(text: &str, day: i64) -> Option<Option<FlightDate>>
     Some(Some(flight))
 }
 
-/// The place of a code, where a built one is on this flight.
 fn place_by(code: i64, flight: Option<FlightDate>) -> Option<Place>
     ensures { result ≡ place_of code flight }
 {
@@ -54,7 +52,7 @@ fn place_by(code: i64, flight: Option<FlightDate>) -> Option<Place>
     }
 }
 
-/// The move in a row. `None`: a column is out of range.
+/// Returns the move in a row, or `None` if a column is out of range.
 pub fn move_by(row: &MoveRow) -> Option<Move>
     ensures exact { is_some result ≡ is_move_row (move_meant row.now) }
     ensures value { IfSome result (λ movement. movement ≡ move_by (move_meant row.now)) }
@@ -71,7 +69,7 @@ pub fn move_by(row: &MoveRow) -> Option<Move>
     })
 }
 
-/// The move in a row with its number, as readers are given it. `None`: a column is out of range.
+/// Returns the move in a row with its number, as readers do, or `None` if a column is out of range.
 pub fn book_row_by(row: &MoveRow) -> Option<BookRow>
     ensures exact { is_some result ≡ is_count row.now.number && is_move_row (move_meant row.now) }
     ensures value { IfSome result (λ one. one ≡ book_row_by (move_meant row.now)) }
@@ -81,7 +79,7 @@ pub fn book_row_by(row: &MoveRow) -> Option<BookRow>
     Some(BookRow { number, movement })
 }
 
-/// The code of a place, as the columns of `moves` and `counts` have it: 0 to 7.
+/// Returns the code of a place in `moves` and `counts`: 0 to 7.
 pub fn place_code(place: &Place) -> i64
     ensures { result ≡ pos (place_code place.now) }
 {
@@ -97,7 +95,7 @@ pub fn place_code(place: &Place) -> i64
     }
 }
 
-/// Whether a place is built on this flight, or isn't built.
+/// Returns whether a place is built on this flight, or isn't built.
 #[tactic(auto, using(crate::proofs::MoveRows::built_again))]
 fn is_named(place: &Place, flight: &Option<FlightDate>) -> bool
     ensures { result ≡ true → place_of (pos (place_code place.now)) flight.now ≡ Some place.now }
@@ -117,8 +115,8 @@ fn is_named(place: &Place, flight: &Option<FlightDate>) -> bool
     }
 }
 
-/// The text and the day of a move's flight, empty and 0 where it has none. It is read again from
-/// them. A fault: out of memory.
+/// Returns the text and the day of a move's flight, empty and 0 without one. They are read back as
+/// the flight. It fails if memory runs out.
 fn flight_columns(alloc: Global, flight: &Option<FlightDate>) -> Result<(String, i64), StoreFault>
     ensures text { IfOk result (λ columns. string_bytes columns.0 ≡ flight_column flight.now) }
     ensures day { IfOk result (λ columns. columns.1 ≡ day_column flight.now) }
@@ -136,7 +134,7 @@ fn flight_columns(alloc: Global, flight: &Option<FlightDate>) -> Result<(String,
     }
 }
 
-/// The day and the minute of a moment.
+/// Returns the day and the minute of a moment.
 #[tactic(auto, using(crate::proofs::Fits::day_fits))]
 fn moment_columns(at: Moment) -> (i64, i64)
     ensures day { result.0 ≡ pos at.day }
@@ -147,8 +145,8 @@ fn moment_columns(at: Moment) -> (i64, i64)
     (i64::from(at.day), i64::from(at.minute))
 }
 
-/// The row of a move, under its number from 1. A fault: a place of it is built on another flight
-/// than the move's, or out of memory.
+/// Returns the row of a move, with its number from 1. It fails if one of its places is built on a
+/// flight other than the move's, or if memory runs out.
 #[tactic(auto, using(crate::proofs::MoveRows::row_fits, crate::proofs::MoveRows::move_again))]
 pub fn move_row(alloc: Global, number: u32, movement: &Move) -> Result<MoveRow, StoreFault>
     ensures value { IfOk result (λ row. move_meant row ≡ move_row number movement.now) }

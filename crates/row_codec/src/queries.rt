@@ -1,4 +1,4 @@
-//! What is asked of the tables for what is asked of a station.
+//! Queries of tables for queries of a station.
 ghost use Rattle.std.specs.Prelude.{IfOk};
 ghost use Rattle.row_codec.specs.Queries.{AsksMoves, AsksLines};
 
@@ -7,8 +7,8 @@ use station_core::{BookQuery, TrailQuery};
 use station_rows::{LineQuery, MoveQuery, StoreFault};
 use std::alloc::Global;
 
-/// The rows of `moves` that have the movements that are asked for, if there are so many moves.
-/// A fault: out of memory.
+/// Returns the query of `moves` for a query of the book with `count` moves. It fails if memory runs
+/// out.
 #[tactic(auto, using(crate::proofs::Asking::asks_all, crate::proofs::Asking::asks_after, crate::proofs::Asking::asks_last))]
 pub fn move_query(alloc: Global, query: BookQuery, count: u32) -> Result<MoveQuery, StoreFault>
     ensures { IfOk result (λ asked. AsksMoves query count asked) }
@@ -25,7 +25,7 @@ pub fn move_query(alloc: Global, query: BookQuery, count: u32) -> Result<MoveQue
     }
 }
 
-/// The rows of `trail` that have the lines that are asked for, if there are so many lines.
+/// Returns the query of `trail` for a query of the trail with `count` lines.
 #[tactic(auto, using(crate::proofs::Asking::asks_all_lines, crate::proofs::Asking::asks_lines_after, crate::proofs::Asking::asks_last_lines))]
 pub fn line_query(query: TrailQuery, count: u32) -> LineQuery
     ensures { AsksLines query count result }

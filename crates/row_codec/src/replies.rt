@@ -8,7 +8,7 @@ use crate::columns::count_of;
 use station_core::KeptReply;
 use station_rows::KeptRow;
 
-/// What is kept under a key. `None`: the count is out of range.
+/// Returns the entry under a key, or `None` if the count is out of range.
 pub fn kept_by(row: KeptRow) -> Option<KeptReply>
     ensures exact { (key : List ℕ) → IsTrue (is_key key)
         → is_some result ≡ is_kept_row (key, kept_meant row) }

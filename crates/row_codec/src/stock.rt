@@ -8,7 +8,7 @@ use agent_stock::{AgentCode, Holder, StockRun};
 use awb_number::{Awb, SERIALS};
 use station_rows::StockRow;
 
-/// The holder in a row, if it names one.
+/// Returns the holder in a row, if it names one.
 fn holder_by(row: &StockRow) -> Option<Holder>
     ensures { result ≡ holder_by (stock_meant row.now).1 }
 {
@@ -32,7 +32,6 @@ fn holder_by(row: &StockRow) -> Option<Holder>
     }
 }
 
-/// The number of a prefix and a serial.
 #[tactic(auto, using(crate::proofs::Exact::within_number_parts))]
 fn number_by(prefix: i64, serial: i64) -> Option<Awb>
     ensures exact { is_some result ≡ is_within 0 999 prefix && is_within 0 (serials - 1) serial }
@@ -42,8 +41,8 @@ fn number_by(prefix: i64, serial: i64) -> Option<Awb>
     Awb::new(u16::try_from(prefix).ok()?, u32::try_from(serial).ok()?)
 }
 
-/// How many serials there are from one to another. `None`: the other is below it, or has more than
-/// seven digits.
+/// Returns the number of serials from `low` to `high`, or `None` if `high` is less, or has more
+/// than seven digits.
 #[tactic(auto, using(crate::proofs::Exact::serials_within))]
 fn count_by(low: i64, high: i64) -> Option<u32>
     requires { IsTrue (is_within 0 (serials - 1) low) }
@@ -57,8 +56,8 @@ fn count_by(low: i64, high: i64) -> Option<u32>
     }
 }
 
-/// The numbers that a row stands for, with their holder. `None`: they aren't numbers of a prefix,
-/// or no holder is named.
+/// Returns the run of numbers in a row with their holder, or `None` if they aren't numbers of one
+/// prefix, or have no holder.
 pub fn run_by(row: &StockRow) -> Option<StockRun>
     ensures exact { is_some result ≡ is_stock_row (stock_meant row.now) }
     ensures value { IfSome result (λ run. run ≡ run_in (stock_meant row.now)) }

@@ -4,7 +4,7 @@ ghost use Rattle.std.specs.Str.{is_utf8};
 use station_rows::StoreFault;
 use std::alloc::Global;
 
-/// The bytes as a text of their own. A fault: they are no UTF-8, or out of memory.
+/// Copies bytes as a text. It fails if they aren't UTF-8, or memory runs out.
 pub fn text(alloc: Global, bytes: &[u8]) -> Result<String, StoreFault>
     ensures value { IfOk result (λ text. string_bytes text ≡ bytes.now) }
     ensures valid { OnOk result (IsTrue (is_utf8 bytes.now)) }

@@ -12,7 +12,7 @@ use station_days::LocalDay;
 use station_rows::{StoreFault, WaybillRow};
 use std::alloc::Global;
 
-/// The day that a column `since` has, or none. `None`: it is out of range.
+/// Returns the day in a column `since`, which may be absent, or `None` if it is out of range.
 fn since_by(column: i64) -> Option<Option<LocalDay>>
     ensures exact { is_some result ≡ is_since column }
     ensures value { IfSome result (λ since. since ≡ since_of column) }
@@ -24,7 +24,7 @@ fn since_by(column: i64) -> Option<Option<LocalDay>>
     Some(Some(day))
 }
 
-/// The column of a day, or of none.
+/// Returns the column of a day, which may be absent.
 #[tactic(auto, using(crate::proofs::Fits::since_fits, crate::proofs::Fits::day_column))]
 fn since_number(since: Option<LocalDay>) -> i64
     ensures value { result ≡ since_column since }
@@ -36,7 +36,7 @@ fn since_number(since: Option<LocalDay>) -> i64
     }
 }
 
-/// The waybill that a row is of, and what it declares. `None`: a column is out of range.
+/// Returns the waybill in a row with its declaration, or `None` if a column is out of range.
 pub fn waybill_by(row: &WaybillRow) -> Option<(Awb, Declared)>
     ensures exact { is_some result ≡ is_waybill_row (waybill_meant row.now) }
     ensures awb { IfSome result (λ found. found.0 ≡ natural row.now.awb) }
@@ -55,7 +55,7 @@ pub fn waybill_by(row: &WaybillRow) -> Option<(Awb, Declared)>
     Some((awb, declared))
 }
 
-/// The row of what is declared of a waybill, which is within range. A fault: out of memory.
+/// Returns the row of a waybill's declaration, which is in range. It fails if memory runs out.
 #[tactic(auto, using(crate::proofs::Fits::waybill_fits))]
 pub fn waybill_row(alloc: Global, awb: &Awb, declared: &Declared) -> Result<WaybillRow, StoreFault>
     ensures value { IfOk result (λ row. waybill_meant row ≡ waybill_row awb.now declared.now) }

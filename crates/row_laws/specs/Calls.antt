@@ -1,4 +1,4 @@
--- What a statement does to a connection, whatever its tables.
+-- The effect of a statement on a connection, whatever its tables.
 use Rattle.std.specs.Prelude.{◌≡◌, ◌⊎◌, [], true, false, IsTrue, Result, Ok, Err}
 use Rattle.std.specs.List.{AllByRecursion}
 use Rattle.sqlite.specs.declared.error.Error.{Error}
@@ -6,11 +6,11 @@ use Rattle.sqlite.specs.Schema.{Schema}
 use Rattle.sqlite.specs.Table.{Table}
 use Rattle.sqlite.specs.State.{State, Shows, IsUnchanged, IsRolledBack, KeepsCommit}
 
--- nothing was done, or the transaction is undone
+-- nothing was done, or the transaction was rolled back
 abbrev pub Stops : State → State → Type 0
 Stops old new = IsUnchanged old new ⊎ IsRolledBack old new
 
--- a read: at Ok this holds of what was read
+-- a read: at Ok `Is` holds of what was read
 abbrev pub Reads : {X : Type 0} → State → State → Result X Error → (X → Type 0) → Type 0
 Reads old new (Ok x) Is = Is x × IsUnchanged old new
 Reads old new (Err e) Is = Stops old new
@@ -23,14 +23,14 @@ abbrev pub Commits : {X : Type 0} → State → State → Result X Error → Typ
 Commits old new (Ok x) = Shows old new old.now old.now false
 Commits old new (Err e) = Stops old new
 
--- no transaction is open, and while the connection is open it is back at the last commit
+-- no transaction is open, and if the connection is open it is back at the last commit
 pub record IsUndone (old new : State) : Type 0 where
   pub outside : new.in_transaction ≡ false
   pub was_open : IsTrue new.is_open → IsTrue old.is_open
   pub committed : IsTrue new.is_open → new.committed ≡ old.committed
   pub now : IsTrue new.is_open → new.now ≡ old.committed
 
--- no transaction is open, and while the connection is open it shows the last commit
+-- no transaction is open, and if the connection is open it shows the last commit
 pub record IsSettled (s : State) : Type 0 where
   pub outside : s.in_transaction ≡ false
   pub settled : IsTrue s.is_open → s.now ≡ s.committed

@@ -1,4 +1,4 @@
--- What a change at a key makes of a map.
+-- The effect of a change at a key on a map.
 use Rattle.std.specs.Prelude.{◌≡◌, Some, option_map, unwrap_or}
 use Rattle.std.specs.declared.cmp.Ordering.{Ordering}
 use Rattle.std.specs.FinMap.{FinMap, get, insert}

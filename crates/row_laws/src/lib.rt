@@ -1,5 +1,5 @@
-//! What the statements of SQL do to a connection of `sqlite`, under any schema: the lemmas that
-//! each typed call rests on, and the calls that begin, end and undo a transaction.
+//! The effect of SQL statements on a connection of `sqlite`, under any schema: lemmas for typed
+//! calls, and the calls that begin, commit and roll back a transaction.
 #![tactic(auto)]
 
 mod streaming;

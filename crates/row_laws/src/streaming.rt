@@ -12,12 +12,12 @@ use row_sinks::Sink;
 use sqlite::types::ValueRef;
 use sqlite::{Alter, Connection, Error, ErrorCode, Row, Rows};
 
-/// A value that a row of an answer is read as.
+/// A value that is read from a row of a result.
 pub trait ReadRow {
     ghost use Rattle.std.specs.Prelude.{IfOk};
     ghost use Rattle.sqlite.specs.Order.{Row as AnyRow};
 
-    /// The row stands for this.
+    /// The relation of a row to its value.
     ghost reads: { AnyRow → Self → Type 0 };
 
     /// Reads a row.
@@ -25,7 +25,7 @@ pub trait ReadRow {
         ensures { IfOk result (reads row.now) };
 }
 
-/// Moves on to the next row and reads it. At the end there is none.
+/// Moves to the next row and reads it. There is none at the end.
 fn next_value<S: Alter, T: ReadRow>(rows: &mut Rows<'_, S>) -> Result<Option<T>, Error>
     ensures same_reference { rows.new.conn.ghost_name ≡ rows.old.conn.ghost_name }
     ensures moves { HasCleanDisk (state S.Store rows.new.conn.now)
@@ -42,7 +42,7 @@ fn next_value<S: Alter, T: ReadRow>(rows: &mut Rows<'_, S>) -> Result<Option<T>,
     }
 }
 
-/// Hands out the rows of a query, until the sink takes no more.
+/// Hands out the rows of a query, until the sink stops.
 fn hand_rows<S: Alter, T: ReadRow + Drop, K: Sink<T>>(
     rows: &mut Rows<'_, S>,
     sink: &mut K,
@@ -70,8 +70,8 @@ fn hand_rows<S: Alter, T: ReadRow + Drop, K: Sink<T>>(
     Err(Error::SqliteFailure(ErrorCode::TooBig))
 }
 
-/// Hands out the rows of an answer, in order, as the query gives them, until the sink takes no
-/// more: then the query ends. An error ends it too; what was handed out before is a beginning.
+/// Hands out the rows of a query, in order, until the sink stops, which ends the query. An error
+/// ends it too, after a prefix.
 pub fn stream<S: Alter, T: ReadRow + Drop, K: Sink<T>>(
     conn: &mut Connection<S>,
     sql: &str,

@@ -5,7 +5,7 @@ ghost use Rattle.row_laws.specs.Calls.{Begins, Commits, Stops, IsUndone};
 
 use sqlite::{Alter, Connection, Error, ErrorCode};
 
-/// Begins a transaction. On error nothing was begun, or the transaction that was open is undone.
+/// Begins a transaction. On error none was begun, or the open one was rolled back.
 pub fn begin<S: Alter>(conn: &mut Connection<S>) -> Result<usize, Error>
     ensures begun { HasCleanDisk (state S.Store conn.new)
         → Begins (state S.Store conn.old) (state S.Store conn.new) result }
@@ -14,8 +14,8 @@ pub fn begin<S: Alter>(conn: &mut Connection<S>) -> Result<usize, Error>
     conn.execute("BEGIN", &[])
 }
 
-/// Ends the transaction and keeps what it wrote. A crash during the call leaves the last commit or
-/// what the transaction wrote.
+/// Commits the transaction. A crash during the call leaves the last commit or what the transaction
+/// wrote.
 pub fn commit<S: Alter>(conn: &mut Connection<S>) -> Result<usize, Error>
     ensures done { HasCleanDisk (state S.Store conn.new)
         → Commits (state S.Store conn.old) (state S.Store conn.new) result }
@@ -25,7 +25,7 @@ pub fn commit<S: Alter>(conn: &mut Connection<S>) -> Result<usize, Error>
     conn.execute("COMMIT", &[])
 }
 
-/// Undoes the transaction, if one is open. While the connection is open, it then shows the last
+/// Rolls back the transaction, if one is open. If the connection is open, it then shows the last
 /// commit.
 pub fn roll_back<S: Alter>(conn: &mut Connection<S>)
     ensures undone { HasCleanDisk (state S.Store conn.new)
@@ -38,16 +38,16 @@ pub fn roll_back<S: Alter>(conn: &mut Connection<S>)
     let _ = conn.execute("ROLLBACK", &[]);
 }
 
-/// Whether a statement was refused since no transaction is open.
+/// Returns whether a statement was refused because no transaction is open.
 fn is_refused(done: &Result<usize, Error>) -> bool
     ensures { IsTrue result → done.now ≡ Err (Error.SqliteFailure ErrorCode.TransactionState) }
 {
     matches!(done, Err(Error::SqliteFailure(ErrorCode::TransactionState)))
 }
 
-/// Whether the connection serves statements, outside a transaction. It asks to undo one: an open
-/// connection refuses that where none is open, and does nothing. A transaction that is open is
-/// undone, and the answer is false then. Once the statement is compiled, it takes no memory.
+/// Returns whether the connection is usable and outside a transaction. It tries to roll back: an
+/// open connection refuses that without a transaction, and nothing happens. An open transaction is
+/// rolled back, and the result is false. Once the statement is compiled, it allocates nothing.
 pub fn is_live<S: Alter>(conn: &mut Connection<S>) -> bool
     ensures same { IsTrue result → HasCleanDisk (state S.Store conn.new)
         → IsUnchanged (state S.Store conn.old) (state S.Store conn.new) }

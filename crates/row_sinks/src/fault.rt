@@ -1,8 +1,8 @@
 use std::alloc::{AllocError, AllocFailed};
 
-/// A call of a store failed: a call of its database did or couldn't be made, since no transaction
-/// was open for a write or an earlier call had failed, or memory ran out once the store had been
-/// asked.
+/// A failed call of a store: a call of its database failed, or couldn't be made because no
+/// transaction was open for a write or an earlier call had failed, or memory ran out after the
+/// store was called.
 #[derive(Clone, Copy, Debug, PartialEq, Eq)]
 pub struct StoreFault;
 

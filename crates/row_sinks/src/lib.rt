@@ -1,4 +1,4 @@
-//! What takes rows one after another, and the fault of a store that gives or takes them.
+//! Sinks of rows, and the fault of a store that reads or writes rows.
 #![tactic(auto)]
 
 mod fault;

@@ -1,4 +1,4 @@
--- When a view shows what a state has for a command, and what is answered from it.
+-- Views of a state for a command, and the answers from them.
 use Rattle.std.specs.Prelude.{◌≡◌, ℕ, ◌+◌, ◌≤◌, false, true, ◌==◌, ⊤, if◌then◌else◌, Option, None, IsSome, Result, Ok, Err, is_some, List, [], map, length, All}
 use Rattle.station_days.specs.Date.{LocalMinute, resolved}
 use Rattle.shipment_machine.specs.declared.moves.Balances.{Balances}
@@ -21,9 +21,8 @@ use Rattle.shipment_machine.specs.Effect.{Outcome, decided, no_rule, reads, desk
 use Rattle.shipment_machine.specs.Lawful.{IsLawful}
 use Rattle.shipment_machine.specs.Announced.{part_answer}
 
--- What a state has for a command.
+-- Views of a state.
 
--- the rows that a command reads
 abbrev pub rows_for : Cargo → ShipmentCommand → LocalMinute → Rows
 rows_for s (order.Desk command) at = rows_of s (reads command)
 rows_for s (order.Fwb c) at = rows_of s (key.Declaration c.awb)
@@ -33,7 +32,6 @@ rows_for s (order.Ffm f) at =
     else rows.Lines false []
 rows_for s (order.Fsu f) at = rows.Status (s.declared f.awb)
 
--- the view shows what the state has for the command
 abbrev pub view_of : Cargo → ShipmentCommand → LocalMinute → View
 view_of s command at = record { here = s.here; rows = rows_for s command at }
 
@@ -41,17 +39,17 @@ view_of s command at = record { here = s.here; rows = rows_for s command at }
 abbrev pub IsViewOf : Cargo → ShipmentCommand → LocalMinute → View → Type 0
 IsViewOf s command at view = IsLawful s × (view ≡ view_of s command at)
 
--- What is answered from the rows.
+-- Answers from the rows.
 
--- the day that a command's date means: that of a manifest; other commands have no date to be looked
--- up
+-- the day that a manifest's date means; other commands have no date to resolve
 abbrev pub meant_by : ShipmentCommand → LocalMinute → Option ℕ
 meant_by (order.Desk command) at = None
 meant_by (order.Fwb c) at = None
 meant_by (order.Ffm f) at = resolved f.date at.day
 meant_by (order.Fsu f) at = None
 
--- the answer to a command, from the rows that it reads; a manifest's date means this day
+-- the answer to a command from the rows that it reads; `meant` is the day that a manifest's date
+-- means
 abbrev pub rows_answer : List ℕ → Rows → ShipmentCommand → LocalMinute → Option ℕ
     → Result Outcome Refusal
 rows_answer here read (order.Desk command) at meant = decided (desk_rule here read command at)
@@ -63,7 +61,7 @@ rows_answer here (rows.Status declared) (order.Fsu f) at meant =
     decided (noting_status declared f.awb f.lines)
 rows_answer here _ _ at meant = decided no_rule
 
--- Which rows fit a command.
+-- Rows that fit a command.
 
 -- balances of a waybill in a lawful state
 pub record AreSound (b : Balances) : Type 0 where
@@ -71,12 +69,12 @@ pub record AreSound (b : Balances) : Type 0 where
   pub missing : IsHeld b.missing
   pub came : b.missing.tenths ≤ b.taken.tenths + b.found.tenths
 
--- something of the waybill is built, within bounds
+-- some of the waybill is built, within bounds
 pub record IsOnBoard (a : FlightLoad) : Type 0 where
   pub held : IsHeld a.load
   pub some : 1 ≤ a.load.pieces
 
--- whether rows can be these of a lawful state
+-- a lawful state can have these rows for the key
 abbrev pub AreRowsOf : RowsKey → Rows → Type 0
 AreRowsOf (key.Declaration w) (rows.Declaration view) = ⊤
 AreRowsOf (key.Waybill w) (rows.Waybill view) = AreSound view.balances
@@ -88,7 +86,6 @@ AreRowsOf (key.CheckIn w flight) (rows.CheckIn view expected) = IsHeld (expected
 AreRowsOf key.Messages (rows.Messages confirmed last) = ⊤
 AreRowsOf _ _ = ⊥
 
--- whether rows fit a command
 abbrev pub FitsCommand : List ℕ → Rows → ShipmentCommand → Option ℕ → Type 0
 FitsCommand here read (order.Desk command) meant = AreRowsOf (reads command) read
 FitsCommand here read (order.Fwb c) meant = AreRowsOf (key.Declaration c.awb) read
@@ -97,9 +94,8 @@ FitsCommand here (rows.Lines taken lines) (order.Ffm f) meant =
 FitsCommand here (rows.Status declared) (order.Fsu f) meant = ⊤
 FitsCommand here _ _ meant = ⊥
 
--- What is planned.
+-- Plans.
 
--- what a plan does
 abbrev pub outcome_of : Plan → Outcome
 outcome_of plan =
     record {
@@ -109,18 +105,18 @@ outcome_of plan =
       count = plan.count;
     }
 
--- a refusal is the effect's; out of memory, nothing is said; an effect never comes as a view that
--- doesn't fit
+-- a refusal is the one of the effect; if memory runs out there is no guarantee; the view never is
+-- unfit
 abbrev pub RefusesAs : Result Outcome Refusal → PlanFault → Type 0
 RefusesAs answer (fault.Refused refusal) = answer ≡ Err refusal
 RefusesAs answer fault.Memory = Unit {0}
 RefusesAs answer fault.Unfit = ⊥
 
--- a plan is what is answered, and a fault is its refusal
+-- a plan is the answer, and a fault is its refusal
 abbrev pub IsAnswer : Result Plan PlanFault → Result Outcome Refusal → Type 0
 IsAnswer (Ok plan) answer = answer ≡ Ok (outcome_of plan)
 IsAnswer (Err fault) answer = RefusesAs answer fault
 
--- a plan leaves the state lawful, whatever text is kept for a part that it notes
+-- a plan leaves the state lawful, whatever text is stored for a part that it notes
 abbrev pub StaysLawful : Cargo → Plan → Type 0
 StaysLawful s plan = (text : List ℕ) → IsLawful (carried_out text (outcome_of plan) s)

@@ -7,19 +7,17 @@ use Rattle.shipment_machine.specs.declared.amount.Amount.{Amount}
 abbrev pub amount : ℕ → ℕ → Amount
 amount pieces tenths = record { pieces = pieces; tenths = tenths }
 
--- some pieces of an amount, with their share of its weight
+-- `pieces` of an amount, with their share of its weight
 abbrev pub part : Amount → ℕ → Amount
 part whole pieces = amount pieces (share_of whole.pieces whole.tenths pieces)
 
--- what is left of an amount
 abbrev pub less : Amount → Amount → Amount
 less a b = amount (a.pieces - b.pieces) (a.tenths - b.tenths)
 
--- two amounts together
 abbrev pub plus : Amount → Amount → Amount
 plus a b = amount (a.pieces + b.pieces) (a.tenths + b.tenths)
 
--- whether an amount is within 9,999 pieces and 999,999 tenths
+-- true if an amount is at most 9,999 pieces and 999,999 tenths
 abbrev pub fits : Amount → Bool
 fits a = nat_le a.pieces most_pieces && nat_le a.tenths most_tenths
 
@@ -33,20 +31,20 @@ pub record IsHeld (a : Amount) : Type 0 where
 abbrev pub IsCount : ℕ → Type 0
 IsCount n = n ≤ most_pieces
 
--- an amount is a part of another, and what it leaves has at least a tenth a piece too
+-- an amount is a part of another, and the rest has at least a tenth a piece too
 pub record IsPartOf (part whole : Amount) : Type 0 where
   pub held : IsHeld part
   pub pieces : part.pieces ≤ whole.pieces
   pub tenths : part.tenths ≤ whole.tenths
   pub rest : whole.pieces - part.pieces ≤ whole.tenths - part.tenths
 
--- two amounts are within 9,999 pieces and 999,999 tenths together
+-- the sum of two amounts is at most 9,999 pieces and 999,999 tenths
 pub record GoesWith (whole more : Amount) : Type 0 where
   pub held : IsHeld more
   pub pieces : whole.pieces + more.pieces ≤ most_pieces
   pub tenths : whole.tenths + more.tenths ≤ most_tenths
 
--- an amount as 4 pieces, 40.0 kg
+-- an amount such as 4 pieces, 40.0 kg
 abbrev pub pieces_word : ℕ → List ℕ
 pieces_word pieces = if pieces == 1 then codes "piece" else codes "pieces"
 

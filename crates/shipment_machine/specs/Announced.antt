@@ -1,4 +1,4 @@
--- A part of a manifest, as it is answered from what is kept of its lines' waybills.
+-- A part of a manifest, answered from the rows of its lines' waybills.
 use Rattle.std.specs.Prelude.{◌≡◌, ℕ, Bool, false, not, length, ◌==◌, if◌then◌else◌, Option, Some, None, is_none, Result, Ok, Err, List, [], ◌∷◌}
 use Rattle.shipment_machine.specs.declared.flight.FlightDate.{FlightDate}
 use Rattle.shipment_machine.specs.declared.moves.Expected.{Expected}
@@ -17,7 +17,7 @@ use Rattle.agent_stock.specs.declared.stock.Holder.{Holder}
 use Rattle.shipment_machine.specs.declared.moves.Declared.{Declared}
 use Rattle.shipment_machine.specs.Effect.{Outcome, first_refusal, declare, announced, is_day, lines_for, unless_refused, then_write, row_refusals, row_changes, expected_after}
 
--- the waybills that earlier lines were for, with what is expected of each by now
+-- the expectations of the waybills of earlier lines
 abbrev pub Earlier : Type 0
 Earlier = ℕ → Option Expected
 
@@ -27,12 +27,11 @@ no_earlier _ = None
 abbrev pub with_line : Earlier → ℕ → Expected → Earlier
 with_line earlier w e = λ q. if q == w then Some e else earlier q
 
--- whether a line declares its waybill
+-- true if a line declares its waybill
 abbrev pub is_new : Option Expected → LineView → Bool
 is_new None row = is_none row.declared
 is_new (Some e) row = false
 
--- what is expected of its waybill so far
 abbrev pub expected_so_far : Option Expected → LineView → Option Expected
 expected_so_far None row = row.expected
 expected_so_far (Some e) row = Some e
@@ -48,7 +47,7 @@ changes_now before flight today c row =
 abbrev pub expected_now : Option Expected → CargoLine → LineView → Expected
 expected_now before c row = expected_after (expected_so_far before row) c
 
--- what all lines write, each after those before it; or the first refusal
+-- the rows that all lines write, each tested after those before it; or the first refusal
 abbrev pub announced_changes : Earlier → FlightDate → ℕ → List CargoLine → List LineView
     → Result (List Change) Refusal
 announced_changes earlier flight today [] rows = Ok []
@@ -59,7 +58,7 @@ announced_changes earlier flight today (c ∷ cs) (row ∷ rows) =
     (announced_changes (with_line earlier c.awb (expected_now (earlier c.awb) c row)) flight today
     cs rows))
 
--- the part that a telegram is, where its date means this day
+-- the key of a part whose date means the day `meant`
 abbrev pub part_key : InboundPart → Option ℕ → Part
 part_key f meant =
     record {
@@ -73,7 +72,8 @@ part_tests taken f meant =
     (not (is_day meant), record { number = 301; detail = detail.Line 2 why.Date })
     ∷ (taken, record { number = 213; detail = detail.Part (part_key f meant) }) ∷ []
 
--- what it is answered, where it was taken or not, from the rows of its lines for here
+-- the answer to a part, from the rows of its lines for here; `taken` says whether the part was
+-- taken before
 abbrev pub part_answer : List ℕ → ℕ → Bool → List LineView → InboundPart → Option ℕ
     → Result Outcome Refusal
 part_answer here today taken rows f meant =
@@ -81,12 +81,12 @@ part_answer here today taken rows f meant =
     (announced (part_key f meant) (length (lines_for here f.lines))
     (announced_changes no_earlier (part_key f meant).flight today (lines_for here f.lines) rows))
 
--- the rows of a waybill that a line declares, if it does
+-- the rows of the declaration, if the line makes one
 abbrev pub first_rows : Option Declared → Option Holder → ℕ → List Change
 first_rows None who w = []
 first_rows (Some d) who w = declare who w d
 
--- a fault is a refusal that is due, or there is no memory
+-- a fault is the refusal that is due, or memory ran out
 abbrev pub IsRefusal : Option Refusal → PlanFault → Type 0
 IsRefusal due (fault.Refused refusal) = due ≡ Some refusal
 IsRefusal due fault.Memory = Unit {0}

@@ -1,4 +1,4 @@
--- What a station knows of its cargo, and how a change of a row changes it.
+-- A station's state of its cargo, and how a row changes it.
 use Rattle.std.specs.Prelude.{ℕ, Bool, ◌&&◌, ◌==◌, if◌then◌else◌, Option, Some, None, List, [], ◌∷◌, ◌++◌}
 use Rattle.std.specs.Str.{bytes_eq}
 use Rattle.shipment_machine.specs.Flights.{same_flight_date}
@@ -13,7 +13,7 @@ use Rattle.shipment_machine.specs.declared.moves.Part.{Part}
 use Rattle.shipment_machine.specs.declared.plans.Change.{Change}
 use Rattle.shipment_machine.specs.declared.plans.Change.TheVariants.{Declare, UseUp, NoteFlight, Expect, NotePart, Trail, Confirm}
 
--- A map is the function from a key to what is kept under it. A waybill goes by its number.
+-- Maps are functions from a key to the stored value. A waybill's key is its number.
 pub record Cargo : Type 0 where
   -- the station's airport
   pub here : List ℕ
@@ -21,16 +21,16 @@ pub record Cargo : Type 0 where
   pub declared : ℕ → Option Declared
   pub book : List Move
   pub flights : FlightDate → Option Outbound
-  -- what is expected on a flight of a waybill
+  -- the expectation of a waybill on a flight
   pub expected : FlightDate → ℕ → Option Expected
   -- the telegram of each part of a manifest
   pub parts : Part → Option (List ℕ)
   pub trail : List (ℕ × List ℕ)
   pub outbox : List (List ℕ)
-  -- the messages up to this one are confirmed
+  -- the number of the last confirmed message
   pub confirmed : ℕ
 
--- a station with nothing in it
+-- an empty station
 abbrev pub opening_cargo : List ℕ → Cargo
 opening_cargo here = record {
   here = here;
@@ -45,12 +45,11 @@ opening_cargo here = record {
   confirmed = 0;
 }
 
--- whether two parts of manifests are one
 abbrev pub same_part : Part → Part → Bool
 same_part a b =
     same_flight_date a.flight b.flight && bytes_eq a.airport b.airport && (a.number == b.number)
 
--- the state after one row is written, where the telegram in work has this text
+-- the state after one row is written; `text` is that of the current telegram
 abbrev pub written : List ℕ → Change → Cargo → Cargo
 written text (Declare w declared) s =
     record s { declared = λ q. if q == w then Some declared else s.declared q }
@@ -67,7 +66,7 @@ written text (NotePart part) s =
 written text (Trail w line) s = record s { trail = s.trail ++ (w, line) ∷ [] }
 written text (Confirm upto) s = record s { confirmed = upto }
 
--- the state after rows are written, in order
+-- the state after rows are written in order
 abbrev pub written_all : List ℕ → List Change → Cargo → Cargo
 written_all text [] s = s
 written_all text (change ∷ changes) s = written_all text changes (written text change s)

@@ -1,9 +1,8 @@
--- What is to be declared.
+-- Proposed declarations.
 use Rattle.std.specs.Prelude.{false, None}
 use Rattle.shipment_machine.specs.declared.moves.Declared.{Declared}
 use Rattle.shipment_machine.specs.declared.acceptance.ProposedDeclaration.{ProposedDeclaration}
 
--- the declaration that a claim is for
 abbrev pub claimed : ProposedDeclaration → Declared
 claimed c =
     record {

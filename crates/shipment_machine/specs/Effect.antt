@@ -1,5 +1,5 @@
--- What each command does: it is refused for the first reason that fits, or it makes moves, notices
--- and changes of rows.
+-- The rule of each command: it is refused for the first reason that holds, or it makes moves,
+-- notices and row changes.
 use Rattle.std.specs.Prelude.{ℕ, zero, suc, ◌+◌, ◌-◌, min, max, Bool, true, false, not, ◌&&◌, ◌||◌, ◌==◌, nat_lt, nat_le, if◌then◌else◌, Option, Some, None, is_some, is_none, Result, Ok, Err, List, [], ◌∷◌, ◌++◌, map, length}
 use Rattle.std.specs.Option.{unwrap_or}
 use Rattle.std.specs.List.{filter, flat_map, sum_by}
@@ -51,21 +51,21 @@ use Rattle.shipment_machine.specs.Cargo.{Cargo, written_all}
 use Rattle.shipment_machine.specs.Views.{undeclared, declaration_view, rows_of}
 use Rattle.imp_fields.specs.Flight.{most_waybills}
 
--- what a command does that isn't refused
+-- the outcome of a command that isn't refused
 pub record Outcome : Type 0 where
   pub moves : List Move
   pub notices : List Notice
   pub changes : List Change
   pub count : ℕ
 
--- A command's refusals, in the order tested, and its outcome where none of them holds.
+-- A command's refusals, in the order tested, and its outcome if none of them holds.
 pub record Rule : Type 0 where
   pub refusals : List (Bool × Refusal)
   pub outcome : Result Outcome Refusal
 
 -- Refusals.
 
--- refusals with this number, about a waybill, a flight, or the free pieces
+-- refusals about a waybill, a flight, or the free pieces
 abbrev pub about : ℕ → ℕ → Refusal
 about number w = record { number = number; detail = detail.Waybill w }
 
@@ -80,7 +80,7 @@ abbrev pub first_refusal : List (Bool × Refusal) → Option Refusal
 first_refusal [] = None
 first_refusal (reason ∷ reasons) = if reason.0 then Some reason.1 else first_refusal reasons
 
--- whether a number is in stock with the desk, or void
+-- true if a number is in the desk's stock, or void
 abbrev pub at_desk_or_void : Option Holder → Bool
 at_desk_or_void (Some holder.Desk) = true
 at_desk_or_void (Some holder.Void) = true
@@ -90,7 +90,7 @@ abbrev pub is_closed : Option Outbound → Bool
 is_closed None = false
 is_closed (Some outbound) = outbound.closed
 
--- whether a noted flight unloads at another airport
+-- true if a noted flight unloads at another airport
 abbrev pub goes_elsewhere : Option Outbound → List ℕ → Bool
 goes_elsewhere None unload = false
 goes_elsewhere (Some outbound) unload = not (bytes_eq outbound.unload unload)
@@ -99,23 +99,21 @@ abbrev pub is_checked : Option Expected → Bool
 is_checked None = false
 is_checked (Some expected) = expected.checked
 
--- what is expected, with its weight
 abbrev pub expected_amount : Option Expected → Amount
 expected_amount None = amount 0 0
 expected_amount (Some expected) = amount expected.pieces expected.tenths
 
--- pieces that no one announced, with at least a tenth each; no piece has no weight
+-- unannounced pieces, with at least a tenth each; 0 pieces have no weight
 abbrev pub surplus : ℕ → ℕ → Amount
 surplus zero tenths = amount 0 0
 surplus (suc n) tenths = amount (suc n) (book_weight_of (suc n) tenths)
 
--- Declaring.
+-- Declarations.
 
--- the pieces of a waybill: the total, where it exceeds the line's own pieces
+-- the pieces of a waybill: the total, if it exceeds the line's own pieces
 abbrev pub all_pieces : CargoLine → ℕ
 all_pieces c = max c.pieces (unwrap_or c.total 0)
 
--- what a consignment line declares
 abbrev pub declared_by : CargoLine → Declared
 declared_by c = record {
   origin = c.origin;
@@ -127,26 +125,24 @@ declared_by c = record {
   since = None;
 }
 
--- the same, declared on this day
 abbrev pub dated : ℕ → Declared → Declared
 dated today d = record d { since = Some today }
 
--- a number that an agent has is used up
+-- a number in an agent's stock becomes used
 abbrev pub used_up : Option Holder → ℕ → List Change
 used_up (Some (holder.Agent _)) w = UseUp w ∷ []
 used_up _ w = []
 
--- the rows of a waybill that is declared
+-- the rows of a newly declared waybill
 abbrev pub declare : Option Holder → ℕ → Declared → List Change
 declare who w d = Declare w d ∷ used_up who w
 
 -- A part of a flight manifest.
 
--- the lines below this airport
 abbrev pub lines_for : List ℕ → List InboundLine → List CargoLine
 lines_for here lines = map (λ l. l.cargo) (filter (λ l. bytes_eq l.unload here) lines)
 
--- the day that a manifest's date means, and 0 where there is none
+-- the day that a manifest's date means, or 0 if there isn't one
 abbrev pub inbound_day : InboundPart → LocalMinute → ℕ
 inbound_day f at = unwrap_or (resolved f.date at.day) 0
 
@@ -156,7 +152,7 @@ inbound_flight f at = record { flight = f.flight; day = inbound_day f at }
 abbrev pub inbound_part : InboundPart → LocalMinute → Part
 inbound_part f at = record { flight = inbound_flight f at; airport = f.loaded; number = f.number }
 
--- what is expected of a waybill after one more line
+-- the expectation of a waybill after another line
 abbrev pub expected_after : Option Expected → CargoLine → Expected
 expected_after old c = record {
   pieces = (expected_amount old).pieces + c.pieces;
@@ -164,8 +160,7 @@ expected_after old c = record {
   checked = false;
 }
 
--- why a line is refused, where the waybill is new or not, has this holder, and so much is expected
--- of it so far
+-- the refusals of a line, for a waybill that is new or not, its holder, and its expectation so far
 abbrev pub row_refusals : Bool → Option Holder → Option Expected → CargoLine → List (Bool × Refusal)
 row_refusals new who expected c =
     let d = declared_by c in
@@ -177,14 +172,14 @@ row_refusals new who expected c =
       about 217 c.awb,
     ) ∷ []
 
--- what a line writes: an unknown waybill is declared today, and the line adds to what is expected
+-- the rows that a line writes: a declaration of today if the waybill is new, and the expectation
 abbrev pub row_changes : Bool → Option Holder → Option Expected → FlightDate → ℕ → CargoLine
     → List Change
 row_changes new who expected flight today c =
     (if new then declare who c.awb (dated today (declared_by c)) else [])
     ++ Expect flight c.awb (expected_after expected c) ∷ []
 
--- the same in a state, which the lines before it have changed
+-- the refusals and rows of a line in a state that the lines before it have changed
 abbrev pub line_refusals : Cargo → FlightDate → CargoLine → List (Bool × Refusal)
 line_refusals s flight c =
     row_refusals (is_none (s.declared c.awb)) (s.holders c.awb) (s.expected flight c.awb) c
@@ -194,7 +189,7 @@ line_changes s flight today c =
     row_changes (is_none (s.declared c.awb)) (s.holders c.awb) (s.expected flight c.awb) flight
     today c
 
--- in front of what the later lines write
+-- puts rows before those that the later lines write
 abbrev pub then_write : List Change → Result (List Change) Refusal → Result (List Change) Refusal
 then_write first (Ok rest) = Ok (first ++ rest)
 then_write first (Err refusal) = Err refusal
@@ -203,7 +198,7 @@ abbrev pub unless_refused : {T : Type 0} → Option Refusal → Result T Refusal
 unless_refused (Some refusal) rest = Err refusal
 unless_refused None rest = rest
 
--- what all lines write, each read after those before it; or the first refusal
+-- the rows that all lines write, each tested after those before it; or the first refusal
 abbrev pub lines_changes : Cargo → FlightDate → ℕ → List CargoLine → Result (List Change) Refusal
 lines_changes s flight today [] = Ok []
 lines_changes s flight today (c ∷ cs) =
@@ -211,14 +206,14 @@ lines_changes s flight today (c ∷ cs) =
     (then_write (line_changes s flight today c)
     (lines_changes (written_all [] (line_changes s flight today c) s) flight today cs))
 
--- the day must exist, and be one of a Moment
+-- the day exists, and a Moment can have it
 abbrev pub is_day : Option ℕ → Bool
 is_day None = false
 is_day (Some day) = is_moment_day day
 
 -- Moves and notices.
 
--- a move, unless it is of no piece
+-- a move, unless the amount has no pieces
 abbrev pub move_of : ℕ → Place → Place → Amount → Option FlightDate → LocalMinute → List Move
 move_of w from to a flight at =
     if a.pieces == 0 then []
@@ -232,7 +227,6 @@ move_of w from to a flight at =
       at = at;
     } ∷ []
 
--- a waybill as a message names it
 abbrev pub consigned : ℕ → Declared → WaybillSummary
 consigned w d =
     record {
@@ -243,24 +237,23 @@ consigned w d =
       tenths = d.tenths;
     }
 
--- a status message from here, unless it is of no piece
+-- a status message from here, unless the amount has no pieces
 abbrev pub status_of : List ℕ → ℕ → Declared → Event → Amount → List Notice
 status_of here w d event a =
     if a.pieces == 0 then [] else notice.Status here (consigned w d) event a.pieces a.tenths ∷ []
 
--- a discrepancy, where a flight is named
 abbrev pub discrepancy_of : List ℕ → ℕ → Declared → Option FlightDate → Discrepancy → LocalMinute
     → Amount → List Notice
 discrepancy_of here w d None kind at a = []
 discrepancy_of here w d (Some flight) kind at a =
     status_of here w d (event.Differs flight at kind) a
 
--- where a noted flight unloads
+-- the airport of unloading of a noted flight
 abbrev pub unload_of : Option Outbound → List ℕ
 unload_of None = []
 unload_of (Some outbound) = outbound.unload
 
--- a waybill on a manifest, with all of it that is built on the flight
+-- a waybill on a manifest, with its whole amount on the flight
 abbrev pub manifest_line : FlightLoad → ManifestLine
 manifest_line a =
     record {
@@ -270,26 +263,25 @@ manifest_line a =
       goods = a.declared.goods;
     }
 
--- the outcome of some moves, with their notices and a count
+-- the outcome with these moves, notices, changes and count
 abbrev pub does : List Move → List Notice → List Change → ℕ → Result Outcome Refusal
 does moves notices changes count =
     Ok (record { moves = moves; notices = notices; changes = changes; count = count })
 
--- the rule where rows aren't those that the command reads: nothing is done
+-- the rule for rows that the command doesn't read: it does nothing
 abbrev pub no_rule : Rule
 no_rule = record { refusals = []; outcome = does [] [] [] 0 }
 
--- what a rule says: the first refusal whose test holds, or the outcome
+-- the decision of a rule: the first refusal whose test holds, or the outcome
 abbrev pub decided : Rule → Result Outcome Refusal
 decided rule = unless_refused (first_refusal rule.refusals) rule.outcome
 
--- The rule of each command, for what the state has of its waybill and its flight.
+-- The rule of each command, from the rows of its waybill and its flight.
 
--- what is declared of a waybill that has a declaration
 abbrev pub declared_as : Option Declared → Declared
 declared_as declared = unwrap_or declared undeclared
 
--- what was taken over and found
+-- the received and found amounts together
 abbrev pub came_in : Balances → Amount
 came_in b = plus b.taken b.found
 
@@ -314,20 +306,20 @@ declaring view w d = record {
   outcome = does [] [] (declare view.holder w d) d.pieces;
 }
 
--- whether an amount holds a part of it, and a tenth for each piece that it has besides
+-- true if `whole` has room for `part` and a tenth for each remaining piece
 abbrev pub has_room : Amount → Amount → Bool
 has_room whole part =
     nat_le part.pieces whole.pieces
     && nat_le (part.tenths + (whole.pieces - part.pieces)) whole.tenths
 
--- whether pieces that were taken over at their origin, here, would have another
+-- true if pieces were received at their origin, here, and the origin would change
 abbrev pub loses_origin : List ℕ → WaybillView → List ℕ → Bool
 loses_origin here view origin =
     nat_lt 0 view.balances.taken.pieces
     && bytes_eq (declared_as view.declared).origin here
     && not (bytes_eq origin here)
 
--- Amend: what is declared is replaced, while all that came in is free and fits in it.
+-- Amend: the declaration is replaced, if all that came in is free and fits in the new one.
 abbrev pub amending : List ℕ → WaybillView → ℕ → Declared → Rule
 amending here view w d =
     let free = view.balances.free in
@@ -340,7 +332,7 @@ amending here view w d =
       outcome = does [] [] (Declare w d ∷ []) d.pieces;
     }
 
--- Receive: pieces are taken over, with at least a tenth each.
+-- Receive: pieces are received, with at least a tenth each.
 abbrev pub receiving : List ℕ → WaybillView → ℕ → ℕ → ℕ → List ℕ → LocalMinute → Rule
 receiving here view w p t name at =
     let d = declared_as view.declared in
@@ -355,7 +347,7 @@ receiving here view w p t name at =
           (status_of here w d (event.ReceivedFromShipper name at) a) [] p;
     }
 
--- Withdraw: free pieces go back to who brought them, no more than was taken over.
+-- Withdraw: free pieces are returned to the shipper or agent, at most as many as were received.
 abbrev pub withdrawing : List ℕ → WaybillView → ℕ → ℕ → LocalMinute → Rule
 withdrawing here view w p at =
     let free = view.balances.free in
@@ -369,7 +361,7 @@ withdrawing here view w p at =
       outcome = does (move_of w place.Free place.Hand a None at) [] [] p;
     }
 
--- Manifest: free pieces are built on a flight, which is noted where it is new.
+-- Manifest: free pieces are built on a flight, which is noted if it is new.
 abbrev pub manifesting : List ℕ → WaybillView → FlightView → ℕ → FlightDate → List ℕ → ℕ
     → LocalMinute → Rule
 manifesting here view on w flight unload p at =
@@ -403,8 +395,7 @@ offloading here declared outbound load w flight p at =
           (event.Differs flight at discrepancy.Offloaded) a) [] p;
     }
 
--- Depart: each waybill on the flight moves off with all that is built of it, and the flight is
--- closed.
+-- Depart: all that is built on the flight departs, and the flight is closed.
 abbrev pub depart_moves : List FlightLoad → FlightDate → LocalMinute → List Move
 depart_moves loads flight at =
     flat_map (λ a. move_of a.awb (place.Built flight) place.Departed a.load (Some flight) at) loads
@@ -424,7 +415,7 @@ departing here outbound loads flight at = record {
       (sum_by (λ a. a.load.pieces) loads);
 }
 
--- Reroute: a noted flight on which nothing is built unloads elsewhere from now on.
+-- Reroute: a noted flight on which nothing is built gets another airport of unloading.
 abbrev pub rerouting : List ℕ → Option Outbound → List FlightLoad → FlightDate → List ℕ → Rule
 rerouting here outbound loads flight unload = record {
   refusals = (is_none outbound, on_flight 221 flight)
@@ -435,8 +426,8 @@ rerouting here outbound loads flight unload = record {
       (if goes_elsewhere outbound unload then 1 else 0);
 }
 
--- Check-in: what was counted goes to the free cargo, the rest of what was expected to the missing,
--- the surplus comes from outside.
+-- Check-in: the counted pieces become free, the uncounted rest becomes missing, and the surplus
+-- comes from outside.
 abbrev pub counted_in : Amount → ℕ → Amount
 counted_in e counted = if nat_le counted e.pieces then part e counted else e
 
@@ -479,8 +470,7 @@ checking_in here view expected w flight counted at =
           ∷ []) counted;
     }
 
--- Strike: pieces are struck off what is expected. The line is closed as it stands where none of it
--- would be left.
+-- Strike: the expectation is reduced. If nothing would be left, the line is closed unchanged.
 abbrev pub struck : Amount → ℕ → Expected
 struck e p =
     let rest = less e (part e p) in
@@ -529,7 +519,7 @@ delivering here view w p name at =
           (status_of here w d (event.Delivered name at) a) [] p;
     }
 
--- Transfer: free pieces go to another airline, where the waybill isn't for here.
+-- Transfer: free pieces go to another airline, if the waybill isn't for here.
 abbrev pub transferring : List ℕ → WaybillView → ℕ → ℕ → LocalMinute → Rule
 transferring here view w p at =
     let free = view.balances.free in
@@ -540,7 +530,7 @@ transferring here view w p at =
       outcome = does (move_of w place.Free place.Transferred (part free p) None at) [] [] p;
     }
 
--- Missing: free pieces are missing.
+-- Missing: free pieces become missing.
 abbrev pub recording_missing : List ℕ → WaybillView → ℕ → ℕ → Option FlightDate → LocalMinute → Rule
 recording_missing here view w p flight at =
     let free = view.balances.free in
@@ -552,7 +542,7 @@ recording_missing here view w p flight at =
           (discrepancy_of here w (declared_as view.declared) flight discrepancy.Missing at a) [] p;
     }
 
--- Found: missing pieces come back first; the others are a surplus.
+-- Found: missing pieces come back first; the rest is surplus.
 abbrev pub come_back : Amount → ℕ → Amount
 come_back missing p = part missing (min p missing.pieces)
 
@@ -574,7 +564,7 @@ recording_found here view w p t flight at =
           (plus back new)) [] p;
     }
 
--- Confirm: the mark moves up, to the last message at most.
+-- Confirm: the last confirmed message moves up, at most to the last message.
 abbrev pub confirming : ℕ → ℕ → ℕ → Rule
 confirming confirmed last upto = record {
   refusals = (
@@ -584,7 +574,7 @@ confirming confirmed last upto = record {
   outcome = does [] [] (Confirm upto ∷ []) (upto - confirmed);
 }
 
--- A part of a manifest: all lines for here count, or none. The lines may still be refused.
+-- A part of a manifest: all its lines for here, or nothing. Lines may still be refused.
 abbrev pub announced : Part → ℕ → Result (List Change) Refusal → Result Outcome Refusal
 announced key count (Ok changes) = does [] [] (changes ++ NotePart key ∷ []) count
 announced key count (Err refusal) = Err refusal
@@ -602,14 +592,14 @@ announcing s f at =
       outcome = announced key (length lines) (lines_changes s (inbound_flight f at) at.day lines);
     }
 
--- A status message: its lines join the trail.
+-- A status message: its lines are added to the trail.
 abbrev pub noting_status : Option Declared → ℕ → List (List ℕ) → Rule
 noting_status declared w lines = record {
   refusals = (is_none declared, about 201 w) ∷ [];
   outcome = does [] [] (map (λ line. Trail w line) lines) (length lines);
 }
 
--- The commands of the desk: which rows each reads, and its rule for what they show.
+-- The commands of the desk: the rows that each reads, and its rule for them.
 
 abbrev pub reads : DeskCommand → RowsKey
 reads (desk.Book w origin destination p t goods) = key.Declaration w
@@ -659,7 +649,6 @@ desk_rule here (rows.Messages confirmed last) (desk.Confirm upto) at =
     confirming confirmed last upto
 desk_rule here _ _ at = no_rule
 
--- the rule of each command in a state
 abbrev pub rule : Cargo → ShipmentCommand → LocalMinute → Rule
 rule s (order.Desk command) at = desk_rule s.here (rows_of s (reads command)) command at
 rule s (order.Fwb c) at =
@@ -667,11 +656,11 @@ rule s (order.Fwb c) at =
 rule s (order.Ffm f) at = announcing s f at
 rule s (order.Fsu f) at = noting_status (s.declared f.awb) f.awb f.lines
 
--- The effect of a command on a state at a moment: the first refusal, or what it does.
+-- The effect of a command on a state at a moment: the first refusal, or the outcome.
 abbrev pub effect : Cargo → ShipmentCommand → LocalMinute → Result Outcome Refusal
 effect s command at = decided (rule s command at)
 
--- the state afterwards, where the telegram in work has this text; the notices' texts aren't in the
--- outbox yet
+-- the state afterwards, before the notices' texts are in the outbox; `text` is that of the current
+-- telegram
 abbrev pub carried_out : List ℕ → Outcome → Cargo → Cargo
 carried_out text done s = written_all text done.changes (record s { book = s.book ++ done.moves })

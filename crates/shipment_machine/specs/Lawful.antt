@@ -1,4 +1,4 @@
--- What holds of every state of a station.
+-- Invariants of every state of a station.
 use Rattle.std.specs.Prelude.{◌≡◌, ℕ, ◌≤◌, Bool, false, ◌&&◌, ◌↔◌, IsTrue, IsSome, IfSome, ⊤, Option, Some, List, [], ◌∷◌, length, All}
 use Rattle.std.specs.List.{AllByRecursion, list_all, list_any}
 use Rattle.imp_fields.specs.Characters.{is_line}
@@ -20,8 +20,8 @@ use Rattle.shipment_machine.specs.Effect.{is_closed}
 use Rattle.imp_fields.specs.Amount.{most_pieces, most_tenths}
 use Rattle.imp_fields.specs.Flight.{most_waybills}
 
--- No more of a waybill moved out of a place than into it; what is there weighs at least a tenth a
--- piece, and nothing where it has no piece.
+-- No more of a waybill moved out of a place than into it. What is there weighs at least a tenth a
+-- piece, and nothing if there are no pieces.
 pub record IsStocked (book : List Move) (w : ℕ) (p : Place) : Type 0 where
   pub pieces : moved_out pieces_of book w (same_place p) ≤ moved_in pieces_of book w (same_place p)
   pub tenths : moved_out tenths_of book w (same_place p) ≤ moved_in tenths_of book w (same_place p)
@@ -29,7 +29,7 @@ pub record IsStocked (book : List Move) (w : ℕ) (p : Place) : Type 0 where
   pub no_weight_alone : (held book w (same_place p)).pieces ≡ 0
       → (held book w (same_place p)).tenths ≡ 0
 
--- no more of a waybill went back to who brought it than was taken over
+-- no more of a waybill was returned to the shipper or agent than was received
 pub record IsCovered (book : List Move) (w : ℕ) : Type 0 where
   pub pieces : moved_in pieces_of book w (same_place Hand) ≤ moved_out pieces_of book w (same_place Hand)
   pub tenths : moved_in tenths_of book w (same_place Hand) ≤ moved_out tenths_of book w (same_place Hand)
@@ -39,12 +39,12 @@ abbrev pub IsNoted : Cargo → Place → Type 0
 IsNoted s (Built flight) = IsSome (s.flights flight)
 IsNoted s _ = ⊤
 
--- a move from a built place, or to one, names its flight
+-- a move from or to a built place names its flight
 abbrev pub NamesFlight : Place → Option FlightDate → Type 0
 NamesFlight (Built flight) named = named ≡ Some flight
 NamesFlight _ named = ⊤
 
--- a move that may be made, of a declared waybill and noted flights
+-- a move that is allowed, of a declared waybill and noted flights
 pub record IsLawfulMove (s : Cargo) (m : Move) : Type 0 where
   pub pair : IsTrue (is_pair m.from m.to)
   pub some : 1 ≤ m.pieces
@@ -55,28 +55,28 @@ pub record IsLawfulMove (s : Cargo) (m : Move) : Type 0 where
   pub names_from : NamesFlight m.from m.flight
   pub names_to : NamesFlight m.to m.flight
 
--- pieces and tenths that may be declared or expected
+-- pieces and tenths that can be declared or expected
 pub record IsLawfulAmount (pieces tenths : ℕ) : Type 0 where
   pub some : 1 ≤ pieces
   pub not_more : pieces ≤ most_pieces
   pub tenth_a_piece : pieces ≤ tenths
   pub not_heavier : tenths ≤ most_tenths
 
--- whether a move takes pieces off with this flight, or builds them on it
+-- true if a move departs with this flight; true if it builds on the flight
 abbrev pub departs_with : FlightDate → Move → Bool
 departs_with flight m = same_place m.from (Built flight) && same_place m.to Departed
 
 abbrev pub builds_on : FlightDate → Move → Bool
 builds_on flight m = same_place m.to (Built flight)
 
--- once a flight has departed nothing is built on it
+-- nothing is built on a flight after it departed
 abbrev pub StaysDeparted : FlightDate → List Move → Type 0
 StaysDeparted flight [] = ⊤
 StaysDeparted flight (m ∷ later) =
     (IsTrue (departs_with flight m) → list_any (builds_on flight) later ≡ false)
     × StaysDeparted flight later
 
--- A lawful state. That the text of each noted part is kept is said of the whole station.
+-- A lawful state. That the text of each noted part is stored is an invariant of the whole station.
 pub record IsLawful (s : Cargo) : Type 0 where
   pub stocked : (w : ℕ) (p : Place) → is_outside p ≡ false → IsStocked s.book w p
   pub covered : (w : ℕ) → IsCovered s.book w
@@ -98,8 +98,8 @@ pub record IsLawful (s : Cargo) : Type 0 where
       (λ o. bytes_eq o.unload s.here ≡ false)
   pub mark : s.confirmed ≤ length s.outbox
 
--- whether a command is one that its types allow: each declared or announced line has a piece, each
--- line of a trail prints
+-- a command that the types allow: each declared or announced line has a piece, and each trail line
+-- is printable
 abbrev pub HasPieces : InboundLine → Type 0
 HasPieces l = 1 ≤ l.cargo.pieces
 

@@ -7,6 +7,6 @@ abbrev pub IsAscending : List ℕ → Type 0
 IsAscending [] = ⊤
 IsAscending (x ∷ xs) = AllByRecursion (λ y. x < y) xs × IsAscending xs
 
--- whether a number is in a list
+-- true if a number is in a list
 abbrev pub is_in : ℕ → List ℕ → Bool
 is_in q xs = list_any (λ x. x == q) xs

@@ -4,7 +4,6 @@ use Rattle.shipment_machine.specs.declared.moves.Place.{Place}
 use Rattle.shipment_machine.specs.declared.moves.Place.TheVariants.{Hand, Surplus, Free, Built, Departed, Delivered, Missing, Transferred}
 use Rattle.shipment_machine.specs.Flights.{same_flight_date}
 
--- whether two places are one
 abbrev pub same_place : Place → Place → Bool
 same_place Hand Hand = true
 same_place Surplus Surplus = true
@@ -16,13 +15,12 @@ same_place Missing Missing = true
 same_place Transferred Transferred = true
 same_place _ _ = false
 
--- whether a place is in the store: free, or built on any flight
+-- true if a place is in the store: free, or built on any flight
 abbrev pub in_store : Place → Bool
 in_store Free = true
 in_store (Built _) = true
 in_store _ = false
 
--- whether a place is outside the station
 abbrev pub is_outside : Place → Bool
 is_outside Hand = true
 is_outside Surplus = true
@@ -32,7 +30,7 @@ is_outside _ = false
 abbrev pub beyond_store : List Place
 beyond_store = Missing ∷ Departed ∷ Delivered ∷ Transferred ∷ []
 
--- whether pieces may move so
+-- true if pieces may move from one place to the other
 abbrev pub is_pair : Place → Place → Bool
 is_pair Hand Free = true
 is_pair Hand Missing = true

@@ -1,4 +1,4 @@
--- Flights on their days and refusals as texts.
+-- Texts of flight dates and refusals.
 use Rattle.std.specs.Prelude.{ℕ, decimal, List, [], ◌∷◌, ◌++◌, codes}
 use Rattle.awb_number.specs.Number.{number_text}
 use Rattle.station_days.specs.Date.{day_line}
@@ -9,11 +9,11 @@ use Rattle.shipment_machine.specs.declared.plans.Detail.{Detail}
 use Rattle.shipment_machine.specs.declared.plans.Detail.TheVariants as detail
 use Rattle.shipment_machine.specs.declared.plans.Refusal.{Refusal}
 
--- a flight on a day, as LH400/2026-01-12
+-- a flight date such as LH400/2026-01-12
 abbrev pub flight_date_text : FlightDate → List ℕ
 flight_date_text f = flight_text f.flight ++ 47 ∷ day_line f.day
 
--- what a refusal is about
+-- the subject of a refusal
 abbrev pub detail_text : Detail → List ℕ
 detail_text detail.Nothing = []
 detail_text (detail.Waybill w) = number_text w
@@ -23,7 +23,7 @@ detail_text (detail.Part part) = flight_date_text part.flight ++ 47 ∷ (part.ai
 detail_text (detail.Line line word) = decimal line ++ 32 ∷ why_word word
 detail_text (detail.Messages confirmed last) = decimal confirmed ++ 32 ∷ decimal last
 
--- refused 102 020-12345723, or without a detail refused 501
+-- texts such as refused 102 020-12345723, or without a detail refused 501
 abbrev pub refused_with : ℕ → Detail → List ℕ
 refused_with number detail.Nothing = codes "refused " ++ decimal number
 refused_with number other = codes "refused " ++ decimal number ++ 32 ∷ detail_text other

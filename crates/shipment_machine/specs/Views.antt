@@ -1,4 +1,4 @@
--- What a station's state has of a waybill, of a flight and of a manifest's line.
+-- A state's rows for a waybill, a flight and a manifest line.
 use Rattle.std.specs.Prelude.{ℕ, false, None, List, [], map, length}
 use Rattle.std.specs.Option.{unwrap_or}
 use Rattle.shipment_machine.specs.declared.flight.FlightDate.{FlightDate}
@@ -16,7 +16,7 @@ use Rattle.shipment_machine.specs.declared.command.CargoLine.{CargoLine}
 use Rattle.shipment_machine.specs.Book.{has_moves as is_moved, balances_of, built, waybills_on}
 use Rattle.shipment_machine.specs.Cargo.{Cargo}
 
--- what is declared of a waybill that has a declaration
+-- the declaration of a declared waybill, or an empty one
 abbrev pub undeclared : Declared
 undeclared =
     record {
@@ -32,16 +32,14 @@ undeclared =
 abbrev pub declaration : Cargo → ℕ → Declared
 declaration s w = unwrap_or (s.declared w) undeclared
 
--- what the state has of a waybill that is declared
 abbrev pub declaration_view : Cargo → ℕ → DeclarationView
 declaration_view s w =
     record { declared = s.declared w; has_moves = is_moved s.book w; holder = s.holders w }
 
--- what it has of a waybill with its balances
 abbrev pub waybill_view : Cargo → ℕ → WaybillView
 waybill_view s w = record { declared = s.declared w; balances = balances_of s.book w }
 
--- what it has of a flight, for a waybill that is to be built on it
+-- the view of a flight for a waybill to be built on it
 abbrev pub flight_view : Cargo → ℕ → FlightDate → FlightView
 flight_view s w flight = record {
   outbound = s.flights flight;
@@ -49,13 +47,12 @@ flight_view s w flight = record {
   load = built s.book w flight;
 }
 
--- what is built on a flight, ascending
+-- the amounts built on a flight, ascending by waybill
 abbrev pub loads_of : Cargo → FlightDate → List FlightLoad
 loads_of s flight =
     map (λ w. record { awb = w; declared = declaration s w; load = built s.book w flight })
     (waybills_on s.book flight)
 
--- what it has of a manifest's line
 abbrev pub line_view_of : Cargo → FlightDate → CargoLine → LineView
 line_view_of s flight c =
     record {
@@ -64,7 +61,6 @@ line_view_of s flight c =
       expected = s.expected flight c.awb;
     }
 
--- these rows, as the state has them
 abbrev pub rows_of : Cargo → RowsKey → Rows
 rows_of s (key.Declaration w) = rows.Declaration (declaration_view s w)
 rows_of s (key.Waybill w) = rows.Waybill (waybill_view s w)

@@ -1,4 +1,4 @@
-//! What is declared and taken over, and what goes back.
+//! Declaring, receiving and withdrawing cargo.
 ghost use Rattle.std.specs.Prelude.{◌≡◌, ℕ, ◌≤◌, ◌++◌, Some, None, OnOk, if◌then◌else◌};
 ghost use Rattle.shipment_machine.specs.Amount.{IsHeld, amount, fits};
 ghost use Rattle.shipment_machine.specs.Effect.{decided, at_desk_or_void, amending, booked, dated, declare, declared_by, declaring, has_room, receiving, withdrawing};
@@ -22,18 +22,17 @@ use imp_fields::{Airport, Goods, Name, Pieces, Tenths, book_weight, share};
 use station_days::{LocalDay, Moment};
 use std::alloc::AllocError;
 
-/// What is to be declared of a waybill, perhaps past what can be.
+/// A proposed declaration. Its amounts may exceed the bounds.
 #[derive(Clone, Copy, Debug)]
 pub(crate) struct ProposedDeclaration {
     pub(crate) origin: Airport,
     pub(crate) destination: Airport,
     pub(crate) pieces: u32,
-    /// Tenths of a kilogram.
+    /// The weight in tenths of a kilogram.
     pub(crate) tenths: u64,
     pub(crate) goods: Goods,
 }
 
-/// Whether a number is in stock with the desk, or void.
 pub(crate) fn is_at_desk_or_void(holder: Option<Holder>) -> bool
     ensures { result ≡ at_desk_or_void holder }
 {
@@ -44,7 +43,7 @@ pub(crate) fn is_at_desk_or_void(holder: Option<Holder>) -> bool
     }
 }
 
-/// Adds the rows of a waybill that is declared.
+/// Adds the rows of a newly declared waybill.
 pub(crate) fn add_declaration<'a>(
     changes: &mut Vec<Change<'a>>,
     holder: Option<Holder>,
@@ -60,14 +59,13 @@ pub(crate) fn add_declaration<'a>(
     Ok(())
 }
 
-/// The local day of a moment.
 fn day_of(at: Moment) -> Option<LocalDay>
     ensures { result ≡ Some at.day }
 {
     LocalDay::new(at.day)
 }
 
-/// What is declared at a moment, unless it is past what can be.
+/// Returns the declaration at a moment, or `None` if its amounts exceed the bounds.
 pub(crate) fn declared_as(claim: &ProposedDeclaration, at: Moment) -> Option<Declared>
     requires { 1 ≤ claim.now.pieces }
     ensures { result ≡ (if fits (amount claim.now.pieces claim.now.tenths)
@@ -87,8 +85,8 @@ pub(crate) fn declared_as(claim: &ProposedDeclaration, at: Moment) -> Option<Dec
     })
 }
 
-/// What a consignment line of a telegram declares: its total, where it exceeds its own pieces, at
-/// the same weight a piece.
+/// Returns what a consignment line declares: its total, if that exceeds its own pieces, at the same
+/// weight a piece.
 pub(crate) fn claim_of(line: &CargoLine) -> ProposedDeclaration
     ensures value { claimed result ≡ declared_by line.now }
     ensures own { 1 ≤ line.now.pieces }
@@ -109,7 +107,7 @@ pub(crate) fn claim_of(line: &CargoLine) -> ProposedDeclaration
     }
 }
 
-/// What a booking declares: these pieces, with at least a tenth each.
+/// Returns what a booking declares: its pieces, with at least a tenth each.
 pub(crate) fn booked(
     origin: Airport,
     destination: Airport,
@@ -130,7 +128,7 @@ pub(crate) fn booked(
     }
 }
 
-/// Declares a waybill, or declares it anew while it has no moves.
+/// Declares a waybill, or declares it again as long as it has no moves.
 pub(crate) fn book<'a>(
     on: &PlanContext,
     view: &DeclarationView,
@@ -155,7 +153,6 @@ pub(crate) fn book<'a>(
     Ok(plan)
 }
 
-/// Whether an amount holds a part of it, and a tenth for each piece that it has besides.
 fn has_room(whole: Amount, part: Amount) -> bool
     ensures { result ≡ has_room whole part }
 {
@@ -163,7 +160,7 @@ fn has_room(whole: Amount, part: Amount) -> bool
         && widened(part.tenths) + widened(whole.pieces - part.pieces) <= widened(whole.tenths)
 }
 
-/// Replaces what is declared of a waybill, while all that came in is free and fits in it.
+/// Replaces a waybill's declaration, if all that came in is free and fits in the new one.
 pub(crate) fn amend<'a>(
     on: &PlanContext,
     view: &WaybillView,
@@ -204,7 +201,7 @@ pub(crate) fn amend<'a>(
     Ok(plan)
 }
 
-/// Takes pieces over from the shipper or an agent.
+/// Receives pieces from the shipper or an agent.
 pub(crate) fn receive<'a>(
     on: &PlanContext,
     view: &WaybillView,
@@ -246,7 +243,7 @@ pub(crate) fn receive<'a>(
     Ok(plan)
 }
 
-/// Gives free pieces back to who brought them, no more than was taken over.
+/// Returns free pieces to the shipper or agent, at most as many as were received.
 pub(crate) fn withdraw<'a>(
     on: &PlanContext,
     view: &WaybillView,

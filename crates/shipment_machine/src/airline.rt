@@ -4,7 +4,7 @@ ghost use Rattle.shipment_machine.specs.Airline.{airline_of};
 
 use std::marker::Model;
 
-/// An airline by its designator of two upper-case letters or digits, at least one a letter.
+/// An airline, by its designator: two upper-case letters or digits, at least one of them a letter.
 #[derive(Clone, Copy, Debug, PartialEq, Eq)]
 pub struct Airline {
     designator: [u8; 2],
@@ -20,7 +20,7 @@ impl Model for Airline {
     ghost inverse = { λ designator. record { designator = designator } };
 }
 
-/// Whether two characters are letters or digits, at least one a letter.
+/// Returns whether two characters are upper-case letters or digits, at least one of them a letter.
 fn is_designator(designator: [u8; 2]) -> bool
     ensures { result ≡ is_carrier designator }
 {
@@ -31,7 +31,7 @@ fn is_designator(designator: [u8; 2]) -> bool
 }
 
 impl Airline {
-    /// The airline whose designator the text is, and nothing more.
+    /// Returns the airline if the whole text is a designator.
     pub fn read(text: &[u8]) -> Option<Airline>
         ensures { result ≡ airline_of text.now }
     {

@@ -4,21 +4,20 @@ ghost use Rattle.shipment_machine.specs.Amount.{IsHeld, amount_text, fits, less,
 use imp_fields::{MOST_PIECES, MOST_TENTHS, share};
 use std::fmt;
 
-/// Pieces, with their weight in tenths of a kilogram. It is a sum, so it has no bound of its own.
+/// Pieces, with their weight in tenths of a kilogram. As a sum it has no bound.
 #[derive(Clone, Copy, Debug, PartialEq, Eq)]
 pub struct Amount {
     pub pieces: u32,
     pub tenths: u32,
 }
 
-/// The word behind a count of pieces.
 fn pieces_word(pieces: u32) -> &'static str
     ensures { result.now ≡ pieces_word pieces }
 {
     if pieces == 1 { "piece" } else { "pieces" }
 }
 
-/// As `4 pieces, 40.0 kg`.
+/// Written like `4 pieces, 40.0 kg`.
 impl fmt::Display for Amount {
     ghost output = { λ amount. Some (amount_text amount) };
 
@@ -30,7 +29,7 @@ impl fmt::Display for Amount {
 }
 
 impl Amount {
-    /// What is left without a part of it, and nothing where the part is more.
+    /// Returns the amount without `part`, at least 0.
     pub fn less(self, part: Amount) -> Amount
         ensures { result ≡ less self part }
     {
@@ -41,7 +40,6 @@ impl Amount {
     }
 }
 
-/// Some pieces of an amount, with their share of its weight.
 pub(crate) fn part_of(whole: Amount, pieces: u32) -> Amount
     requires held { IsHeld whole }
     requires some { 1 ≤ pieces }
@@ -55,7 +53,7 @@ pub(crate) fn part_of(whole: Amount, pieces: u32) -> Amount
     }
 }
 
-/// Whether sums of pieces and tenths are within 9,999 pieces and 999,999 tenths.
+/// Returns whether the sums are at most 9,999 pieces and 999,999 tenths.
 pub(crate) fn is_within(pieces: u64, tenths: u64) -> bool
     ensures { result ≡ fits (record { pieces = pieces; tenths = tenths }) }
 {

@@ -1,4 +1,4 @@
-//! What a flight brought.
+//! Checking in a flight.
 ghost use Rattle.std.specs.Prelude.{◌≡◌, ◌+◌, ◌-◌, ◌*◌, ◌/◌, ◌≤◌, ◌<◌, ◌^◌, Some, None, IfSome, IfOk, if◌then◌else◌};
 ghost use Rattle.shipment_machine.specs.Amount.{GoesWith, IsHeld, IsPartOf, amount, plus, fits};
 ghost use Rattle.shipment_machine.specs.Effect.{decided, came_in, expected_amount, counted_in, uncounted, counted_more, check_in_moves, check_in_notices, checking_in, struck, striking};
@@ -22,7 +22,7 @@ use imp_fields::{Discrepancy, Pieces, share};
 use station_days::Moment;
 use std::alloc::AllocError;
 
-/// What of the expected pieces was counted.
+/// Returns the counted part of the expected amount.
 fn counted_of(whole: Amount, counted: u32) -> Amount
     requires held { IsHeld whole }
     requires some { 1 ≤ whole.pieces }
@@ -39,7 +39,7 @@ fn counted_of(whole: Amount, counted: u32) -> Amount
     }
 }
 
-/// What of the expected pieces was not counted.
+/// Returns the part of the expected amount that wasn't counted.
 fn rest_of(whole: Amount, counted: u32) -> Amount
     requires held { IsHeld whole }
     requires some { 1 ≤ whole.pieces }
@@ -53,7 +53,7 @@ fn rest_of(whole: Amount, counted: u32) -> Amount
     }
 }
 
-/// The weight of pieces beyond those that were expected.
+/// Returns the weight of pieces beyond the expected ones.
 fn tenths_beyond(whole: Amount, pieces: u32) -> u64
     requires held { IsHeld whole }
     requires some { 1 ≤ whole.pieces }
@@ -65,7 +65,8 @@ fn tenths_beyond(whole: Amount, pieces: u32) -> u64
     share(whole.pieces, whole.tenths, pieces)
 }
 
-/// What was counted beyond the expected pieces, unless it is past what can be.
+/// Returns the amount counted beyond the expected one, or `None` if the waybill's sums would exceed
+/// the bounds.
 fn more_of(balances: &Balances, whole: Amount, counted: u32) -> Option<Amount>
     requires held { IsHeld whole }
     requires some { 1 ≤ whole.pieces }
@@ -90,7 +91,6 @@ fn more_of(balances: &Balances, whole: Amount, counted: u32) -> Option<Amount>
     })
 }
 
-/// A discrepancy on a flight.
 fn differs(flight: &FlightDate, at: Moment, discrepancy: Discrepancy) -> Event
     ensures { result ≡ event.Differs flight.now at discrepancy }
 {
@@ -101,7 +101,6 @@ fn differs(flight: &FlightDate, at: Moment, discrepancy: Discrepancy) -> Event
     }
 }
 
-/// The moves of a check-in.
 fn moves_in(
     on: &PlanContext,
     awb: Awb,
@@ -150,7 +149,7 @@ fn moves_in(
     Ok(moves)
 }
 
-/// The status messages of a check-in.
+/// Returns the status messages of a check-in.
 fn notices_in(
     on: &PlanContext,
     declared: &Declared,
@@ -183,7 +182,7 @@ fn notices_in(
     Ok(notices)
 }
 
-/// Takes over what was counted of a waybill that a flight brought.
+/// Receives the pieces counted of a waybill on a flight.
 pub(crate) fn check_in<'a>(
     on: &PlanContext,
     view: &WaybillView,
@@ -226,8 +225,6 @@ pub(crate) fn check_in<'a>(
     Ok(plan)
 }
 
-/// What is expected once pieces are struck off. The line is closed as it stands where none of it
-/// would be left.
 fn struck(row: &Expected, pieces: u32) -> Expected
     requires held { IsHeld (amount row.now.pieces row.now.tenths) }
     requires within { pieces ≤ row.now.pieces }
@@ -251,7 +248,7 @@ fn struck(row: &Expected, pieces: u32) -> Expected
     }
 }
 
-/// Strikes pieces off what a flight is to bring of a waybill, without a move.
+/// Reduces what a flight is expected to bring of a waybill, without a move.
 pub(crate) fn strike<'a>(
     on: &PlanContext,
     declared: &Option<Declared>,

@@ -14,7 +14,7 @@ use imp_fields::{
 use station_days::DayMonth;
 use std::marker::Model;
 
-/// How many pieces were counted, 0 to 9999.
+/// A number of counted pieces, 0 to 9999.
 #[derive(Clone, Copy, Debug, PartialEq, Eq, PartialOrd, Ord)]
 pub struct PieceCount {
     number: u32,
@@ -34,7 +34,7 @@ impl Model for PieceCount {
 }
 
 impl PieceCount {
-    /// The count, where the number is at most 9999.
+    /// Returns the count if the number is at most 9999.
     pub fn new(number: u32) -> Option<PieceCount>
         ensures in_range { IsSome result ↔ IsCount number }
         ensures value { IfSome result (λ c. c ≡ number) }
@@ -55,7 +55,7 @@ impl PieceCount {
     }
 }
 
-/// What a consignment line of a telegram says; a missing weight is 0.
+/// A consignment line of a telegram. A missing weight is 0.
 #[derive(Clone, Copy, Debug, PartialEq, Eq)]
 pub struct CargoLine {
     pub awb: Awb,
@@ -74,7 +74,7 @@ pub struct InboundLine {
     pub cargo: CargoLine,
 }
 
-/// The lines of a flight manifest that someone else keeps, 1,000 at most.
+/// Borrowed lines of a flight manifest, at most 1,000.
 #[derive(Drop)]
 pub struct InboundLines<'a> {
     lines: &'a [InboundLine],
@@ -93,7 +93,7 @@ impl<'a> Model for InboundLines<'a> {
 }
 
 impl<'a> InboundLines<'a> {
-    /// None where there are more than 1,000.
+    /// Returns `None` for more than 1,000 lines.
     pub fn new(lines: &'a [InboundLine]) -> Option<InboundLines<'a>>
         ensures in_range { IsSome result ↔ (length lines.now ≤ most_lines) }
         ensures value { IfSome result (λ kept. kept ≡ lines.now) }
@@ -105,7 +105,7 @@ impl<'a> InboundLines<'a> {
         }
     }
 
-    /// The lines, in their order.
+    /// The lines, in order.
     pub fn as_slice(&self) -> &'a [InboundLine]
         ensures value { result.now ≡ self.now }
         ensures in_range { length result.now ≤ most_lines }
@@ -120,7 +120,7 @@ pub struct InboundPart<'a> {
     pub number: PartNumber,
     pub flight: Flight,
     pub date: DayMonth,
-    /// Where the flight was loaded.
+    /// The airport of loading.
     pub loaded: Airport,
     pub lines: InboundLines<'a>,
 }
@@ -132,7 +132,7 @@ pub struct InboundStatus<'a> {
     pub lines: TrailLines<'a>,
 }
 
-/// What the desk does with cargo.
+/// A command of the desk.
 #[derive(Clone, Copy, Debug, PartialEq, Eq)]
 pub enum DeskCommand {
     /// Declares a waybill.
@@ -144,7 +144,7 @@ pub enum DeskCommand {
         tenths: Tenths,
         goods: Goods,
     },
-    /// Replaces what is declared of a waybill.
+    /// Replaces a waybill's declaration.
     Amend {
         awb: Awb,
         origin: Airport,
@@ -153,20 +153,20 @@ pub enum DeskCommand {
         tenths: Tenths,
         goods: Goods,
     },
-    /// Takes pieces over from the shipper or an agent.
+    /// Receives pieces from the shipper or an agent.
     Receive {
         awb: Awb,
         pieces: Pieces,
         tenths: Tenths,
         name: Name,
     },
-    /// Gives free pieces back to who brought them.
+    /// Returns free pieces to the shipper or agent.
     Withdraw {
         awb: Awb,
         pieces: Pieces,
         name: Name,
     },
-    /// Builds free pieces for a flight to the airport where it unloads.
+    /// Builds free pieces for a flight to its airport of unloading.
     Manifest {
         awb: Awb,
         flight: FlightDate,
@@ -179,22 +179,22 @@ pub enum DeskCommand {
         flight: FlightDate,
         pieces: Pieces,
     },
-    /// Lets a noted flight unload elsewhere.
+    /// Changes the airport of unloading of a noted flight.
     Reroute {
         flight: FlightDate,
         unload: Airport,
     },
-    /// Sends a flight off.
+    /// Closes a flight: all that is built on it departs.
     Depart {
         flight: FlightDate,
     },
-    /// Counts what a flight brought of a waybill.
+    /// Checks in a waybill from a flight by count.
     CheckIn {
         awb: Awb,
         flight: FlightDate,
         counted: PieceCount,
     },
-    /// Strikes pieces off what a flight is to bring of a waybill.
+    /// Reduces what a flight is expected to bring of a waybill.
     Strike {
         awb: Awb,
         flight: FlightDate,
@@ -217,13 +217,13 @@ pub enum DeskCommand {
         pieces: Pieces,
         airline: Airline,
     },
-    /// Records free pieces as missing, perhaps from a flight.
+    /// Records free pieces as missing, optionally from a flight.
     Missing {
         awb: Awb,
         pieces: Pieces,
         flight: Option<FlightDate>,
     },
-    /// Records pieces as found, perhaps of a flight: missing ones first.
+    /// Records pieces as found, optionally of a flight: missing ones first.
     Found {
         awb: Awb,
         pieces: Pieces,
@@ -237,7 +237,7 @@ pub enum DeskCommand {
 }
 
 impl DeskCommand {
-    /// Which rows the command reads.
+    /// Returns the key of the rows that the command reads.
     pub fn reads(&self) -> RowsKey
         ensures { result ≡ reads self.now }
     {
@@ -262,7 +262,7 @@ impl DeskCommand {
     }
 }
 
-/// A command of the desk that someone else keeps.
+/// A borrowed command of the desk.
 #[derive(Drop)]
 pub struct DeskRef<'a> {
     command: &'a DeskCommand,
@@ -277,7 +277,7 @@ impl<'a> Model for DeskRef<'a> {
 }
 
 impl<'a> DeskRef<'a> {
-    /// The command as borrowed.
+    /// Wraps a borrowed command.
     pub fn new(command: &'a DeskCommand) -> DeskRef<'a>
         ensures { result ≡ command.now }
     {
@@ -292,7 +292,7 @@ impl<'a> DeskRef<'a> {
     }
 }
 
-/// A consignment line that someone else keeps.
+/// A borrowed consignment line.
 #[derive(Drop)]
 pub struct CargoRef<'a> {
     line: &'a CargoLine,
@@ -307,7 +307,7 @@ impl<'a> Model for CargoRef<'a> {
 }
 
 impl<'a> CargoRef<'a> {
-    /// The line as borrowed.
+    /// Wraps a borrowed line.
     pub fn new(line: &'a CargoLine) -> CargoRef<'a>
         ensures { result ≡ line.now }
     {
@@ -322,8 +322,7 @@ impl<'a> CargoRef<'a> {
     }
 }
 
-/// What changes the cargo: a command of the desk, or the content of a telegram. It is planned as
-/// borrowed.
+/// An input that changes the cargo: a command of the desk, or the content of a telegram.
 #[derive(Drop)]
 pub enum ShipmentCommand<'a> {
     Desk(DeskRef<'a>),

@@ -1,4 +1,4 @@
-//! What leaves with a flight.
+//! Flight departures.
 ghost use Rattle.std.specs.Prelude.{◌≡◌, ◌==◌, false, ◌+◌, ◌*◌, ◌≤◌, ◌<◌, All, IsSome, IfOk, map, length};
 ghost use Rattle.std.specs.List.{flat_map, sum_by};
 ghost use Rattle.shipment_machine.specs.Effect.{decided, departing, depart_moves, manifest_line, status_of};
@@ -17,7 +17,7 @@ use crate::view::{FlightLoad, Loads};
 use imp_fields::Airport;
 use std::alloc::AllocError;
 
-/// The moves of a departure: each waybill leaves with all that is built of it.
+/// Returns the moves of a departure: each waybill leaves with all that is built of it.
 fn departing_moves(
     on: &PlanContext,
     loads: &[FlightLoad],
@@ -42,7 +42,6 @@ fn departing_moves(
     Ok(moves)
 }
 
-/// The status messages of a departure.
 fn departing_notices(
     on: &PlanContext,
     loads: &[FlightLoad],
@@ -72,7 +71,6 @@ fn departing_notices(
     Ok(notices)
 }
 
-/// A waybill on a manifest.
 fn line_of(aboard: &FlightLoad) -> ManifestLine
     requires { IsOnBoard aboard.now }
     ensures { result ≡ manifest_line aboard.now }
@@ -85,7 +83,6 @@ fn line_of(aboard: &FlightLoad) -> ManifestLine
     }
 }
 
-/// The lines of the manifest.
 fn lines_of(on: &PlanContext, loads: &[FlightLoad]) -> Result<ManifestLines, AllocError>
     requires on_board { All IsOnBoard loads.now }
     requires few { length loads.now ≤ most_waybills }
@@ -98,7 +95,6 @@ fn lines_of(on: &PlanContext, loads: &[FlightLoad]) -> Result<ManifestLines, All
     Ok(ManifestLines::new(lines).unwrap())
 }
 
-/// How many pieces leave.
 fn pieces_aboard(loads: &[FlightLoad]) -> u32
     requires on_board { All IsOnBoard loads.now }
     requires few { length loads.now ≤ most_waybills }
@@ -111,7 +107,7 @@ fn pieces_aboard(loads: &[FlightLoad]) -> u32
     pieces
 }
 
-/// Sends a flight off with all that is built on it.
+/// Closes a flight: all that is built on it departs.
 pub(crate) fn depart<'a>(
     on: &PlanContext,
     outbound: &Option<Outbound>,

@@ -1,4 +1,4 @@
-//! Notifying the consignee, delivery to it, and transfer to another airline.
+//! Notification of the consignee, delivery, and transfer to another airline.
 ghost use Rattle.std.specs.Prelude.{◌≡◌};
 ghost use Rattle.shipment_machine.specs.Amount.{IsHeld};
 ghost use Rattle.shipment_machine.specs.Effect.{decided, notifying, delivering, transferring};
@@ -48,7 +48,6 @@ pub(crate) fn notify<'a>(
     Ok(plan)
 }
 
-/// Hands free pieces to the consignee, who was notified.
 pub(crate) fn deliver<'a>(
     on: &PlanContext,
     view: &WaybillView,
@@ -89,7 +88,7 @@ pub(crate) fn deliver<'a>(
     Ok(plan)
 }
 
-/// Hands free pieces to another airline, where the waybill goes further.
+/// Transfers free pieces to another airline, if the waybill goes on from here.
 pub(crate) fn transfer<'a>(
     on: &PlanContext,
     view: &WaybillView,

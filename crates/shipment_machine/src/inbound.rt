@@ -1,4 +1,4 @@
-//! What a part of a manifest announces.
+//! Parts of a manifest that arrived.
 ghost use Rattle.std.specs.Prelude.{◌≡◌, ◌≤◌, ℕ, [], ◌∷◌, ◌++◌, Some, None, Ok, nat_eq, OnOk, IfOk, IfErr, IfSome, if◌then◌else◌, length, not, true, false, All};
 ghost use Rattle.std.specs.HashMap.{get};
 ghost use Rattle.station_days.specs.Date.{resolved};
@@ -29,15 +29,14 @@ use station_days::{DayMonth, LocalDay, Moment, resolve};
 use std::alloc::{AllocError, Global};
 use std::collections::HashMap;
 
-/// What a line is found to do: what it declares, if its waybill is new, and what is expected after
-/// it.
+/// The effect of a line: the declaration, if its waybill is new, and the expectation after it.
 #[derive(Clone, Copy)]
 struct Finding {
     declared: Option<Declared>,
     expected: Expected,
 }
 
-/// What is expected after one more line, unless it is past what can be.
+/// Returns the expectation after another line, or `None` if it would exceed the bounds.
 fn expected_with(so_far: Option<Expected>, line: &CargoLine) -> Option<Expected>
     ensures { result
         ≡ (if fits (amount (expected_after so_far line.now).pieces
@@ -61,8 +60,8 @@ fn expected_with(so_far: Option<Expected>, line: &CargoLine) -> Option<Expected>
     })
 }
 
-/// Tests a line after those before it. `before` is what is expected of its waybill by an earlier
-/// line.
+/// Tests a line after those before it. `before` is the expectation by an earlier line for its
+/// waybill.
 fn find(
     before: Option<Expected>,
     line: &CargoLine,
@@ -103,7 +102,7 @@ fn find(
     Ok(Finding { declared, expected })
 }
 
-/// Adds what a line was found to do, and keeps what is expected of its waybill.
+/// Adds the rows of a tested line, and keeps the expectation of its waybill.
 fn write_line<'a>(
     changes: &mut Vec<Change<'a>>,
     earlier: &mut HashMap<u64, Expected>,
@@ -130,7 +129,7 @@ fn write_line<'a>(
     Ok(())
 }
 
-/// Adds what a line writes, and keeps what is expected of its waybill.
+/// Tests a line, adds its rows, and keeps the expectation of its waybill.
 fn add_line<'a>(
     changes: &mut Vec<Change<'a>>,
     earlier: &mut HashMap<u64, Expected>,
@@ -156,7 +155,7 @@ fn add_line<'a>(
     }
 }
 
-/// The lines for here, in their order.
+/// Returns the lines for `here`, in order.
 pub(crate) fn lines_here<'a>(
     alloc: Global,
     here: Airport,
@@ -164,7 +163,7 @@ pub(crate) fn lines_here<'a>(
 ) -> Result<Vec<CargoRef<'a>>, AllocError>
     ensures value { IfOk result (λ kept. kept.items ≡ lines_for here lines.now) }
     ensures bound { IfOk result (λ kept. length kept.items ≤ length lines.now) }
-    // Their type says so, once they are read.
+    // Guaranteed by their type, once they are read.
     ensures some { IfOk result (λ _. All HasPieces lines.now) }
 {
     let mut kept = Vec::new(alloc);
@@ -177,7 +176,7 @@ pub(crate) fn lines_here<'a>(
     Ok(kept)
 }
 
-/// What the lines write, each after those before it.
+/// Returns the rows that the lines write, each tested after those before it.
 pub(crate) fn announced<'a>(
     alloc: Global,
     flight: &FlightDate,
@@ -206,7 +205,7 @@ pub(crate) fn announced<'a>(
     Ok(changes)
 }
 
-/// The part of a manifest that a telegram is, its day being known.
+/// Returns the key of a part of a manifest whose day is known.
 fn key_of(part: &InboundPart<'_>, day: LocalDay) -> Part
     ensures { result ≡ record {
       flight = record { flight = part.now.flight; day = day };
@@ -224,7 +223,7 @@ fn key_of(part: &InboundPart<'_>, day: LocalDay) -> Part
     }
 }
 
-/// The refusal of a date that means no day of a moment.
+/// Returns the refusal of a date that isn't an existing day.
 fn no_day() -> PlanFault
     ensures { result ≡ fault.Refused (record { number = 301; detail = detail.Line 2 why.Date }) }
 {
@@ -237,7 +236,7 @@ fn no_day() -> PlanFault
     })
 }
 
-/// Takes a part of a manifest, whose date means this day: all its lines for here count, or none.
+/// Takes a part of a manifest whose date means the day `meant`: all its lines for here, or nothing.
 pub(crate) fn announce<'a>(
     on: &PlanContext,
     taken: bool,
@@ -277,7 +276,7 @@ pub(crate) fn announce<'a>(
     Ok(plan)
 }
 
-/// The day that a date means, where it is one of a Moment.
+/// Returns the day that a date means, if a [`Moment`] can have it.
 pub fn day_meant(date: DayMonth, at: Moment) -> Option<LocalDay>
     ensures some { IfSome result (λ day. (resolved date at.day ≡ Some day)
         × (is_day (resolved date at.day) ≡ true)) }

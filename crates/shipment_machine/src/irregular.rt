@@ -1,4 +1,4 @@
-//! What is missing and found.
+//! Missing and found pieces.
 ghost use Rattle.std.specs.Prelude.{◌≡◌, ◌+◌, ◌≤◌, ◌++◌, OnOk, min};
 ghost use Rattle.shipment_machine.specs.Amount.{IsHeld, part};
 ghost use Rattle.shipment_machine.specs.Effect.{decided, surplus, discrepancy_of, recording_missing, recording_found};
@@ -18,7 +18,7 @@ use awb_number::Awb;
 use imp_fields::{Discrepancy, Pieces, Tenths, book_weight};
 use std::alloc::AllocError;
 
-/// Pieces that no one announced, with at least a tenth each.
+/// Returns unannounced pieces, with at least a tenth each.
 fn surplus_of(pieces: u32, tenths: u32) -> Amount
     ensures { result ≡ surplus pieces tenths }
 {
@@ -34,7 +34,7 @@ fn surplus_of(pieces: u32, tenths: u32) -> Amount
     }
 }
 
-/// How much of the missing comes back, where so many pieces are found.
+/// Returns the part of `missing` that comes back when `pieces` are found.
 fn returned(missing: Amount, pieces: u32) -> Amount
     requires held { IsHeld missing }
     requires some { 1 ≤ pieces }
@@ -51,7 +51,6 @@ fn returned(missing: Amount, pieces: u32) -> Amount
     part_of(missing, pieces.min(missing.pieces))
 }
 
-/// Adds a discrepancy, where a flight is named.
 fn add_discrepancy(
     notices: &mut Vec<Notice>,
     on: &PlanContext,
@@ -76,7 +75,6 @@ fn add_discrepancy(
     add_notice(notices, on.here, awb, declared, event, amount)
 }
 
-/// Records free pieces as missing.
 pub(crate) fn record_missing<'a>(
     on: &PlanContext,
     view: &WaybillView,
@@ -111,7 +109,7 @@ pub(crate) fn record_missing<'a>(
     Ok(plan)
 }
 
-/// Records pieces as found: missing ones first, the others as a surplus.
+/// Records pieces as found: missing ones first, the rest as surplus.
 pub(crate) fn record_found<'a>(
     on: &PlanContext,
     view: &WaybillView,

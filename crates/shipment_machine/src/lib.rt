@@ -1,4 +1,4 @@
-//! The movement book of a station, and what each command makes of it.
+//! The movement book of a station, and the effect of each command on it.
 #![tactic(auto)]
 
 mod acceptance;

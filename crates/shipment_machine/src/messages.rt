@@ -1,4 +1,4 @@
-//! Messages that were sent, and status messages that arrived.
+//! Confirmed messages, and status messages that arrived.
 ghost use Rattle.std.specs.Prelude.{◌≡◌, IfOk, IsTrue, map};
 ghost use Rattle.std.specs.List.{list_all};
 ghost use Rattle.imp_fields.specs.Characters.{is_line};
@@ -14,7 +14,7 @@ use crate::trail::TrailLine;
 use awb_number::Awb;
 use std::alloc::AllocError;
 
-/// The rows of a status message: its lines join the trail.
+/// Returns the rows of a status message: its lines, added to the trail.
 fn trail_of<'a>(
     on: &PlanContext,
     awb: Awb,
@@ -52,7 +52,7 @@ pub(crate) fn note_status<'a>(
     Ok(plan)
 }
 
-/// Confirms the messages up to a number.
+/// Confirms the messages up to number `upto`.
 pub(crate) fn confirm<'a>(
     on: &PlanContext,
     confirmed: u32,

@@ -7,12 +7,12 @@ use awb_number::Awb;
 use imp_fields::{Airport, BookTenths, Goods, PartNumber, Pieces};
 use station_days::{LocalDay, Moment};
 
-/// Where pieces of a waybill can be. The first two are outside the station.
+/// A place for pieces of a waybill. The first two are outside the station.
 #[derive(Clone, Copy, Debug, PartialEq, Eq)]
 pub enum Place {
-    /// With the shipper, an agent or an airline that hands the pieces over.
+    /// With the shipper, agent or airline that hands the pieces over.
     Hand,
-    /// Where pieces come from that no one announced.
+    /// The origin of unannounced pieces.
     Surplus,
     /// In the store, not built for a flight.
     Free,
@@ -26,7 +26,7 @@ pub enum Place {
 }
 
 impl Place {
-    /// Whether the two are one place: of two built ones, whether they are on one flight.
+    /// Returns whether the two are the same place, and for built places the same flight.
     pub fn is_same(&self, other: &Place) -> bool
         ensures { result ≡ same_place self.now other.now }
     {
@@ -44,13 +44,13 @@ impl Place {
     }
 }
 
-/// The balances of a waybill: what came in from outside, and what is at each place but the built
+/// The balances of a waybill: what came from outside, and what is at each place except the built
 /// ones.
 #[derive(Clone, Copy, Debug, PartialEq, Eq)]
 pub struct Balances {
-    /// What was taken over from a shipper, an agent or an airline.
+    /// The amount received from a shipper, an agent or an airline.
     pub taken: Amount,
-    /// What no one had announced.
+    /// The unannounced amount.
     pub found: Amount,
     pub free: Amount,
     pub missing: Amount,
@@ -59,7 +59,7 @@ pub struct Balances {
     pub transferred: Amount,
 }
 
-/// A line of the movement book.
+/// A row of the movement book.
 #[derive(Clone, Copy, Debug, PartialEq, Eq)]
 pub struct Move {
     pub awb: Awb,
@@ -67,12 +67,12 @@ pub struct Move {
     pub to: Place,
     pub pieces: Pieces,
     pub tenths: BookTenths,
-    /// The flight of the built place, of a check-in, or the one that was named.
+    /// The flight of the built place or check-in, or the one named in the command.
     pub flight: Option<FlightDate>,
     pub at: Moment,
 }
 
-/// What was declared of a waybill.
+/// A waybill's declaration.
 #[derive(Clone, Copy, Debug, PartialEq, Eq)]
 pub struct Declared {
     pub origin: Airport,
@@ -80,27 +80,27 @@ pub struct Declared {
     pub pieces: Pieces,
     pub tenths: BookTenths,
     pub goods: Goods,
-    /// Whether the consignee was notified since.
+    /// True if the consignee was notified since.
     pub notified: bool,
-    /// The local day on which it was declared, where that was kept.
+    /// The local day of the declaration, if recorded.
     pub since: Option<LocalDay>,
 }
 
 /// An outbound flight.
 #[derive(Clone, Copy, Debug, PartialEq, Eq)]
 pub struct Outbound {
-    /// Where it unloads.
+    /// The airport of unloading.
     pub unload: Airport,
-    /// Whether it has departed.
+    /// True if it has departed.
     pub closed: bool,
 }
 
-/// What a manifest announced of a waybill on a flight.
+/// The announced amount of a waybill on a flight.
 #[derive(Clone, Copy, Debug, PartialEq, Eq)]
 pub struct Expected {
     pub pieces: Pieces,
     pub tenths: BookTenths,
-    /// Whether it was checked in.
+    /// True if the waybill was checked in.
     pub checked: bool,
 }
 
@@ -108,7 +108,7 @@ pub struct Expected {
 #[derive(Clone, Copy, Debug, PartialEq, Eq)]
 pub struct Part {
     pub flight: FlightDate,
-    /// Where the flight left.
+    /// The airport of departure.
     pub airport: Airport,
     pub number: PartNumber,
 }

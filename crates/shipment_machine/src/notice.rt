@@ -6,7 +6,7 @@ use imp_fields::{Airport, BookTenths, Discrepancy, Goods, Name, Pieces, WaybillS
 use station_days::Moment;
 use std::marker::Model;
 
-/// What happened to some pieces.
+/// A status event.
 #[derive(Clone, Copy, Debug, PartialEq, Eq)]
 pub enum Event {
     /// RCS: received from the shipper or an agent.
@@ -14,12 +14,12 @@ pub enum Event {
         name: Name,
         at: Moment,
     },
-    /// MAN: manifested on a flight to the airport where it unloads.
+    /// MAN: manifested on a flight to its airport of unloading.
     Manifested {
         flight: FlightDate,
         unload: Airport,
     },
-    /// DEP: departed on it.
+    /// DEP: departed on the flight.
     Departed {
         flight: FlightDate,
         unload: Airport,
@@ -39,7 +39,7 @@ pub enum Event {
         name: Name,
         at: Moment,
     },
-    /// DIS: pieces and papers differ.
+    /// DIS: pieces and documents differ.
     Differs {
         flight: FlightDate,
         at: Moment,
@@ -47,7 +47,7 @@ pub enum Event {
     },
 }
 
-/// A waybill of a flight manifest, with what of it is on the flight.
+/// A waybill on a flight manifest, with the amount on the flight.
 #[derive(Clone, Copy, Debug)]
 pub struct ManifestLine {
     pub consigned: WaybillSummary,
@@ -56,7 +56,7 @@ pub struct ManifestLine {
     pub goods: Goods,
 }
 
-/// The waybills of a flight manifest, 500 at most.
+/// The waybills of a flight manifest, at most 500.
 #[derive(Drop)]
 pub struct ManifestLines {
     lines: Vec<ManifestLine>,
@@ -75,7 +75,7 @@ impl Model for ManifestLines {
 }
 
 impl ManifestLines {
-    /// None where there are more than 500.
+    /// Returns `None` for more than 500 lines.
     pub fn new(lines: Vec<ManifestLine>) -> Option<ManifestLines>
         ensures in_range { IsSome result ↔ (length lines.items ≤ most_waybills) }
         ensures value { IfSome result (λ kept. kept ≡ lines.items) }
@@ -87,7 +87,7 @@ impl ManifestLines {
         }
     }
 
-    /// The waybills, in their order.
+    /// The waybills, in order.
     pub fn as_slice(&self) -> &[ManifestLine]
         ensures value { result.now ≡ self.now }
         ensures in_range { length result.now ≤ most_waybills }
@@ -99,7 +99,7 @@ impl ManifestLines {
 /// A message to send. Its amounts are within 9,999 pieces and 999,999 tenths of a kilogram.
 #[derive(Drop)]
 pub enum Notice {
-    /// What happened here to some pieces of a waybill.
+    /// An event for pieces of a waybill at this station.
     Status {
         here: Airport,
         consigned: WaybillSummary,
@@ -107,7 +107,7 @@ pub enum Notice {
         pieces: Pieces,
         tenths: BookTenths,
     },
-    /// A flight leaves here with these waybills.
+    /// The manifest of a flight that leaves here.
     Manifest {
         here: Airport,
         flight: FlightDate,

@@ -1,4 +1,4 @@
-//! What is built for a flight and leaves with it.
+//! Building, offloading and rerouting.
 ghost use Rattle.std.specs.Prelude.{◌*◌, ◌<◌};
 ghost use Rattle.shipment_machine.specs.Amount.{IsHeld};
 ghost use Rattle.shipment_machine.specs.Effect.{decided, manifesting, offloading, rerouting};
@@ -16,7 +16,7 @@ use crate::view::{FlightView, Loads, WaybillView};
 use awb_number::Awb;
 use imp_fields::{Airport, Discrepancy, Pieces};
 
-/// Builds free pieces on a flight, which is noted where it is new.
+/// Builds free pieces on a flight, which is noted if it is new.
 pub(crate) fn manifest<'a>(
     on: &PlanContext,
     view: &WaybillView,
@@ -115,7 +115,7 @@ pub(crate) fn offload<'a>(
     Ok(plan)
 }
 
-/// Lets a noted flight, on which nothing is built, unload elsewhere.
+/// Changes the airport of unloading of a noted flight on which nothing is built.
 pub(crate) fn reroute<'a>(
     on: &PlanContext,
     outbound: &Option<Outbound>,

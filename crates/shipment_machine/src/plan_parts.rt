@@ -16,7 +16,7 @@ use imp_fields::{Airport, BookTenths, Pieces, WaybillSummary};
 use station_days::Moment;
 use std::alloc::{AllocError, Global};
 
-/// What each command is planned with: the memory, the station and the moment.
+/// The context of a plan: the allocator, the station and the moment.
 #[derive(Clone, Copy)]
 pub(crate) struct PlanContext {
     pub(crate) alloc: Global,
@@ -24,7 +24,6 @@ pub(crate) struct PlanContext {
     pub(crate) at: Moment,
 }
 
-/// A refusal about a waybill.
 pub(crate) fn refuse_waybill(number: u16, awb: Awb) -> PlanFault
     ensures { result ≡ fault.Refused (waybill_refusal number awb) }
 {
@@ -34,7 +33,6 @@ pub(crate) fn refuse_waybill(number: u16, awb: Awb) -> PlanFault
     })
 }
 
-/// A refusal about a flight.
 pub(crate) fn refuse_flight(number: u16, flight: FlightDate) -> PlanFault
     ensures { result ≡ fault.Refused (flight_refusal number flight) }
 {
@@ -44,7 +42,7 @@ pub(crate) fn refuse_flight(number: u16, flight: FlightDate) -> PlanFault
     })
 }
 
-/// The refusal where too few pieces are free.
+/// Returns the refusal for too few free pieces.
 pub(crate) fn refuse_free(free: Amount) -> PlanFault
     requires { IsHeld free }
     ensures { result ≡ fault.Refused (free_refusal free.pieces) }
@@ -55,14 +53,13 @@ pub(crate) fn refuse_free(free: Amount) -> PlanFault
     })
 }
 
-/// Whether two airports are one.
 pub(crate) fn is_same(a: Airport, b: Airport) -> bool
     ensures { result ≡ bytes_eq a b }
 {
     a == b
 }
 
-/// A number that sums can't overflow with.
+/// Widens a number so that sums can't overflow.
 pub(crate) fn widened(number: u32) -> u64
     ensures value { result ≡ number }
     ensures bound { result < 2 ^ 32 }
@@ -70,7 +67,7 @@ pub(crate) fn widened(number: u32) -> u64
     u64::from(number)
 }
 
-/// Whether what was taken over and found is still within bounds with so much more.
+/// Returns whether the received and found amounts stay within bounds if these are added.
 pub(crate) fn fits_with(balances: &Balances, pieces: u64, tenths: u64) -> bool
     requires few { pieces < 2 ^ 62 }
     requires light { tenths < 2 ^ 62 }
@@ -82,7 +79,6 @@ pub(crate) fn fits_with(balances: &Balances, pieces: u64, tenths: u64) -> bool
     )
 }
 
-/// Two amounts together.
 pub(crate) fn together(a: Amount, b: Amount) -> Amount
     requires pieces { a.pieces + b.pieces ≤ most_pieces }
     requires tenths { a.tenths + b.tenths ≤ most_tenths }
@@ -94,7 +90,7 @@ pub(crate) fn together(a: Amount, b: Amount) -> Amount
     }
 }
 
-/// A count that is known to be one.
+/// Converts a number that is known to be a piece count.
 pub(crate) fn pieces_of(number: u32) -> Pieces
     requires { IsPieces number }
     ensures { result ≡ number }
@@ -102,7 +98,7 @@ pub(crate) fn pieces_of(number: u32) -> Pieces
     Pieces::new(number).unwrap()
 }
 
-/// A weight of the books that is known to be one.
+/// Converts a number that is known to be a book weight.
 pub(crate) fn tenths_of(number: u32) -> BookTenths
     requires { IsBookTenths number }
     ensures { result ≡ number }
@@ -110,7 +106,6 @@ pub(crate) fn tenths_of(number: u32) -> BookTenths
     BookTenths::new(number).unwrap()
 }
 
-/// A waybill as messages name it.
 pub(crate) fn consigned_as(awb: Awb, declared: &Declared) -> WaybillSummary
     ensures { result ≡ consigned awb declared.now }
 {
@@ -123,7 +118,6 @@ pub(crate) fn consigned_as(awb: Awb, declared: &Declared) -> WaybillSummary
     }
 }
 
-/// A plan with nothing in it yet.
 pub(crate) fn blank<'a>(alloc: Global, count: u32) -> Plan<'a>
     ensures moves { result.moves.items ≡ [] }
     ensures notices { result.notices.items ≡ [] }
@@ -138,7 +132,6 @@ pub(crate) fn blank<'a>(alloc: Global, count: u32) -> Plan<'a>
     }
 }
 
-/// Adds a move, unless it is of no piece.
 pub(crate) fn add_move(
     moves: &mut Vec<Move>,
     awb: Awb,
@@ -167,7 +160,7 @@ pub(crate) fn add_move(
     Ok(())
 }
 
-/// Adds a status message, unless it is of no piece.
+/// Adds a status message, unless the amount has no pieces.
 pub(crate) fn add_notice(
     notices: &mut Vec<Notice>,
     here: Airport,

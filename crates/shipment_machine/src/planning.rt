@@ -1,4 +1,4 @@
-//! What each command does, where its view can be a lawful state's.
+//! Planning of each command from a view that a lawful state can have.
 ghost use Rattle.std.specs.Prelude.{◌≡◌, ◌↔◌, Ok, IfOk, IfErr, IsTrue, All, length};
 ghost use Rattle.std.specs.List.{filter};
 ghost use Rattle.std.specs.Str.{bytes_eq};
@@ -27,7 +27,7 @@ use imp_fields::{Airport, MOST_PIECES, MOST_TENTHS};
 use station_days::{LocalDay, Moment, resolve};
 use std::alloc::Global;
 
-/// Whether an amount is within the bounds, with at least a tenth a piece.
+/// Returns whether an amount is within bounds, with at least a tenth a piece.
 fn is_held(amount: &Amount) -> bool
     ensures { IsTrue result ↔ IsHeld amount.now }
 {
@@ -43,7 +43,7 @@ fn is_expected_held(expected: &Option<Expected>) -> bool
     }
 }
 
-/// Whether the balances can be ones of a lawful state.
+/// Returns whether a lawful state can have these balances.
 fn are_sound(balances: &Balances) -> bool
     ensures { IsTrue result ↔ AreSound balances.now }
 {
@@ -76,14 +76,12 @@ fn count_for(here: Airport, lines: &[InboundLine]) -> usize
     lines.iter().filter(|line| line.unload == here).count()
 }
 
-/// How many lines are for an airport.
 fn lines_for(here: Airport, lines: &[InboundLine]) -> usize
     ensures { result ≡ length (lines_for here lines.now) }
 {
     count_for(here, lines)
 }
 
-/// Whether these can be the rows of a lawful state that a command of the desk reads.
 fn are_rows_of(key: RowsKey, rows: &Rows) -> bool
     ensures { IsTrue result ↔ AreRowsOf key rows.now }
 {
@@ -116,7 +114,7 @@ fn are_rows_of(key: RowsKey, rows: &Rows) -> bool
     }
 }
 
-/// Whether a day is one of a Moment.
+/// Returns whether a [`Moment`] can have the day.
 fn has_day(meant: Option<u32>) -> bool
     ensures { result ≡ is_day meant }
 {
@@ -126,7 +124,8 @@ fn has_day(meant: Option<u32>) -> bool
     }
 }
 
-/// Whether the rows can be a lawful state's, for this command, whose date means this day.
+/// Returns whether a lawful state can have these rows for the command, whose date means the day
+/// `meant`.
 fn fits(view: &View, command: &ShipmentCommand<'_>, meant: Option<u32>) -> bool
     ensures { IsTrue result ↔ FitsCommand view.now.here view.now.rows command.now meant }
 {
@@ -261,7 +260,7 @@ fn plan_desk<'a>(
     }
 }
 
-/// Plans a command from the rows that it reads. A manifest's date means this day.
+/// Plans a command from the rows that it reads. `meant` is the day that a manifest's date means.
 fn plan_from<'a>(
     on: &PlanContext,
     rows: &Rows,
@@ -271,7 +270,7 @@ fn plan_from<'a>(
     requires { FitsCommand on.now.here rows.now command.now meant }
     ensures answer { IsAnswer result
         (rows_answer on.now.here rows.now command.now on.now.at meant) }
-    // The types say so.
+    // Guaranteed by the types.
     ensures proper { IfOk result (λ _. IsProper command.now) }
 {
     match command {
@@ -293,7 +292,6 @@ fn plan_from<'a>(
     }
 }
 
-/// The day that a command's date means: a manifest has one.
 fn meant_by(command: &ShipmentCommand<'_>, at: Moment) -> Option<u32>
     ensures { result ≡ meant_by command.now at }
 {
@@ -305,12 +303,15 @@ fn meant_by(command: &ShipmentCommand<'_>, at: Moment) -> Option<u32>
     }
 }
 
-/// What a command does at a moment, or the refusal that is due. The view shows what a lawful state
-/// has for the command: what is promised holds of each state that has this view. Nothing is copied
-/// of a telegram's lines, and a plan takes time in proportion to the view.
+/// Returns what a command does at a moment, or its first refusal with its detail. The contract
+/// holds for each lawful state that has this view. No line of a telegram is copied, and the time is
+/// proportional to the view.
 ///
-/// The first refusal of the command's list is returned, with its detail. `Unfit` comes only for a
-/// view that no lawful state has for the command; out of memory, nothing is said of the command.
+/// # Errors
+///
+/// - [`PlanFault::Refused`]: the first refusal on the command's list.
+/// - [`PlanFault::Unfit`]: no lawful state has this view for the command.
+/// - [`PlanFault::Memory`]: memory ran out. There is no guarantee about the command.
 pub fn plan<'a>(
     alloc: Global,
     view: &View,
@@ -321,7 +322,7 @@ pub fn plan<'a>(
         → IfOk result (λ plan. effect s command.now at ≡ Ok (outcome_of plan)) }
     ensures refused { (s : Cargo) → IsViewOf s command.now at view.now
         → IfErr result (RefusesAs (effect s command.now at)) }
-    // The text of a part that the telegram is has yet to be kept.
+    // The text of the noted part is not yet stored.
     ensures stays_lawful { (s : Cargo) → IsViewOf s command.now at view.now
         → IfOk result (StaysLawful s) }
 {

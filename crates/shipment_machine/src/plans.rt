@@ -10,23 +10,24 @@ use imp_fields::Why;
 use std::alloc::{AllocError, AllocFailed};
 use std::fmt;
 
-/// What a refusal is about.
+/// The subject of a refusal.
 #[derive(Clone, Copy, Debug, PartialEq, Eq)]
 pub enum Detail {
     Nothing,
     Waybill(Awb),
-    /// How many pieces are free.
+    /// The number of free pieces.
     Pieces(u16),
     Flight(FlightDate),
     Part(Part),
-    /// A line of a telegram, and what is wrong there.
+    /// A line of a telegram, and its fault.
     Line { line: u16, why: Why },
-    /// The mark of what was confirmed, and the number of the last message.
+    /// The numbers of the last confirmed message and the last message.
     Messages { confirmed: u32, last: u32 },
 }
 
-/// As `020-12345723`, the free pieces, `LH400/2026-01-12`, `LH400/2026-01-12/FRA/1`, a line and a
-/// word as `4 ending`, the mark and the last message as `3 4`, or nothing.
+/// Written as `020-12345723`, the free pieces, `LH400/2026-01-12`, `LH400/2026-01-12/FRA/1`, line
+/// and word such as `4 ending`, the last confirmed and the last message such as `3 4`, or an empty
+/// text.
 impl fmt::Display for Detail {
     ghost output = { λ detail. Some (detail_text detail) };
 
@@ -46,14 +47,14 @@ impl fmt::Display for Detail {
     }
 }
 
-/// Why a command is refused: a number of the station's list, and what it is about.
+/// The refusal of a command: a number of the station's list, and its subject.
 #[derive(Clone, Copy, Debug, PartialEq, Eq)]
 pub struct Refusal {
     pub number: u16,
     pub detail: Detail,
 }
 
-/// As `refused 102 020-12345723`, or without a detail as `refused 501`.
+/// Written like `refused 102 020-12345723`, or without a detail like `refused 501`.
 impl fmt::Display for Refusal {
     ghost output = { λ refusal. Some (refusal_text refusal) };
 
@@ -68,42 +69,42 @@ impl fmt::Display for Refusal {
 /// A row to write.
 #[derive(Drop)]
 pub enum Change<'a> {
-    /// What is declared of a waybill from now on.
+    /// Sets the declaration of a waybill.
     Declare {
         awb: Awb,
         declared: Declared,
     },
-    /// An agent's number is used up.
+    /// Marks an agent's number as used.
     UseUp {
         awb: Awb,
     },
-    /// What is noted of an outbound flight from now on.
+    /// Sets the note of an outbound flight.
     NoteFlight {
         flight: FlightDate,
         outbound: Outbound,
     },
-    /// What is expected of a waybill on a flight from now on.
+    /// Sets the expectation of a waybill on a flight.
     Expect {
         flight: FlightDate,
         awb: Awb,
         expected: Expected,
     },
-    /// The telegram in work is this part.
+    /// Notes that the current telegram is this part.
     NotePart {
         part: Part,
     },
-    /// A line joins the trail of a waybill.
+    /// Adds a line to the trail of a waybill.
     Trail {
         awb: Awb,
         line: TrailLine<'a>,
     },
-    /// The messages up to this one are confirmed.
+    /// Confirms the messages up to this one.
     Confirm {
         upto: u32,
     },
 }
 
-/// What a command does.
+/// The effect of a command.
 #[derive(Drop)]
 pub struct Plan<'a> {
     /// The moves to add to the book, in order.
@@ -112,17 +113,17 @@ pub struct Plan<'a> {
     pub notices: Vec<Notice>,
     /// The rows to write, in order.
     pub changes: Vec<Change<'a>>,
-    /// What the reply says.
+    /// The number in the reply.
     pub count: u32,
 }
 
-/// Why there is no plan.
+/// The reason why there is no plan.
 #[derive(Clone, Copy, Debug, PartialEq, Eq)]
 pub enum PlanFault {
     Refused(Refusal),
-    /// Out of memory: this says nothing of the command.
+    /// Memory ran out. There is no guarantee about the command.
     Memory,
-    /// The view is none that a lawful state has for the command.
+    /// No lawful state has this view for the command.
     Unfit,
 }
 

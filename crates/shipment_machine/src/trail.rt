@@ -5,8 +5,8 @@ ghost use Rattle.imp_fields.specs.TextSize.{most_lines};
 
 use std::marker::Model;
 
-/// A line of a waybill's trail, as a status message (Cargo-IMP FSU) had it: 0 to 255 bytes of
-/// printable ASCII that someone else keeps.
+/// A borrowed line of a waybill's trail, as in a status message (Cargo-IMP FSU): 0 to 255 bytes of
+/// printable ASCII.
 #[derive(Drop)]
 pub struct TrailLine<'a> {
     bytes: &'a [u8],
@@ -24,7 +24,7 @@ impl<'a> Model for TrailLine<'a> {
 }
 
 impl<'a> TrailLine<'a> {
-    /// The line of these bytes, as borrowed.
+    /// Wraps borrowed bytes.
     pub fn new(bytes: &'a [u8]) -> TrailLine<'a>
         requires printable { IsTrue (is_line bytes.now) }
         ensures value { result ≡ bytes.now }
@@ -41,7 +41,7 @@ impl<'a> TrailLine<'a> {
     }
 }
 
-/// The lines below the consignment line of a status message, 1,000 at most.
+/// The lines after the consignment line of a status message, at most 1,000.
 #[derive(Drop)]
 pub struct TrailLines<'a> {
     lines: &'a [TrailLine<'a>],
@@ -62,7 +62,7 @@ impl<'a> Model for TrailLines<'a> {
 }
 
 impl<'a> TrailLines<'a> {
-    /// These lines, as borrowed.
+    /// Wraps borrowed lines.
     pub fn new(lines: &'a [TrailLine<'a>]) -> TrailLines<'a>
         requires few { length lines.now ≤ most_lines }
         requires printable { IsTrue (list_all is_line lines.now) }
@@ -71,7 +71,7 @@ impl<'a> TrailLines<'a> {
         TrailLines { lines }
     }
 
-    /// The lines, in their order.
+    /// The lines, in order.
     pub fn as_slice(&self) -> &'a [TrailLine<'a>]
         ensures value { result.now ≡ self.now }
         ensures in_range { length result.now ≤ most_lines }

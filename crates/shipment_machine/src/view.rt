@@ -9,12 +9,12 @@ use awb_number::Awb;
 use imp_fields::Airport;
 use std::marker::Model;
 
-/// What the declaration of a waybill is planned from.
+/// The view for declaring a waybill.
 #[derive(Clone, Copy, Debug)]
 pub struct DeclarationView {
     pub declared: Option<Declared>,
-    /// Whether the book has a move of it. Its balances don't say so: pieces may have gone to the
-    /// missing and come back.
+    /// True if the book has a move of the waybill. The balances don't show it: pieces may have
+    /// become missing and been found again.
     pub has_moves: bool,
     pub holder: Option<Holder>,
 }
@@ -26,17 +26,17 @@ pub struct WaybillView {
     pub balances: Balances,
 }
 
-/// A flight, seen from a waybill that is to be built on it.
+/// A flight, viewed from a waybill to be built on it.
 #[derive(Clone, Copy, Debug)]
 pub struct FlightView {
     pub outbound: Option<Outbound>,
-    /// How many waybills are built on it.
+    /// The number of waybills built on the flight.
     pub waybills: u16,
-    /// What of this waybill is built on it.
+    /// The amount of this waybill built on the flight.
     pub load: Amount,
 }
 
-/// A waybill that is built on a flight.
+/// A waybill built on a flight.
 #[derive(Clone, Copy, Debug)]
 pub struct FlightLoad {
     pub awb: Awb,
@@ -44,7 +44,7 @@ pub struct FlightLoad {
     pub load: Amount,
 }
 
-/// All waybills on a flight, in ascending order, 500 at most.
+/// All waybills on a flight, in ascending order, at most 500.
 #[derive(Drop)]
 pub struct Loads {
     loads: Vec<FlightLoad>,
@@ -63,7 +63,7 @@ impl Model for Loads {
 }
 
 impl Loads {
-    /// None where there are more than 500.
+    /// Returns `None` for more than 500 waybills.
     pub fn new(loads: Vec<FlightLoad>) -> Option<Loads>
         ensures in_range { IsSome result ↔ (length loads.items ≤ most_waybills) }
         ensures value { IfSome result (λ kept. kept ≡ loads.items) }
@@ -75,7 +75,7 @@ impl Loads {
         }
     }
 
-    /// The waybills, in their order.
+    /// The waybills, in order.
     pub fn as_slice(&self) -> &[FlightLoad]
         ensures value { result.now ≡ self.now }
         ensures in_range { length result.now ≤ most_waybills }
@@ -84,7 +84,7 @@ impl Loads {
     }
 }
 
-/// What is kept of the waybill of a manifest's line.
+/// The rows stored for the waybill of a manifest line.
 #[derive(Clone, Copy, Debug)]
 pub struct LineView {
     pub declared: Option<Declared>,
@@ -92,7 +92,7 @@ pub struct LineView {
     pub expected: Option<Expected>,
 }
 
-/// What is kept of each line of a manifest, in its order.
+/// The stored rows for each line of a manifest, in order.
 #[derive(Drop)]
 pub struct LineViews {
     rows: Vec<LineView>,
@@ -108,7 +108,7 @@ impl Model for LineViews {
 }
 
 impl LineViews {
-    /// These rows, in the order of the lines.
+    /// Wraps rows, in the order of the lines.
     pub fn new(rows: Vec<LineView>) -> LineViews
         ensures { result ≡ rows.items }
     {
@@ -123,75 +123,75 @@ impl LineViews {
     }
 }
 
-/// Which rows a command of the desk reads.
+/// The key of the rows that a command of the desk reads.
 #[derive(Clone, Copy, Debug, PartialEq, Eq)]
 pub enum RowsKey {
-    /// What is known of a waybill that is to be declared.
+    /// The declaration of a waybill.
     Declaration(Awb),
     /// A waybill with its balances.
     Waybill(Awb),
-    /// A waybill, and the flight that it is to be built on.
+    /// A waybill, and the flight to build it on.
     Manifest(Awb, FlightDate),
-    /// What of a waybill is built on a flight.
+    /// The amount of a waybill built on a flight.
     Offload(Awb, FlightDate),
-    /// A flight, and what is built on it.
+    /// A flight, and all that is built on it.
     Departure(FlightDate),
-    /// A waybill, and what a flight brings of it.
+    /// A waybill, and its expectation on a flight.
     CheckIn(Awb, FlightDate),
     /// The messages.
     Messages,
 }
 
-/// What a command reads, and no more.
+/// The rows that a command reads, and no others.
 #[derive(Drop)]
 pub enum Rows {
-    /// A booking, or an FWB: the waybill that is declared.
+    /// For a booking or an FWB: the declaration.
     Declaration {
         waybill: DeclarationView,
     },
-    /// An amendment, a receipt, a notice, a delivery, missing or found pieces: the waybill.
+    /// For the other commands about a waybill: the waybill with its balances.
     Waybill {
         waybill: WaybillView,
     },
-    /// A manifest: the waybill and the flight that it is built on.
+    /// For a manifest: the waybill and the flight to build it on.
     Manifest {
         waybill: WaybillView,
         flight: FlightView,
     },
-    /// An offload: what is declared of the waybill, and what of it is built on the flight.
+    /// For an offload: the declaration, and the waybill's amount built on the flight.
     Offload {
         declared: Option<Declared>,
         outbound: Option<Outbound>,
         load: Amount,
     },
-    /// A departure: the flight, and what is built on it.
+    /// For a departure or a reroute: the flight, and all that is built on it.
     Departure {
         outbound: Option<Outbound>,
         loads: Loads,
     },
-    /// A check-in, or pieces that are struck: the waybill, and what the flight brings of it.
+    /// For a check-in or a strike: the waybill, and its expectation on the flight.
     CheckIn {
         waybill: WaybillView,
         expected: Option<Expected>,
     },
-    /// A confirmation: the mark of what was confirmed, and the number of the last message.
+    /// For a confirmation: the numbers of the last confirmed message and the last message.
     Messages {
         confirmed: u32,
         last: u32,
     },
-    /// A part of a manifest: whether the part was taken, and each line for here. Where its date
-    /// means no day: nothing.
+    /// For a part of a manifest: whether the part was taken, and the rows of each line for here.
+    /// There are no rows if its date isn't an existing day.
     Lines {
         taken: bool,
         lines: LineViews,
     },
-    /// A status update: what is declared of the waybill.
+    /// For a status update: the declaration of the waybill.
     Status {
         declared: Option<Declared>,
     },
 }
 
-/// What a command is planned from.
+/// The view from which a command is planned.
 #[derive(Drop)]
 pub struct View {
     pub here: Airport,

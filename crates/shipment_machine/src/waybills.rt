@@ -7,7 +7,7 @@ use crate::moves::Move;
 use awb_number::Awb;
 use std::alloc::{AllocError, Global};
 
-/// How many numbers in front are below a number.
+/// Returns how many of the leading numbers are below `number`.
 fn below(numbers: &[Awb], number: Awb) -> usize
     ensures count { result ≡ prefix_len (λ n. nat_lt n number) numbers.now }
     ensures within { result ≤ length numbers.now }
@@ -18,7 +18,6 @@ fn below(numbers: &[Awb], number: Awb) -> usize
         .count()
 }
 
-/// Puts a number in its place among ascending ones, once.
 fn put_rising(numbers: &mut Vec<Awb>, number: Awb) -> Result<(), AllocError>
     ensures { OnOk result (numbers.new.items ≡ put_rising number numbers.old.items) }
 {
@@ -32,7 +31,7 @@ fn put_rising(numbers: &mut Vec<Awb>, number: Awb) -> Result<(), AllocError>
     Ok(())
 }
 
-/// The waybills of a book, ascending, each once. It fails only where memory runs out.
+/// Returns the waybills of a book, in ascending order without repeats.
 pub fn waybills_of(alloc: Global, book: &[Move]) -> Result<Vec<Awb>, AllocError>
     ensures { IfOk result (λ numbers. numbers.items ≡ waybills_of book.now) }
 {

@@ -1,4 +1,4 @@
--- What flights are to bring, line by line: a line is what a flight is to bring of a waybill.
+-- Expectations, line by line: a line is the expectation of a waybill on a flight.
 use Rattle.std.specs.Prelude.{ℕ, Bool, ◌&&◌, ◌==◌, if◌then◌else◌, Option, None}
 use Rattle.std.specs.Map.{lookup}
 use Rattle.shipment_machine.specs.Flights.{same_flight_date}
@@ -7,19 +7,19 @@ use Rattle.shipment_machine.specs.declared.moves.Expected.{Expected}
 use Rattle.state_store.specs.declared.expected_lines.ExpectedLines.{ExpectedLines}
 use Rattle.state_store.specs.declared.flight_key.FlightKey.{FlightKey}
 
--- the line of each waybill on each flight, where there is one
+-- the line of each waybill on each flight, if there is one
 abbrev pub Lines : Type 0
 Lines = FlightDate → ℕ → Option Expected
 
 abbrev pub no_lines : Lines
 no_lines f w = None
 
--- another line, or none, of a waybill on a flight
+-- sets or removes the line of a waybill on a flight
 abbrev pub with_line : Lines → FlightDate → ℕ → Option Expected → Lines
 with_line lines flight awb line f w =
     if same_flight_date f flight && (w == awb) then line else lines f w
 
--- the lines that are kept, each under its flight and its waybill
+-- the stored lines, each under its flight and its waybill
 abbrev pub same_line : FlightDate × ℕ → FlightDate × ℕ → Bool
 same_line a b = same_flight_date a.0 b.0 && (a.1 == b.1)
 

@@ -1,4 +1,4 @@
--- The flights of a map in the order of the readers.
+-- The flights in a map, ordered as readers do.
 use Rattle.std.specs.Prelude.{Bool}
 use Rattle.std.proofs.Common.{ap, Ordering, is_eq}
 use Rattle.std.specs.Ordering.{eq_by_cmp}
@@ -9,7 +9,7 @@ use Rattle.shipment_machine.specs.declared.flight.FlightDate.{FlightDate}
 use Rattle.station_core.specs.Readers.{by_flight}
 use Rattle.state_store.specs.declared.flight_key.FlightKey.{FlightKey}
 
--- flights are ordered by their written form, and then by the day
+-- flights are ordered by written form, and then by day
 abbrev pub by_key : FlightKey → FlightKey → Ordering
 by_key a b = by_flight a.flight b.flight
 
@@ -19,7 +19,7 @@ flights_total = then_total (on_total (λ (f : FlightDate). flight_text f.flight)
 pub key_total : IsTotalOrder by_key
 key_total = on_total (λ (k : FlightKey). k.flight) flights_total
 
--- what the order doesn't tell apart is one key
+-- keys that compare as equal are the same
 abbrev pub same_key : FlightKey → FlightKey → Bool
 same_key a b = eq_by_cmp by_key a b
 

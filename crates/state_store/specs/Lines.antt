@@ -11,17 +11,17 @@ use Rattle.shipment_machine.specs.Effect.{lines_for}
 use Rattle.shipment_machine.specs.Views.{declaration, line_view_of}
 use Rattle.station_core.specs.declared.stored.Load.{Load}
 
--- a load with what is declared of its waybill
+-- a load with the declaration of its waybill
 abbrev pub aboard_of : Cargo → Load → FlightLoad
 aboard_of s load = record { awb = load.awb; declared = declaration s load.awb; load = load.amount }
 
--- the flight of a part that is of this day, and the part
+-- the flight of a part on this day, and the part
 abbrev pub flight_on : InboundPart → ℕ → FlightDate
 flight_on f day = record { flight = f.flight; day = day }
 
 abbrev pub part_on : InboundPart → ℕ → Part
 part_on f day = record { flight = flight_on f day; airport = f.loaded; number = f.number }
 
--- the rows that such a part reads
+-- the rows for such a part
 abbrev pub part_rows_on : Cargo → InboundPart → ℕ → Rows
 part_rows_on s f day = rows.Lines (is_some (s.parts (part_on f day))) (map (line_view_of s (flight_on f day)) (lines_for s.here f.lines))

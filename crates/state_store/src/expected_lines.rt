@@ -1,4 +1,4 @@
-//! What flights are to bring, in the order in which readers list it.
+//! Expectations, in the order in which readers list them.
 ghost use Rattle.std.specs.Prelude.{◌≡◌, Some, None, IfOk, OnOk, OnErr};
 ghost use Rattle.station_core.specs.Readers.{AreExpectations};
 ghost use Rattle.state_store.specs.ExpectedLines.{Lines, lines_in, no_lines, with_line};
@@ -11,14 +11,14 @@ use station_core::Expectation;
 use std::alloc::Global;
 use std::collections::BTreeMap;
 
-/// What flights are to bring of waybills: a look-up by flight and waybill.
+/// Expectations, found by flight and waybill.
 #[derive(Drop)]
 pub struct ExpectedLines {
     entries: BTreeMap<(FlightKey, u64), Expected>,
 }
 
 impl ExpectedLines {
-    /// No line.
+    /// Starts without lines.
     pub fn new(alloc: Global) -> ExpectedLines
         ensures { lines_in result ≡ no_lines }
     {
@@ -27,7 +27,7 @@ impl ExpectedLines {
         }
     }
 
-    /// The lines that readers list. It fails only where memory runs out.
+    /// Returns the lines that readers list. It fails only if memory runs out.
     pub fn of(alloc: Global, rows: &[Expectation]) -> Result<ExpectedLines, StoreFault>
         ensures { (lines : Lines) → AreExpectations lines rows.now
             → IfOk result (λ kept. lines_in kept ≡ lines) }
@@ -39,7 +39,7 @@ impl ExpectedLines {
         Ok(kept)
     }
 
-    /// What a flight is to bring of a waybill, if it is to bring anything.
+    /// Returns the expectation of a waybill on a flight, if there is one.
     pub fn get(&self, flight: &FlightDate, awb: &Awb) -> Option<Expected>
         ensures { result ≡ lines_in self.now flight.now awb.now }
     {
@@ -47,7 +47,7 @@ impl ExpectedLines {
         self.entries.get(&key).copied()
     }
 
-    /// Writes what a flight is to bring of a waybill. Without memory for it nothing changes.
+    /// Sets the expectation of a waybill on a flight. If memory runs out, nothing changes.
     pub fn put(
         &mut self,
         flight: &FlightDate,
@@ -63,7 +63,7 @@ impl ExpectedLines {
         Ok(())
     }
 
-    /// Takes out what a flight is to bring of a waybill, if it is to bring anything.
+    /// Removes the expectation of a waybill on a flight, if there is one.
     pub fn remove(&mut self, flight: &FlightDate, awb: &Awb)
         ensures { lines_in self.new ≡ with_line (lines_in self.old) flight.now awb.now None }
     {
@@ -71,8 +71,8 @@ impl ExpectedLines {
         self.entries.remove(&key);
     }
 
-    /// All lines, by flight, in the order of the flights' written forms and then by the day, and
-    /// then by waybill. It fails only where memory runs out.
+    /// Returns all lines, by the written form of the flight, then by day, and then by waybill. It
+    /// fails only if memory runs out.
     pub fn listed(&self, alloc: Global) -> Result<Vec<Expectation>, StoreFault>
         ensures { IfOk result (λ rows. AreExpectations (lines_in self.now) rows.items) }
     {

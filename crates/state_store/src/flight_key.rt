@@ -4,12 +4,12 @@ ghost use Rattle.imp_fields.specs.Flight.{IsDesignator, flight_text};
 
 use shipment_machine::FlightDate;
 
-/// A flight of a day, in the order of the readers: by its written form, then by the day.
+/// A flight on a day, ordered as readers do: by its written form, then by day.
 #[derive(Clone, Copy)]
 pub struct FlightKey {
     /// The flight, and its day.
     pub flight: FlightDate,
-    // The written form, and what is behind it.
+    // The written form and its length.
     bytes: [u8; 7],
     len: usize,
     ghost is_flight: { IsDesignator flight.flight } by { Prim.hlevel props },
@@ -18,7 +18,7 @@ pub struct FlightKey {
 }
 
 impl FlightKey {
-    /// The key of a flight.
+    /// Returns the key of a flight.
     pub fn of(flight: &FlightDate) -> FlightKey
         ensures { result.flight ≡ flight.now }
     {
@@ -31,7 +31,6 @@ impl FlightKey {
         }
     }
 
-    /// The written form.
     pub(crate) fn text(&self) -> &[u8]
         ensures { result.now ≡ flight_text self.now.flight.flight }
     {

@@ -1,5 +1,5 @@
-//! The state of a station in a store, and what is read from it: what a command is planned from, and
-//! what readers return.
+//! The state of a station in a store, and what is read from it: the views from which commands are
+//! planned, and the rows of readers.
 #![tactic(auto)]
 
 mod expected_lines;

@@ -1,4 +1,4 @@
-//! The rows of a flight: what is built on it, and what is kept of each line of its manifest.
+//! The rows of a flight: its loads, and the rows for each line of its manifest.
 ghost use Rattle.std.specs.Prelude.{◌≡◌, ◌++◌, ◌∷◌, [], false, None, Some, OnOk, IfOk, map};
 ghost use Rattle.shipment_machine.specs.Agreement.{rows_for};
 ghost use Rattle.shipment_machine.specs.Effect.{lines_for};
@@ -20,7 +20,6 @@ use station_core::Load;
 use station_days::{LocalDay, Moment};
 use std::alloc::Global;
 
-/// A waybill that is built on a flight, with what is declared of it.
 fn declared_load<S: StateStore>(store: &mut S, load: &Load) -> Result<FlightLoad, StoreFault>
     ensures value { (x : Seen) → S.shows store.old x → S.is_sound store.new
         → IfOk result (λ row. row ≡ aboard_of x.now.cargo load.now) }
@@ -37,7 +36,6 @@ fn declared_load<S: StateStore>(store: &mut S, load: &Load) -> Result<FlightLoad
     }
 }
 
-/// Waybills that are built on a flight, with what is declared of them.
 fn declared_loads<S: StateStore>(
     alloc: Global,
     store: &mut S,
@@ -55,7 +53,6 @@ fn declared_loads<S: StateStore>(
     Ok(rows)
 }
 
-/// What is built on a flight, ascending.
 pub(crate) fn loads_of<S: StateStore>(
     alloc: Global,
     store: &mut S,
@@ -74,7 +71,7 @@ pub(crate) fn loads_of<S: StateStore>(
     }
 }
 
-/// What is kept of the waybill of a line.
+/// Returns the rows stored for the waybill of a line.
 fn line_view<S: StateStore>(
     store: &mut S,
     flight: &FlightDate,
@@ -96,7 +93,7 @@ fn line_view<S: StateStore>(
     })
 }
 
-/// Puts what is kept of a line's waybill behind the others, if the line is for here.
+/// Appends the rows stored for a line's waybill, if the line is for here.
 fn put_line<S: StateStore>(
     store: &mut S,
     rows: &mut Vec<LineView>,
@@ -117,7 +114,7 @@ fn put_line<S: StateStore>(
     Ok(())
 }
 
-/// What is kept of each line of a manifest that is for here.
+/// Returns the rows stored for each line of a manifest for here.
 fn line_rows<S: StateStore>(
     alloc: Global,
     store: &mut S,
@@ -138,7 +135,7 @@ fn line_rows<S: StateStore>(
     Ok(LineViews::new(rows))
 }
 
-/// What a part of a manifest is planned from whose date names no day.
+/// Returns the rows for a part of a manifest whose date isn't an existing day.
 fn no_lines(alloc: Global) -> Rows
     ensures { result ≡ rows.Lines false [] }
 {
@@ -148,7 +145,7 @@ fn no_lines(alloc: Global) -> Rows
     }
 }
 
-/// What a part of a manifest is planned from that is of this day.
+/// Returns the rows for a part of a manifest on this day.
 fn rows_on<S: StateStore>(
     alloc: Global,
     store: &mut S,
@@ -175,7 +172,6 @@ fn rows_on<S: StateStore>(
     Ok(Rows::Lines { taken, lines })
 }
 
-/// What a part of a manifest is planned from: nothing where its date names no day.
 pub(crate) fn part_rows<S: StateStore>(
     alloc: Global,
     store: &mut S,

@@ -1,20 +1,20 @@
-//! Which waybills are asked for, by what their moves add up to.
+//! Queries of waybills by their balances.
 ghost use Rattle.std.specs.Prelude.{◌≡◌, nat_lt};
 ghost use Rattle.station_core.specs.Told.{stored_of};
 ghost use Rattle.state_store.specs.Waybills.{is_asked_for};
 
 use shipment_machine::Balances;
 
-/// Which waybills are asked for.
+/// A query of waybills.
 #[derive(Clone, Copy, Debug, PartialEq, Eq)]
 pub enum WaybillQuery {
-    /// Those with pieces in store.
+    /// The waybills with pieces in store.
     Stored,
-    /// Those with pieces missing or found.
+    /// The waybills with missing or found pieces.
     Irregular,
 }
 
-/// Whether pieces are in store: whether more came in than left or is missing.
+/// Returns whether pieces are in store: more came in than left or are missing.
 fn has_stored(balances: Balances) -> bool
     ensures { result ≡ nat_lt 0 (stored_of balances).pieces }
 {
@@ -27,7 +27,7 @@ fn has_stored(balances: Balances) -> bool
 }
 
 impl WaybillQuery {
-    /// Whether a waybill with these balances is asked for.
+    /// Returns whether the query includes a waybill with these balances.
     pub fn asks_for(&self, balances: &Balances) -> bool
         ensures { result ≡ is_asked_for self.now balances.now }
     {

@@ -11,11 +11,11 @@ use station_core::{
     Sink, Sizes, TrailQuery, TrailRow, WaybillBalances,
 };
 
-/// The state of a station in a store, by what short calls read of it and do to it.
+/// The state of a station in a store, with short calls that read and change it.
 ///
-/// A call's clauses hand on what the store showed: whatever it showed before, it shows this now.
-/// Where a call returns a fault inside a transaction nothing is said of what the store shows; a
-/// reader's fault outside changes nothing.
+/// A call's contract starts from what the store showed before. After a fault inside a transaction,
+/// there is no guarantee about what the store shows; a reader's fault outside a transaction changes
+/// nothing.
 pub trait StateStore {
     ghost use Rattle.std.specs.Prelude.{◌≡◌, ◌∷◌, [], true, length, List, ℕ, Option, Some, None, OnOk, IfOk, IfErr, is_some};
     ghost use Rattle.std.specs.Option.{option_map};
@@ -34,17 +34,18 @@ pub trait StateStore {
     ghost use Rattle.agent_stock.specs.Refusing.{OnRefused, RefusesBy};
     ghost use Rattle.station_core.specs.Told.{IsRequest, kept_of, sizes_of, loads_on, on_cargo, with_moves, with_messages, with_key, with_text, with_order};
 
-    /// It shows this, as long as the disk returned what was written.
+    /// The store shows this, as long as the disk is clean.
     ghost shows: { Self → Seen → Type 0 };
 
-    /// The disk has returned what was written, and kept what it confirmed.
+    /// The disk is clean: it has returned what was written, and kept what it confirmed.
     ghost is_clean: { Self → Type 0 };
 
-    /// The premise of what the calls say: it is clean, and nothing else is wrong with what it lies
-    /// in. A call changes it only where the disk fails.
+    /// The premise of the contracts: the store is clean, and nothing else is wrong with its
+    /// storage. A call ends it only if the disk fails.
     ghost is_sound: { Self → Type 0 };
 
-    /// What a reopening after a crash at this moment may find: a state, or what means none.
+    /// The states that reopening may find after a crash at this moment; `None` if the tables mean
+    /// no state.
     ghost may_find: { Self → Option State → Type 0 };
 
     /// Begins a transaction.
@@ -53,7 +54,7 @@ pub trait StateStore {
             → OnOk result (shows self.new (inside s s)) }
         ensures survives { Survives is_clean is_sound may_find self.old self.new };
 
-    /// Ends the transaction and keeps what it wrote.
+    /// Commits the transaction.
     fn commit(&mut self) -> Result<(), StoreFault>
         ensures done { (before s : State) → shows self.old (inside before s)
             → OnOk result (shows self.new (at_rest s)) }
@@ -63,21 +64,21 @@ pub trait StateStore {
         ensures leaves { (before s : State) → shows self.old (inside before s)
             → MayLeave is_sound may_find s self.old self.new };
 
-    /// What is kept under a key.
+    /// Returns the entry under a key.
     fn kept_key(&mut self, key: &Key) -> Result<Option<KeptReply>, StoreFault>
         ensures value { (x : Seen) → shows self.old x → is_sound self.new
             → IfOk result (λ kept. option_map kept_of kept ≡ x.now.kept_keys key.now) }
         ensures same { GoesOnShowing shows self.old self.new result }
         ensures survives { Survives is_clean is_sound may_find self.old self.new };
 
-    /// The count that was kept of the telegram with this normal text, if it was taken.
+    /// Returns the count of the telegram with this normal text, if it was taken.
     fn kept_text(&mut self, text: &[u8]) -> Result<Option<u32>, StoreFault>
         ensures value { (x : Seen) → shows self.old x → is_sound self.new
             → IfOk result (λ kept. kept ≡ x.now.kept_texts text.now) }
         ensures same { GoesOnShowing shows self.old self.new result }
         ensures survives { Survives is_clean is_sound may_find self.old self.new };
 
-    /// What is declared of a waybill.
+    /// Returns the declaration of a waybill.
     fn declared(&mut self, awb: &Awb) -> Result<Option<Declared>, StoreFault>
         ensures value { (x : Seen) → shows self.old x → is_sound self.new
             → IfOk result (λ declared. declared ≡ x.now.cargo.declared awb.now) }
@@ -85,7 +86,7 @@ pub trait StateStore {
         ensures rests { StaysAtRest shows self.old self.new }
         ensures survives { Survives is_clean is_sound may_find self.old self.new };
 
-    /// Who holds a number.
+    /// Returns the holder of a number.
     fn holder(&mut self, awb: &Awb) -> Result<Option<Holder>, StoreFault>
         ensures value { (x : Seen) → shows self.old x → is_sound self.new
             → IfOk result (λ holder. holder ≡ x.now.cargo.holders awb.now) }
@@ -93,14 +94,14 @@ pub trait StateStore {
         ensures rests { StaysAtRest shows self.old self.new }
         ensures survives { Survives is_clean is_sound may_find self.old self.new };
 
-    /// Whether the book has a move of a waybill.
+    /// Returns whether the book has a move of a waybill.
     fn has_moves(&mut self, awb: &Awb) -> Result<bool, StoreFault>
         ensures value { (x : Seen) → shows self.old x → is_sound self.new
             → IfOk result (λ moved. moved ≡ is_moved x.now.cargo.book awb.now) }
         ensures same { GoesOnShowing shows self.old self.new result }
         ensures survives { Survives is_clean is_sound may_find self.old self.new };
 
-    /// What the moves of a waybill add up to.
+    /// Returns the balances of a waybill.
     fn balances(&mut self, awb: &Awb) -> Result<Balances, StoreFault>
         ensures value { (x : Seen) → shows self.old x → is_sound self.new
             → IfOk result (λ balances. balances ≡ balances_of x.now.cargo.book awb.now) }
@@ -108,14 +109,14 @@ pub trait StateStore {
         ensures rests { StaysAtRest shows self.old self.new }
         ensures survives { Survives is_clean is_sound may_find self.old self.new };
 
-    /// What of a waybill is built on a flight.
+    /// Returns the amount of a waybill built on a flight.
     fn load(&mut self, awb: &Awb, flight: &FlightDate) -> Result<Amount, StoreFault>
         ensures value { (x : Seen) → shows self.old x → is_sound self.new
             → IfOk result (λ load. load ≡ built x.now.cargo.book awb.now flight.now) }
         ensures same { GoesOnShowing shows self.old self.new result }
         ensures survives { Survives is_clean is_sound may_find self.old self.new };
 
-    /// The waybills of which something is built on a flight, ascending, each with its load.
+    /// Returns the waybills built on a flight, ascending, each with its load.
     fn aboard(&mut self, flight: &FlightDate) -> Result<Vec<Load>, StoreFault>
         ensures value { (x : Seen) → shows self.old x → is_sound self.new
             → IfOk result (λ loads. loads.items ≡ loads_on x.now.cargo.book flight.now) }
@@ -123,29 +124,29 @@ pub trait StateStore {
         ensures rests { StaysAtRest shows self.old self.new }
         ensures survives { Survives is_clean is_sound may_find self.old self.new };
 
-    /// How many waybills have something built on a flight: a departure reads each load, by
-    /// `aboard`, and the building of a waybill needs their number alone.
+    /// Returns the number of waybills built on a flight. Building a waybill needs only this number;
+    /// a departure reads each load with `aboard`.
     fn waybills_on(&mut self, flight: &FlightDate) -> Result<usize, StoreFault>
         ensures value { (x : Seen) → shows self.old x → is_sound self.new
             → IfOk result (λ number. number ≡ length (waybills_on x.now.cargo.book flight.now)) }
         ensures same { GoesOnShowing shows self.old self.new result }
         ensures survives { Survives is_clean is_sound may_find self.old self.new };
 
-    /// What is noted of an outbound flight.
+    /// Returns the note of an outbound flight.
     fn outbound(&mut self, flight: &FlightDate) -> Result<Option<Outbound>, StoreFault>
         ensures value { (x : Seen) → shows self.old x → is_sound self.new
             → IfOk result (λ outbound. outbound ≡ x.now.cargo.flights flight.now) }
         ensures same { GoesOnShowing shows self.old self.new result }
         ensures survives { Survives is_clean is_sound may_find self.old self.new };
 
-    /// What a flight brings of a waybill.
+    /// Returns the expectation of a waybill on a flight.
     fn expected(&mut self, flight: &FlightDate, awb: &Awb) -> Result<Option<Expected>, StoreFault>
         ensures value { (x : Seen) → shows self.old x → is_sound self.new
             → IfOk result (λ expected. expected ≡ x.now.cargo.expected flight.now awb.now) }
         ensures same { GoesOnShowing shows self.old self.new result }
         ensures survives { Survives is_clean is_sound may_find self.old self.new };
 
-    /// Whether a part of a manifest was taken.
+    /// Returns whether a part of a manifest was taken.
     fn has_part(&mut self, part: &Part) -> Result<bool, StoreFault>
         ensures value { (x : Seen) → shows self.old x → is_sound self.new
             → IfOk result (λ taken. taken ≡ is_some (x.now.cargo.parts part.now)) }
@@ -156,50 +157,50 @@ pub trait StateStore {
     fn here(&self) -> Airport
         ensures { (x : Seen) → shows self.now x → is_sound self.now → result ≡ x.now.cargo.here };
 
-    /// How many rows there are that are numbered.
+    /// The number of rows in each numbered list.
     fn sizes(&self) -> Sizes
         ensures { (x : Seen) → shows self.now x → is_sound self.now
             → result ≡ sizes_of x.now.cargo };
 
-    /// The messages up to this one are confirmed.
+    /// The number of the last confirmed message.
     fn confirmed(&self) -> u32
         ensures { (x : Seen) → shows self.now x → is_sound self.now
             → result ≡ x.now.cargo.confirmed };
 
-    /// Adds a move to the book, in a transaction.
+    /// Appends a move to the book, inside a transaction.
     fn add_move(&mut self, movement: &Move) -> Result<(), StoreFault>
         ensures done { (before s : State) → shows self.old (inside before s)
             → OnOk result (shows self.new (inside before (with_moves (movement.now ∷ []) s))) }
         ensures survives { Survives is_clean is_sound may_find self.old self.new };
 
-    /// Writes a row, where the telegram in work has this text, in a transaction.
+    /// Writes a row, inside a transaction; `text` is that of the current telegram.
     fn write(&mut self, text: &[u8], change: &Change<'_>) -> Result<(), StoreFault>
         ensures done { (before s : State) → shows self.old (inside before s)
             → OnOk result (shows self.new (inside before (on_cargo
             (written text.now change.now) s))) }
         ensures survives { Survives is_clean is_sound may_find self.old self.new };
 
-    /// Adds a message to the outbox, in a transaction.
+    /// Appends a message to the outbox, inside a transaction.
     fn add_message(&mut self, text: &[u8]) -> Result<(), StoreFault>
         ensures done { (before s : State) → shows self.old (inside before s)
             → OnOk result (shows self.new (inside before (with_messages (text.now ∷ []) s))) }
         ensures survives { Survives is_clean is_sound may_find self.old self.new };
 
-    /// Keeps the text of a command that was accepted under a key, and its count, in a transaction.
+    /// Stores the text of a command accepted under a key, and its count, inside a transaction.
     fn keep_key(&mut self, key: &Key, request: &str, count: u32) -> Result<(), StoreFault>
         ensures done { (before s : State) → shows self.old (inside before s) → IsRequest request.now
             → OnOk result (shows self.new (inside before (with_key key.now
             (record { request = request.now; count = count }) s))) }
         ensures survives { Survives is_clean is_sound may_find self.old self.new };
 
-    /// Keeps the count that is returned for a telegram with this normal text, in a transaction.
+    /// Stores the count for a telegram with this normal text, inside a transaction.
     fn keep_text(&mut self, text: &[u8], count: u32) -> Result<(), StoreFault>
         ensures done { (before s : State) → shows self.old (inside before s)
             → OnOk result (shows self.new (inside before (with_text text.now count s))) }
         ensures survives { Survives is_clean is_sound may_find self.old self.new };
 
-    /// Does an order on the stock in a transaction that it begins; where the order is refused, none
-    /// is begun.
+    /// Carries out an order on the stock in a transaction that it begins. If the order is refused,
+    /// no transaction is begun.
     fn carry_out_order(&mut self, order: &Order) -> Result<(), StockFault<StoreFault>>
         ensures accepted { (s : State) → shows self.old (at_rest s) → is_sound self.new
             → OnOk result (order_refusal s.cargo.holders order.now ≡ None) }
@@ -211,29 +212,28 @@ pub trait StateStore {
             → OnRefused result (shows self.new (at_rest s)) }
         ensures survives { Survives is_clean is_sound may_find self.old self.new };
 
-    /// The stock, as its maximal runs of one holder, ascending.
+    /// Returns the stock as maximal runs of one holder, ascending.
     fn runs(&mut self) -> Result<Vec<StockRun>, StoreFault>
         ensures value { (s : State) → shows self.old (at_rest s) → is_sound self.new
             → IfOk result (λ runs. AreStockRuns s.cargo.holders runs.items) }
         ensures rests { StaysAtRest shows self.old self.new }
         ensures survives { Survives is_clean is_sound may_find self.old self.new };
 
-    /// The waybills that are asked for, ascending, each with its balances.
+    /// Returns the queried waybills, ascending, each with its balances.
     fn waybills(&mut self, query: WaybillQuery) -> Result<Vec<WaybillBalances>, StoreFault>
         ensures value { (s : State) → shows self.old (at_rest s) → is_sound self.new
             → IfOk result (λ rows. rows.items ≡ waybills_for query s.cargo.book) }
         ensures rests { StaysAtRest shows self.old self.new }
         ensures survives { Survives is_clean is_sound may_find self.old self.new };
 
-    /// The flights that are noted, by their written form and then by the day.
+    /// Returns the noted flights, by their written form and then by day.
     fn noted(&mut self) -> Result<Vec<NotedFlight>, StoreFault>
         ensures value { (s : State) → shows self.old (at_rest s) → is_sound self.new
             → IfOk result (λ rows. AreNoted s.cargo.flights rows.items) }
         ensures rests { StaysAtRest shows self.old self.new }
         ensures survives { Survives is_clean is_sound may_find self.old self.new };
 
-    /// What flights are to bring of what is asked for, by flight as `noted` has them and then by
-    /// waybill.
+    /// Returns the queried expectations, by flight as in `noted` and then by waybill.
     fn expectations(&mut self, query: &ExpectedQuery) -> Result<Vec<Expectation>, StoreFault>
         ensures value { (s : State) → shows self.old (at_rest s) → is_sound self.new
             → IfOk result (λ rows.
@@ -241,8 +241,7 @@ pub trait StateStore {
         ensures rests { StaysAtRest shows self.old self.new }
         ensures survives { Survives is_clean is_sound may_find self.old self.new };
 
-    /// Hands out the movements that are asked for, in order, as they are read, until the sink takes
-    /// no more.
+    /// Hands out the queried movements, in order, as they are read, until the sink stops.
     fn book_by<K: Sink<BookRow>>(
         &mut self,
         query: &BookQuery,
@@ -254,8 +253,7 @@ pub trait StateStore {
         ensures rests { StaysAtRest shows self.old self.new }
         ensures survives { Survives is_clean is_sound may_find self.old self.new };
 
-    /// Hands out the messages that weren't confirmed yet, in order, as they are read, until the
-    /// sink takes no more.
+    /// Hands out the unconfirmed messages, in order, as they are read, until the sink stops.
     fn pending<K: Sink<Message>>(&mut self, sink: &mut K) -> Result<(), StoreFault>
         ensures rows { (s : State) → shows self.old (at_rest s) → is_sound self.new
             → Hands K.takes (pending_messages s.cargo) sink.old sink.new result }
@@ -263,8 +261,7 @@ pub trait StateStore {
         ensures rests { StaysAtRest shows self.old self.new }
         ensures survives { Survives is_clean is_sound may_find self.old self.new };
 
-    /// Hands out the lines of the trail that are asked for, in order, as they are read, until the
-    /// sink takes no more.
+    /// Hands out the queried lines of the trail, in order, as they are read, until the sink stops.
     fn trail_by<K: Sink<TrailRow>>(
         &mut self,
         query: &TrailQuery,
@@ -276,11 +273,11 @@ pub trait StateStore {
         ensures rests { StaysAtRest shows self.old self.new }
         ensures survives { Survives is_clean is_sound may_find self.old self.new };
 
-    /// A reopening finds what it shows between two transactions.
+    /// Reopening finds what it shows between two transactions.
     ghost settled: { (k : Self) (s : State) → shows k (at_rest s) → is_sound k
         → (found : Option State) → may_find k found → found ≡ Some s };
 
-    /// All rows that it shows are numbered.
+    /// All rows that it shows can be numbered.
     ghost numbered: { (k : Self) (x : Seen) → shows k x → is_sound k
         → has_room x.now.cargo ≡ true };
 }

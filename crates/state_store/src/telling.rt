@@ -1,4 +1,4 @@
-//! The readers of the state of a store: nothing is changed.
+//! The readers of the state in a store, which change nothing.
 ghost use Rattle.std.specs.Prelude.{◌≡◌, ◌≤◌, ℕ, ◌+◌, ◌-◌, length, map, IfOk};
 ghost use Rattle.std.specs.List.{sum_by};
 ghost use Rattle.shipment_machine.specs.Book.{balances_of, store};
@@ -22,7 +22,7 @@ use station_core::{
 };
 use std::alloc::Global;
 
-/// What is left of what came in from two sides once it went four ways.
+/// Returns the sum of what came in two ways, less what went in four.
 fn left(
     taken: u32,
     found: u32,
@@ -50,8 +50,8 @@ fn left(
     }
 }
 
-/// What of a waybill is in the store: what was taken over or found, and hasn't departed, wasn't
-/// delivered or transferred and isn't missing.
+/// Returns the amount of a waybill in store: what was received or found, and hasn't departed,
+/// wasn't delivered or transferred and isn't missing.
 fn stored(balances: &Balances) -> Result<Amount, StoreFault>
     ensures left { IfOk result (λ amount. amount ≡ stored_of balances.now) }
     ensures lawful { (s : AnyCargo) (w : ℕ) → IsLawful s → balances.now ≡ balances_of s.book w
@@ -87,7 +87,6 @@ fn stored(balances: &Balances) -> Result<Amount, StoreFault>
     })
 }
 
-/// What is known of a waybill, of which this is declared.
 fn told_of(declared: Declared, balances: &Balances) -> Result<Waybill, StoreFault>
     ensures { (s : AnyCargo) (w : ℕ) → IsLawful s → balances.now ≡ balances_of s.book w
         → IfOk result (λ waybill. waybill ≡ told_of s w declared) }
@@ -105,9 +104,9 @@ fn told_of(declared: Declared, balances: &Balances) -> Result<Waybill, StoreFaul
     })
 }
 
-/// What is known of a waybill, if it was declared: two reads. What is in the store follows from the
-/// other balances. A fault says that a call of the store failed, or that what it returned is no
-/// lawful state's.
+/// Returns the record of a waybill, if it is declared, in two reads. The amount in store follows
+/// from the other balances. Fails if a call of the store fails, or returned what no lawful state
+/// has.
 pub fn waybill_in<S: StateStore>(store: &mut S, number: &Awb) -> Result<Option<Waybill>, StoreFault>
     ensures value { (s : State) → S.shows store.old (at_rest s) → IsLawful s.cargo
         → S.is_sound store.new → IfOk result (λ waybill. waybill ≡ waybill_of s.cargo number.now) }
@@ -123,7 +122,7 @@ pub fn waybill_in<S: StateStore>(store: &mut S, number: &Awb) -> Result<Option<W
     }
 }
 
-/// What is declared of a waybill that is known.
+/// Returns the declaration of a known waybill.
 fn declaration<S: StateStore>(store: &mut S, number: &Awb) -> Result<Declared, StoreFault>
     ensures value { (s : State) → S.shows store.old (at_rest s) → S.is_sound store.new
         → IfOk result (λ declared. declared ≡ declaration s.cargo number.now) }
@@ -136,7 +135,7 @@ fn declaration<S: StateStore>(store: &mut S, number: &Awb) -> Result<Declared, S
     }
 }
 
-/// A waybill with its pieces missing and found.
+/// Returns a waybill with its missing and found pieces.
 fn irregular_row<S: StateStore>(
     store: &mut S,
     waybill: &WaybillBalances,
@@ -156,7 +155,7 @@ fn irregular_row<S: StateStore>(
     })
 }
 
-/// Some waybills with their pieces missing and found.
+/// Returns waybills with their missing and found pieces.
 fn irregular_among<S: StateStore>(
     alloc: Global,
     store: &mut S,
@@ -174,9 +173,9 @@ fn irregular_among<S: StateStore>(
     Ok(rows)
 }
 
-/// The waybills of which pieces are missing or were found, ascending: their balances, and one read
-/// more for each. A fault says that a call of the store failed, that memory ran out, or that such a
-/// waybill isn't declared.
+/// Returns the waybills with missing or found pieces, ascending: one read for their balances, and
+/// one for each. Fails if a call of the store fails, memory runs out, or such a waybill isn't
+/// declared.
 pub fn irregular_rows<S: StateStore>(
     alloc: Global,
     store: &mut S,
@@ -190,7 +189,7 @@ pub fn irregular_rows<S: StateStore>(
     irregular_among(alloc, store, &waybills)
 }
 
-/// A waybill with what is free and what is built on flights: the rest of what is in store.
+/// Returns a waybill with its free and its built amount, which is the rest of the store.
 fn shed_row<S: StateStore>(store: &mut S, waybill: &WaybillBalances) -> Result<ShedRow, StoreFault>
     ensures value { (s : State) → S.shows store.old (at_rest s) → S.is_sound store.new
         → IfOk result (λ row. row ≡ shed_by s.cargo waybill.now) }
@@ -210,7 +209,6 @@ fn shed_row<S: StateStore>(store: &mut S, waybill: &WaybillBalances) -> Result<S
     })
 }
 
-/// Some waybills with what of them is in store.
 fn shed_among<S: StateStore>(
     alloc: Global,
     store: &mut S,
@@ -228,9 +226,9 @@ fn shed_among<S: StateStore>(
     Ok(rows)
 }
 
-/// The waybills with pieces in store, ascending: their balances, and one read more for each. A
-/// fault says that a call of the store failed, that memory ran out, or that what it returned is no
-/// lawful state's.
+/// Returns the waybills with pieces in store, ascending: one read for their balances, and one for
+/// each. Fails if a call of the store fails or returned what no lawful state has, or if memory runs
+/// out.
 pub fn shed_rows<S: StateStore>(alloc: Global, store: &mut S) -> Result<Vec<ShedRow>, StoreFault>
     ensures value { (s : State) → S.shows store.old (at_rest s) → IsLawful s.cargo
         → S.is_sound store.new → IfOk result (λ rows. rows.items ≡ shed_rows s.cargo) }
@@ -242,7 +240,6 @@ pub fn shed_rows<S: StateStore>(alloc: Global, store: &mut S) -> Result<Vec<Shed
     shed_among(alloc, store, &waybills)
 }
 
-/// The pieces of loads.
 fn pieces_in(loads: &[Load]) -> u64
     requires few { length loads.now ≤ 65_535 }
     ensures { result ≡ sum_by (λ load. load.amount.pieces) loads.now }
@@ -254,7 +251,7 @@ fn pieces_in(loads: &[Load]) -> u64
     sum
 }
 
-/// The weight of loads.
+/// Returns the sum of weights.
 fn tenths_in(loads: &[Load]) -> u64
     requires few { length loads.now ≤ 65_535 }
     ensures { result ≡ sum_by (λ load. load.amount.tenths) loads.now }
@@ -266,7 +263,6 @@ fn tenths_in(loads: &[Load]) -> u64
     sum
 }
 
-/// A noted flight, and what is built on it.
 fn flight_row<S: StateStore>(store: &mut S, noted: &NotedFlight) -> Result<FlightRow, StoreFault>
     ensures value { (s : State) → S.shows store.old (at_rest s) → S.is_sound store.new
         → IfOk result (λ row. row ≡ flight_row s.cargo noted.now) }
@@ -285,7 +281,6 @@ fn flight_row<S: StateStore>(store: &mut S, noted: &NotedFlight) -> Result<Fligh
     })
 }
 
-/// Some noted flights, and what is built on each.
 fn flights_among<S: StateStore>(
     alloc: Global,
     store: &mut S,
@@ -303,9 +298,8 @@ fn flights_among<S: StateStore>(
     Ok(rows)
 }
 
-/// The flights that are noted, with what is built on each: a read for all, and one for each flight.
-/// A fault says that a call of the store failed, that memory ran out, or that more waybills are
-/// built on a flight than a lawful state has.
+/// Returns the noted flights with their loads: one read for all, and one for each flight. Fails if
+/// a call of the store fails, memory runs out, or a flight has more waybills than a lawful state.
 pub fn flight_rows<S: StateStore>(
     alloc: Global,
     store: &mut S,
@@ -319,7 +313,7 @@ pub fn flight_rows<S: StateStore>(
     flights_among(alloc, store, &all)
 }
 
-/// What a flight is to bring of a waybill, with the waybill's route.
+/// Returns an expectation with the waybill's route.
 fn expected_row<S: StateStore>(
     store: &mut S,
     expectation: &Expectation,
@@ -337,7 +331,7 @@ fn expected_row<S: StateStore>(
     })
 }
 
-/// Some of what flights are to bring, with the waybills' routes.
+/// Returns expectations with the waybills' routes.
 fn expected_among<S: StateStore>(
     alloc: Global,
     store: &mut S,
@@ -355,9 +349,9 @@ fn expected_among<S: StateStore>(
     Ok(rows)
 }
 
-/// What flights are to bring of what is asked for, by flight and then by waybill: a read for all of
-/// it, and one for each line. A fault says that a call of the store failed, that memory ran out, or
-/// that an expected waybill isn't declared.
+/// Returns the queried expectations, by flight and then by waybill: one read for all, and one for
+/// each line. Fails if a call of the store fails, memory runs out, or an expected waybill isn't
+/// declared.
 pub fn expected_rows<S: StateStore>(
     alloc: Global,
     store: &mut S,

@@ -1,5 +1,4 @@
-//! What a command is planned from: each view asks the store for what its command reads, and no
-//! more.
+//! The views from which commands are planned. Each asks the store only for what its command reads.
 ghost use Rattle.std.specs.Prelude.{◌≡◌, OnOk, IfOk, length};
 ghost use Rattle.shipment_machine.specs.Agreement.{rows_for, view_of};
 ghost use Rattle.shipment_machine.specs.Book.{built};
@@ -17,7 +16,7 @@ use shipment_machine::{
 use station_days::Moment;
 use std::alloc::Global;
 
-/// What a booking, or an FWB, is planned from.
+/// Returns the rows for a booking or an FWB.
 fn declaration_rows<S: StateStore>(store: &mut S, awb: &Awb) -> Result<Rows, StoreFault>
     ensures value { (x : Seen) → S.shows store.old x → S.is_sound store.new
         → IfOk result (λ made. made ≡ rows.Declaration (declaration_view x.now.cargo awb.now)) }
@@ -36,7 +35,6 @@ fn declaration_rows<S: StateStore>(store: &mut S, awb: &Awb) -> Result<Rows, Sto
     })
 }
 
-/// A waybill with its balances.
 fn waybill_view<S: StateStore>(store: &mut S, awb: &Awb) -> Result<WaybillView, StoreFault>
     ensures value { (x : Seen) → S.shows store.old x → S.is_sound store.new
         → IfOk result (λ view. view ≡ waybill_view x.now.cargo awb.now) }
@@ -48,7 +46,6 @@ fn waybill_view<S: StateStore>(store: &mut S, awb: &Awb) -> Result<WaybillView, 
     Ok(WaybillView { declared, balances })
 }
 
-/// What a receipt, a notice, a delivery, missing or found pieces are planned from.
 fn waybill_rows<S: StateStore>(store: &mut S, awb: &Awb) -> Result<Rows, StoreFault>
     ensures value { (x : Seen) → S.shows store.old x → S.is_sound store.new
         → IfOk result (λ made. made ≡ rows.Waybill (waybill_view x.now.cargo awb.now)) }
@@ -59,7 +56,7 @@ fn waybill_rows<S: StateStore>(store: &mut S, awb: &Awb) -> Result<Rows, StoreFa
     Ok(Rows::Waybill { waybill })
 }
 
-/// A number of waybills that a flight may have.
+/// Converts a number of waybills on a flight.
 fn few(count: usize) -> Result<u16, StoreFault>
     ensures { IfOk result (λ number. number ≡ count) }
 {
@@ -69,7 +66,7 @@ fn few(count: usize) -> Result<u16, StoreFault>
     }
 }
 
-/// A flight, seen from a waybill that is to be built on it.
+/// Returns a flight, viewed from a waybill to be built on it.
 fn flight_view<S: StateStore>(
     store: &mut S,
     awb: &Awb,
@@ -90,7 +87,6 @@ fn flight_view<S: StateStore>(
     })
 }
 
-/// What the building of a waybill on a flight is planned from.
 fn manifest_rows<S: StateStore>(
     store: &mut S,
     awb: &Awb,
@@ -112,7 +108,6 @@ fn manifest_rows<S: StateStore>(
     })
 }
 
-/// What taking a waybill off a flight is planned from.
 fn offload_rows<S: StateStore>(
     store: &mut S,
     awb: &Awb,
@@ -136,7 +131,6 @@ fn offload_rows<S: StateStore>(
     })
 }
 
-/// What a departure is planned from.
 fn departure_rows<S: StateStore>(
     alloc: Global,
     store: &mut S,
@@ -154,7 +148,6 @@ fn departure_rows<S: StateStore>(
     Ok(Rows::Departure { outbound, loads })
 }
 
-/// What the check-in of a waybill is planned from.
 fn check_in_rows<S: StateStore>(
     store: &mut S,
     awb: &Awb,
@@ -173,7 +166,6 @@ fn check_in_rows<S: StateStore>(
     Ok(Rows::CheckIn { waybill, expected })
 }
 
-/// What a status update is planned from.
 fn status_rows<S: StateStore>(store: &mut S, awb: &Awb) -> Result<Rows, StoreFault>
     ensures value { (x : Seen) → S.shows store.old x → S.is_sound store.new
         → IfOk result (λ made. made ≡ rows.Status (x.now.cargo.declared awb.now)) }
@@ -184,7 +176,6 @@ fn status_rows<S: StateStore>(store: &mut S, awb: &Awb) -> Result<Rows, StoreFau
     Ok(Rows::Status { declared })
 }
 
-/// What a confirmation is planned from.
 fn message_rows<S: StateStore>(store: &S) -> Rows
     ensures { (x : Seen) → S.shows store.now x → S.is_sound store.now
         → result ≡ rows.Messages x.now.cargo.confirmed (length x.now.cargo.outbox) }
@@ -196,7 +187,6 @@ fn message_rows<S: StateStore>(store: &S) -> Rows
     }
 }
 
-/// The rows with this key, as a command of the desk reads them.
 fn desk_rows<S: StateStore>(alloc: Global, store: &mut S, key: &RowsKey) -> Result<Rows, StoreFault>
     ensures value { (x : Seen) → S.shows store.old x → S.is_sound store.new
         → IfOk result (λ made. made ≡ rows_of x.now.cargo key.now) }
@@ -214,7 +204,6 @@ fn desk_rows<S: StateStore>(alloc: Global, store: &mut S, key: &RowsKey) -> Resu
     }
 }
 
-/// The rows that a command reads.
 fn rows_for<S: StateStore>(
     alloc: Global,
     store: &mut S,
@@ -234,8 +223,8 @@ fn rows_for<S: StateStore>(
     }
 }
 
-/// What a command is planned from: all that the state has for it, and what it doesn't read is not
-/// asked of the store. A fault says that a call of the store failed, or that memory ran out.
+/// Returns the view for a command, without asking the store for anything else. Fails if a call of
+/// the store fails, or memory runs out.
 pub fn view<S: StateStore>(
     alloc: Global,
     store: &mut S,

@@ -1,9 +1,9 @@
--- What a reader or a writer has done so far.
+-- The history of a reader or a writer.
 use Rattle.std.specs.Prelude.{ℕ, List, [], refl}
 use Rattle.std.specs.Coded.{Coded, code_by, coded×, coded_ℕ, coded_list}
 
--- the bytes that were moved, how many calls were made, how many of them failed, and how many moved
--- no byte of a buffer that was not empty
+-- the bytes moved, the number of calls, of failed calls, and of calls that moved 0 bytes of a
+-- buffer that wasn't empty
 pub record Given : Type 0 where
   pub bytes : List ℕ
   pub calls : ℕ

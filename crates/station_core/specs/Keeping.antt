@@ -1,4 +1,4 @@
--- What an input makes of a station, whatever it is answered.
+-- The effect of an input on a station, whatever the answer.
 use Rattle.std.specs.Prelude.{◌≡◌, ◌⊎◌, ℕ, ◌+◌, ◌<◌, Bool, true, false, Result, Ok, Err, IfErr, OnOk, OnErr, List, take, length, Option, Some, None}
 use Rattle.shipment_machine.specs.Cargo.{Cargo}
 use Rattle.station_core.specs.declared.answer.Reply.{Reply}
@@ -11,7 +11,7 @@ use Rattle.station_core.specs.declared.input.Input.{Input}
 use Rattle.row_sinks.specs.Handed.{HandedOut}
 use Rattle.station_core.specs.Step.{State, step, after_all}
 
--- Whether it returns Reopen from then on: after Store, and then only.
+-- The keeper is broken afterwards exactly after Store.
 abbrev pub Breaks : Result Reply ActFault → Bool → Type 0
 Breaks (Ok reply) broken = broken ≡ false
 Breaks (Err (fault.Refused refusal)) broken = broken ≡ false
@@ -19,7 +19,7 @@ Breaks (Err fault.Memory) broken = broken ≡ false
 Breaks (Err fault.Store) broken = broken ≡ true
 Breaks (Err fault.Reopen) broken = ⊥
 
--- The answer is that of the step, and what is kept is the state after it, or the one before.
+-- The answer is that of the step, and the state after it is kept, or the one before.
 abbrev pub Acts : State → Input → LocalMinute → Result Reply ActFault → (State → Type 0) → Type 0
 Acts old i at (Ok reply) keeps = ((step old i at).answer ≡ answer.Done reply) × keeps (step old i at).state
 Acts old i at (Err (fault.Refused refusal)) keeps = ((step old i at).answer ≡ answer.Refused refusal) × keeps old
@@ -27,8 +27,8 @@ Acts old i at (Err fault.Memory) keeps = keeps old
 Acts old i at (Err fault.Store) keeps = Unit {0}
 Acts old i at (Err fault.Reopen) keeps = ⊥
 
--- What a reopening may find: after Ok the state after, after Refused or Memory the one before,
--- after Store one of the two.
+-- States that reopening may find: after Ok the state after the input, after Refused or Memory the
+-- one before, after Store either.
 abbrev pub Leaves : State → Input → LocalMinute → Result Reply ActFault → Option State → Type 0
 Leaves old i at (Ok reply) found = found ≡ Some (step old i at).state
 Leaves old i at (Err (fault.Refused refusal)) found = found ≡ Some old
@@ -36,7 +36,7 @@ Leaves old i at (Err fault.Memory) found = found ≡ Some old
 Leaves old i at (Err fault.Store) found = (found ≡ Some old) ⊎ (found ≡ Some (step old i at).state)
 Leaves old i at (Err fault.Reopen) found = ⊥
 
--- the same, where a refusal is an answer
+-- the same, with refusals as answers
 abbrev pub Answers : State → Input → LocalMinute → Result Answer ActFault → (State → Type 0)
     → Type 0
 Answers old i at (Ok given) keeps = ((step old i at).answer ≡ given) × keeps (step old i at).state
@@ -47,14 +47,13 @@ abbrev pub MayLeave : State → Input → LocalMinute → Result Answer ActFault
 MayLeave old i at (Ok given) found = found ≡ Some (step old i at).state
 MayLeave old i at (Err e) found = (found ≡ Some old) ⊎ ((e ≡ fault.Store) × (found ≡ Some (step old i at).state))
 
--- on a station that isn't broken an input ends by Memory or Store, if it isn't answered
+-- a station that isn't broken leaves an input unanswered only by Memory or Store
 abbrev pub IsMemoryOrStore : ActFault → Type 0
 IsMemoryOrStore fault.Memory = Unit {0}
 IsMemoryOrStore fault.Store = Unit {0}
 IsMemoryOrStore _ = ⊥
 
--- whether it returns Reopen after a fault, or after a list of inputs: where a Store ended them, and
--- then only
+-- true if broken afterwards: exactly if a Store ended the inputs
 abbrev pub IsBrokenAfter : ActFault → Bool → Type 0
 IsBrokenAfter fault.Store broken = broken ≡ true
 IsBrokenAfter _ broken = broken ≡ false
@@ -63,32 +62,31 @@ abbrev pub IsBrokenAtEnd : Option ActFault → Bool → Type 0
 IsBrokenAtEnd None broken = broken ≡ false
 IsBrokenAtEnd (Some e) broken = IsBrokenAfter e broken
 
--- on a station that has to be opened again no input is done
+-- a broken station does no input
 abbrev pub IsMemoryOrReopen : ActFault → Type 0
 IsMemoryOrReopen fault.Memory = Unit {0}
 IsMemoryOrReopen fault.Reopen = Unit {0}
 IsMemoryOrReopen _ = ⊥
 
--- memory ran out
 abbrev pub IsMemory : ActFault → Type 0
 IsMemory e = e ≡ fault.Memory
 
--- a reader never refuses, and its store fails only where one may fail
+-- a reader never refuses, and its store fails only if it may
 abbrev pub IsReadersFault : Type 0 → ActFault → Type 0
 IsReadersFault may_fail fault.Memory = Unit {0}
 IsReadersFault may_fail fault.Store = may_fail
 IsReadersFault may_fail _ = ⊥
 
--- The state after the inputs that were answered, or where they ended by Store, after one more.
+-- The state after the answered inputs or, if Store ended them, perhaps after one more.
 abbrev pub IsAfterAnswered : State → List (Input × LocalMinute) → ℕ → Option ActFault → Option State
     → Type 0
 IsAfterAnswered s inputs answered ended found =
     (found ≡ Some (after_all s (take answered inputs)))
     ⊎ ((ended ≡ Some fault.Store) × (answered < length inputs) × (found ≡ Some (after_all s (take (answered + 1) inputs))))
 
--- What is said of a keeper: the state that it keeps, whether the disk was true to it, whether what
--- is kept is sound, whether it has to be opened again, what a reopening may find, and what has to
--- hold where its store fails: what lies in memory alone has none that may fail.
+-- The ghost members of a keeper: the state, whether the disk is clean, whether the storage is
+-- sound, whether it is broken, the states that reopening may find, and what holds if its store
+-- fails, which is absurd in memory.
 pub record Keeping (K : Type 0) : Type 1 where
   pub keeps : K → State → Type 0
   pub is_clean : K → Type 0
@@ -108,22 +106,21 @@ keeping keeps is_clean is_sound is_broken may_find may_fail = record {
   may_fail = may_fail;
 }
 
--- A call changes whether the disk was true and what is kept is sound only where the disk fails.
+-- A call ends cleanliness and soundness only if the disk fails.
 pub record KeepsPremise {K : Type 0} (is_clean is_sound : K → Type 0) (old new : K) : Type 0 where
   pub clean : is_clean new → is_clean old
   pub still : is_sound old → is_clean new → is_sound new
   pub sound : is_sound new → is_sound old
 
--- what worked goes on to work, where a call is answered
+-- a call that is answered leaves a working keeper working
 abbrev pub KeepsWorking : {A E : Type 0} → Bool → Bool → Result A E → Type 0
 KeepsWorking was_broken is_broken result = was_broken ≡ false → OnOk result (is_broken ≡ false)
 
--- one that has to be opened again stays as it is
 abbrev pub StaysIfBroken : {K : Type 0} → Bool → K → K → Type 0
 StaysIfBroken is_broken old new = is_broken ≡ true → new ≡ old
 
--- A reader changes nothing: what is kept stays, a reopening finds what it found before, and no
--- other call returns anything else.
+-- A reader changes nothing: the state, what reopening finds, and what other calls return stay the
+-- same.
 pub record OnlyReads {K : Type 0} (k : Keeping K) (old new : K) : Type 0 where
   pub breaks : k.is_broken new ≡ k.is_broken old
   pub premise : KeepsPremise k.is_clean k.is_sound old new
@@ -131,9 +128,8 @@ pub record OnlyReads {K : Type 0} (k : Keeping K) (old new : K) : Type 0 where
   pub leaves :
       k.is_sound new → (found : Option State) → k.may_find new found → k.may_find old found
 
--- A reader of rows changes nothing. At Ok its sink took the rows in order, or those up to one after
--- which it wanted no more; at Err a beginning of them. A station that has to be opened again hands
--- out nothing.
+-- A reader of rows changes nothing. At Ok its sink took all rows in order, or those up to the row
+-- at which it stopped; at Err a prefix. A broken station hands out nothing.
 pub record HandsOut {K S Row : Type 0} (k : Keeping K) (old new : K) (result : Result (Unit {0}) ActFault)
     (takes : S → Row → Bool → S → Type 0) (AreRows : Cargo → List Row → Type 0) (from to : S) : Type 0 where
   pub reopen : k.is_broken old ≡ true → (result ≡ Err fault.Reopen) × (new ≡ old) × (to ≡ from)
@@ -144,5 +140,5 @@ pub record HandsOut {K S Row : Type 0} (k : Keeping K) (old new : K) (result : R
   pub beginning : (s : State) → k.keeps old s → k.is_sound new
       → OnErr result ((rows : List Row) → AreRows s.cargo rows → (n : ℕ)
       × HandedOut takes (take n rows) from to)
-  -- whatever it returns, the sink took some rows, one after another
+  -- whatever it returns, the sink took some rows in order
   pub took : (rows : List Row) × HandedOut takes rows from to

@@ -1,4 +1,4 @@
--- The values that inputs have by their types.
+-- The ranges of inputs, guaranteed by their types.
 use Rattle.std.specs.Prelude.{◌≤◌, IsTrue, IfSome, List}
 use Rattle.std.specs.List.{AllByRecursion, list_all}
 use Rattle.imp_fields.specs.Characters.{is_line}
@@ -36,6 +36,5 @@ abbrev pub IsInput : Input → Type 0
 IsInput (Keyed key command) = IsTrue (is_key key) × IsCommand command
 IsInput (Wire telegram) = IsContent telegram.content
 
--- a list of inputs, each at its moment
 abbrev pub AreInputs : List (Input × LocalMinute) → Type 0
 AreInputs inputs = AllByRecursion (λ (one : Input × LocalMinute). IsInput one.0) inputs

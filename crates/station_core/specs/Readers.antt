@@ -1,4 +1,4 @@
--- What the readers of a station hand out of its cargo.
+-- The rows that a station's readers hand out.
 use Rattle.std.specs.Prelude.{◌≡◌, ℕ, ◌+◌, ◌-◌, Bool, ◌||◌, ◌&&◌, ◌==◌, not, nat_lt, if◌then◌else◌, IsTrue, Option, Some, None, List, [], ◌∷◌, length, map, drop, filter, true, false}
 use Rattle.std.specs.List.{find, flat_map, sum_by}
 use Rattle.std.specs.FinMap.{is_sorted}
@@ -35,7 +35,7 @@ use Rattle.station_core.specs.declared.rows.TrailQuery.{TrailQuery}
 use Rattle.station_core.specs.declared.rows.TrailQuery.TheVariants as trail
 use Rattle.station_core.specs.declared.rows.Waybill.{Waybill}
 
--- what is known of a waybill
+-- the record of a declared waybill
 abbrev pub told_of : Cargo → ℕ → Declared → Waybill
 told_of s w d = record {
   declared = d;
@@ -48,7 +48,7 @@ told_of s w d = record {
   transferred = transferred s.book w;
 }
 
--- nothing is known of a waybill that wasn't declared
+-- the record of a waybill, None if it isn't declared
 abbrev pub waybill_of : Cargo → ℕ → Option Waybill
 waybill_of s w = option_map (told_of s w) (s.declared w)
 
@@ -68,8 +68,8 @@ irregular_row s w = record {
 abbrev pub irregular_rows : Cargo → List IrregularRow
 irregular_rows s = flat_map (λ w. if is_irregular s w then irregular_row s w ∷ [] else []) (waybills_of s.book)
 
--- the waybills with pieces in store, ascending: what is free, and what is built on flights, which
--- is the rest of what is in store
+-- the waybills with pieces in store, ascending: their free amount, and the built amount, which is
+-- the rest
 abbrev pub is_in_shed : Cargo → ℕ → Bool
 is_in_shed s w = nat_lt 0 (store s.book w).pieces
 
@@ -86,16 +86,15 @@ shed_row s w = record {
 abbrev pub shed_rows : Cargo → List ShedRow
 shed_rows s = flat_map (λ w. if is_in_shed s w then shed_row s w ∷ [] else []) (waybills_of s.book)
 
--- Flights are listed by their written form, and then by the day.
+-- Flights are ordered by written form, and then by day.
 abbrev pub by_flight : FlightDate → FlightDate → Ordering
 by_flight a b = ordering_then (slice_cmp nat_cmp (flight_text a.flight) (flight_text b.flight)) (nat_cmp a.day b.day)
 
--- The flights that are noted, each once: a look-up finds the first row of a flight.
+-- The noted flights, each once: a look-up finds a flight's first row.
 pub record AreNoted (flights : FlightDate → Option Outbound) (rows : List NotedFlight) : Type 0 where
   pub rising : IsTrue (is_sorted by_flight (map (λ row. (row.flight, row.outbound)) rows))
   pub same : (f : FlightDate) → flights f ≡ option_map (λ row. row.outbound) (find (λ row. same_flight_date f row.flight) rows)
 
--- what is built on a noted flight
 abbrev pub flight_row : Cargo → NotedFlight → FlightRow
 flight_row s noted = record {
   noted = noted;
@@ -107,11 +106,11 @@ flight_row s noted = record {
 abbrev pub AreFlightRows : Cargo → List FlightRow → Type 0
 AreFlightRows s rows = (noted : List NotedFlight) × AreNoted s.flights noted × (rows ≡ map (flight_row s) noted)
 
--- What flights are to bring is listed by flight and then by waybill.
+-- Expectations are ordered by flight and then by waybill.
 abbrev pub by_expectation : FlightDate × ℕ → FlightDate × ℕ → Ordering
 by_expectation a b = ordering_then (by_flight a.0 b.0) (nat_cmp a.1 b.1)
 
--- All that flights are to bring, each flight's waybill once.
+-- All expectations, each once.
 pub record AreExpectations (expected : FlightDate → ℕ → Option Expected) (rows : List Expectation) : Type 0 where
   pub rising : IsTrue (is_sorted by_expectation (map (λ row. ((row.flight, row.awb), row.expected)) rows))
   pub same : (f : FlightDate) (w : ℕ) → expected f w
@@ -127,12 +126,11 @@ expected_row s row = record {
 abbrev pub AreExpectedRows : Cargo → List ExpectedRow → Type 0
 AreExpectedRows s rows = (all : List Expectation) × AreExpectations s.expected all × (rows ≡ map (expected_row s) all)
 
--- whether a line of what flights are to bring is asked for: each, or one that wasn't checked in yet
+-- true if the query includes the expectation: each, or those not checked in
 abbrev pub asks_for : ExpectedQuery → Expected → Bool
 asks_for expected.All line = true
 asks_for expected.Open line = not line.checked
 
--- the same of what a flight is to bring of a waybill, if it is to bring anything
 abbrev pub asked_of : ExpectedQuery → Option Expected → Option Expected
 asked_of expected.All line = line
 asked_of expected.Open None = None
@@ -141,12 +139,11 @@ asked_of expected.Open (Some line) = if line.checked then None else Some line
 abbrev pub expected_for : ExpectedQuery → (FlightDate → ℕ → Option Expected) → FlightDate → ℕ → Option Expected
 expected_for query lines f w = asked_of query (lines f w)
 
--- the same of what is asked for alone
 abbrev pub AreExpectedBy : ExpectedQuery → Cargo → List ExpectedRow → Type 0
 AreExpectedBy query s rows =
     (asked : List Expectation) × AreExpectations (expected_for query s.expected) asked × (rows ≡ map (expected_row s) asked)
 
--- rows with their numbers, from the first one's number on
+-- rows numbered from `n`
 abbrev pub numbered : {X Row : Type 0} → (ℕ → X → Row) → ℕ → List X → List Row
 numbered row n [] = []
 numbered row n (x ∷ xs) = row n x ∷ numbered row (n + 1) xs
@@ -158,21 +155,20 @@ book_row n m = record { number = n; movement = m }
 abbrev pub book_rows : Cargo → List BookRow
 book_rows s = numbered book_row 1 s.book
 
--- whether a flight is named
 abbrev pub is_named : FlightDate → Option FlightDate → Bool
 is_named f None = false
 is_named f (Some g) = same_flight_date f g
 
--- a movement of a flight: to what is built for it, from there, or with its name
+-- a movement of a flight: to its built place, from there, or with its name
 abbrev pub is_of_flight : FlightDate → Move → Bool
 is_of_flight f m = same_place (Built f) m.from || same_place (Built f) m.to || is_named f m.flight
 
--- the last of the rows, at most so many
+-- the last `n` rows
 abbrev pub last_of : {Row : Type 0} → ℕ → List Row → List Row
 last_of n rows = drop (length rows - n) rows
 
--- the movements that are asked for: all, those with a greater number, the last ones, those of a
--- waybill or a flight
+-- the queried movements: all, those with a greater number, the last ones, those of a waybill or a
+-- flight
 abbrev pub movements_for : BookQuery → List BookRow → List BookRow
 movements_for book.All rows = rows
 movements_for (book.After n) rows = filter (λ row. nat_lt n row.number) rows
@@ -183,7 +179,7 @@ movements_for (book.On f) rows = filter (λ row. is_of_flight f row.movement) ro
 abbrev pub book_by : BookQuery → Cargo → List BookRow
 book_by query s = movements_for query (book_rows s)
 
--- the messages behind the mark of what was confirmed
+-- the messages after the last confirmed one
 abbrev pub message : ℕ → List ℕ → Message
 message n text = record { number = n; text = text }
 
@@ -197,7 +193,7 @@ trail_row n row = record { number = n; awb = row.0; line = row.1 }
 abbrev pub trail_rows : Cargo → List TrailRow
 trail_rows s = numbered trail_row 1 s.trail
 
--- the lines that are asked for: all, those with a greater number, the last ones, those of a waybill
+-- the queried lines: all, those with a greater number, the last ones, those of a waybill
 abbrev pub lines_for : TrailQuery → List TrailRow → List TrailRow
 lines_for trail.All rows = rows
 lines_for (trail.After n) rows = filter (λ row. nat_lt n row.number) rows

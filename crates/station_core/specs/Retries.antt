@@ -1,4 +1,4 @@
--- A caller that repeats its inputs, and a station that power may cut at any moment.
+-- A caller that repeats its inputs, and a station whose power may fail at any moment.
 use Rattle.std.specs.Prelude.{◌≡◌, ℕ, Bool, true, false, ◌&&◌, IsTrue, is_none, if◌then◌else◌, ◌⊎◌, List, [], ◌∷◌, ◌++◌, Option, Some}
 use Rattle.std.specs.List.{AllByRecursion, list_any}
 use Rattle.std.specs.Str.{bytes_eq}
@@ -11,21 +11,21 @@ use Rattle.station_core.specs.declared.answer.Answer.{Answer}
 use Rattle.station_core.specs.declared.answer.Answer.TheVariants.{Done, Refused}
 use Rattle.station_core.specs.Step.{State, repeated, step, after_all, answers_of}
 
--- an input is sent and answered; it is cut off before or after its commit; the station is opened
--- again
+-- an input is sent and answered; an input is cut off before its commit, or after it; the station is
+-- opened again
 pub data RetryEvent : Type 0 where
   sent : Input → LocalMinute → RetryEvent
   cut_before : Input → LocalMinute → RetryEvent
   cut_after : Input → LocalMinute → RetryEvent
   reopened : RetryEvent
 
--- the state, whether the station runs, and what callers were answered
+-- the state, whether the station runs, and the answers given
 pub record World : Type 0 where
   pub state : State
   pub is_up : Bool
   pub told : List (Input × Answer)
 
--- the world after an event; one that needs a running station does nothing while it is down
+-- the world after an event; a station that is down does nothing until it is opened
 abbrev pub world_after : World → RetryEvent → World
 world_after world (sent i m) = if world.is_up then record { state = (step world.state i m).state; is_up = true; told = world.told ++ (i, (step world.state i m).answer) ∷ [] } else world
 world_after world (cut_before i m) = record world { is_up = false }
@@ -40,11 +40,11 @@ abbrev pub is_done : Answer → Bool
 is_done (Done reply) = true
 is_done (Refused refusal) = false
 
--- whether an input commits: it is new, and accepted
+-- true if an input commits: it is new, and accepted
 abbrev pub commits : State → Input → LocalMinute → Bool
 commits s i m = is_none (repeated s i) && is_done (step s i m).answer
 
--- the inputs that an event commits, with its moment
+-- the inputs that an event commits, each with its moment
 abbrev pub committed_by : World → RetryEvent → List (Input × LocalMinute)
 committed_by world (sent i m) = if world.is_up && commits world.state i m then (i, m) ∷ [] else []
 committed_by world (cut_before i m) = []
@@ -56,24 +56,24 @@ abbrev pub committed : World → List RetryEvent → List (Input × LocalMinute)
 committed world [] = []
 committed world (event ∷ events) = committed_by world event ++ committed (world_after world event) events
 
--- whether two inputs have one identity: a key, or a telegram's text
+-- true if two inputs have the same identity: a key, or a telegram's text
 abbrev pub same_identity : Input → Input → Bool
 same_identity (Keyed key command) (Keyed other again) = bytes_eq key other
 same_identity (Wire telegram) (Wire other) = bytes_eq telegram.text other.text
 same_identity _ _ = false
 
--- whether two inputs are one request: one identity, and equal commands
+-- true if two inputs are the same request: equal identities and equal commands
 abbrev pub same_request : Input → Input → Bool
 same_request (Keyed key command) (Keyed other again) = bytes_eq key other && bytes_eq (command_text command) (command_text again)
 same_request (Wire telegram) (Wire other) = bytes_eq telegram.text other.text
 same_request _ _ = false
 
--- no identity stands twice
+-- no identity occurs twice
 abbrev pub EachOnce : List (Input × LocalMinute) → Type 0
 EachOnce [] = Unit {0}
 EachOnce (i ∷ is) = (list_any (λ (j : Input × LocalMinute). same_identity i.0 j.0) is ≡ false) × EachOnce is
 
--- a request stands among the inputs of a run, with this reply as its answer
+-- a request is among the inputs of a run, answered with this reply
 abbrev pub StandsIn : List (Input × LocalMinute) → List Answer → Input → Reply → Type 0
 StandsIn (j ∷ js) (answer ∷ answers) i reply = (IsTrue (same_request i j.0) × (answer ≡ Done reply)) ⊎ StandsIn js answers i reply
 StandsIn _ _ i reply = ⊥
@@ -82,17 +82,17 @@ abbrev pub IfDone : Answer → (Reply → Type 0) → Type 0
 IfDone (Done reply) P = P reply
 IfDone (Refused refusal) P = Unit {0}
 
--- a station that runs, and has answered nothing
+-- a running station that has answered nothing
 abbrev pub started : State → World
 started start = record { state = start; is_up = true; told = [] }
 
--- the reply that a request got before, which the station has kept
+-- the reply to a request that the station has stored
 abbrev pub WasKept : State → Input → Reply → Type 0
 WasKept start i reply = repeated start i ≡ Some (Done reply)
 
--- Whatever is sent, cut off and repeated from a state on: the state is that of the committed
--- inputs, each once, in their order; and each reply that was given is the run's, or one that was
--- kept before. A new station has kept none.
+-- Whatever is sent, cut off and repeated from a state: the state is that after the committed
+-- inputs, each once, in order, and each reply is the run's, or was stored before. A new station has
+-- stored none.
 pub record ActsOnce (start : State) (events : List RetryEvent) : Type 0 where
   pub state : (after_events (started start) events).state ≡ after_all start (committed (started start) events)
   pub once : EachOnce (committed (started start) events)

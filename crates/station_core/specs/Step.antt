@@ -1,4 +1,4 @@
--- The state of a station, one step of it, and a run of many.
+-- The state of a station, one step, and a run of steps.
 use Rattle.std.specs.Prelude.{ℕ, Bool, ◌&&◌, nat_le, if◌then◌else◌, Option, Some, None, Result, Ok, Err, IsSome, IfSome, List, [], ◌∷◌, ◌++◌, map, length}
 use Rattle.std.specs.Str.{bytes_eq}
 use Rattle.station_days.specs.Date.{LocalMinute}
@@ -24,28 +24,28 @@ use Rattle.station_core.specs.declared.answer.Answer.TheVariants.{Done, Refused}
 use Rattle.station_core.specs.declared.input.Input.{Input}
 use Rattle.station_core.specs.declared.input.Input.TheVariants.{Keyed, Wire}
 
--- what was accepted under a key: the command's text, and the count that was returned
+-- the entry under a key: the command's text, and the count in its reply
 pub record Kept : Type 0 where
   pub request : List ℕ
   pub count : ℕ
 
--- The state of a station: its cargo and its stock, and what it accepted under each key and of each
+-- The state of a station: its cargo and stock, and what it accepted under each key and for each
 -- telegram's text.
 pub record State : Type 0 where
   pub cargo : Cargo
   pub kept_keys : List ℕ → Option Kept
   pub kept_texts : List ℕ → Option ℕ
 
--- a station with nothing in it
+-- an empty station
 abbrev pub opening : List ℕ → State
 opening here = record { cargo = opening_cargo here; kept_keys = λ _. None; kept_texts = λ _. None }
 
--- A lawful state: its cargo is lawful, and the text of each noted part of a manifest is kept.
+-- A lawful state: its cargo is lawful, and the text of each noted part of a manifest is stored.
 pub record IsLawfulState (s : State) : Type 0 where
   pub cargo : IsLawful s.cargo
   pub parts : (part : Part) → IfSome (s.cargo.parts part) (λ text. IsSome (s.kept_texts text))
 
--- What an input is answered.
+-- Answers.
 abbrev pub accepted : ℕ → Answer
 accepted count = Done (record { count = count })
 
@@ -54,7 +54,7 @@ refused number = Refused (record { number = number; detail = detail.Nothing })
 
 -- Repeats.
 
--- a known key: the kept count for an equal command, 501 for another
+-- a known key: the stored count for an equal command, 501 for a different one
 abbrev pub repeated_key : Kept → List ℕ → Answer
 repeated_key kept text = if bytes_eq kept.request text then accepted kept.count else refused 501
 
@@ -62,7 +62,7 @@ abbrev pub key_answer : Option Kept → List ℕ → Option Answer
 key_answer None text = None
 key_answer (Some kept) text = Some (repeated_key kept text)
 
--- a known telegram: the kept count
+-- a known telegram: the stored count
 abbrev pub text_answer : Option ℕ → Option Answer
 text_answer None = None
 text_answer (Some count) = Some (accepted count)
@@ -74,7 +74,7 @@ repeated s (Wire telegram) = text_answer (s.kept_texts telegram.text)
 
 -- New inputs.
 
--- what an input makes of the cargo and the stock, the messages that it sends, and its count
+-- the effect of an input: the cargo and the stock, the messages sent, and the count
 pub record Acted : Type 0 where
   pub cargo : Cargo
   pub notices : List Notice
@@ -92,34 +92,32 @@ abbrev pub cargo_acted : List ℕ → Cargo → Result Outcome Refusal → Resul
 cargo_acted text s (Ok done) = Ok (record { cargo = carried_out text done s; notices = done.notices; count = done.count })
 cargo_acted text s (Err refusal) = Err refusal
 
--- the command that a telegram's content is
 abbrev pub shipment_of : Content → ShipmentCommand
 shipment_of (content.Fwb line) = shipment.Fwb line
 shipment_of (content.Ffm p) = shipment.Ffm (record { number = p.sequence; flight = p.flight; date = p.date; loaded = p.loaded; lines = p.lines })
 shipment_of (content.Fsu u) = shipment.Fsu (record { awb = u.awb; lines = u.lines })
 
--- what an input does that isn't known yet
+-- the effect of a new input
 abbrev pub acted : Cargo → Input → LocalMinute → Result Acted Refusal
 acted s (Keyed key (command.Stock order)) at = stock_acted s order (order_refusal s.holders order)
 acted s (Keyed key (command.Cargo desk)) at = cargo_acted [] s (effect s (shipment.Desk desk) at)
 acted s (Wire telegram) at = cargo_acted telegram.text s (effect s (shipment_of telegram.content) at)
 
--- messages stand behind the others in the outbox
 abbrev pub sent : List (List ℕ) → Cargo → Cargo
 sent texts s = record s { outbox = s.outbox ++ texts }
 
 abbrev pub with_notices : Acted → Cargo
 with_notices a = sent (map notice_text a.notices) a.cargo
 
--- the most rows that may be numbered in one list: moves, lines of the trail, messages
+-- the largest number of rows in one list: moves, trail lines, messages
 abbrev pub most_rows : ℕ
 most_rows = 4_294_967_295
 
--- no list has more rows than may be numbered
+-- no list exceeds this number
 abbrev pub has_room : Cargo → Bool
 has_room s = nat_le (length s.book) most_rows && nat_le (length s.trail) most_rows && nat_le (length s.outbox) most_rows
 
--- a request and its count are kept for good
+-- stores a request and its count
 abbrev pub keeping : (List ℕ → Option Kept) → List ℕ → Kept → List ℕ → Option Kept
 keeping kept key one = λ k. if bytes_eq k key then Some one else kept k
 
@@ -140,7 +138,7 @@ pub record Stepped : Type 0 where
 abbrev pub stepped : Answer → State → Stepped
 stepped answer state = record { answer = answer; state = state }
 
--- a new input: a refusal changes nothing, and 402 follows all other refusals
+-- a new input: a refusal changes nothing, and 402 is tested last
 abbrev pub first_time : State → Input → Result Acted Refusal → Stepped
 first_time s input (Err refusal) = stepped (Refused refusal) s
 first_time s input (Ok a) =
@@ -151,11 +149,11 @@ abbrev pub answered : State → Input → LocalMinute → Option Answer → Step
 answered s input at (Some answer) = stepped answer s
 answered s input at None = first_time s input (acted s.cargo input at)
 
--- A known input is answered by what was kept, and a new one acts.
+-- A known input gets the stored answer, and a new one acts.
 abbrev pub step : State → Input → LocalMinute → Stepped
 step s input at = answered s input at (repeated s input)
 
--- Many steps: the state after inputs in order, and their answers.
+-- Runs: the state after inputs in order, and their answers.
 abbrev pub after_all : State → List (Input × LocalMinute) → State
 after_all s [] = s
 after_all s (one ∷ more) = after_all (step s one.0 one.1).state more

@@ -1,4 +1,4 @@
--- What one call adds to what was done so far.
+-- The effect of one call on the history.
 use Rattle.std.specs.Prelude.{◌+◌, ◌++◌, length}
 use Rattle.station_core.specs.Given.{Given}
 use Rattle.station_core.specs.Ends.{idle_count}

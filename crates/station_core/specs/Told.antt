@@ -1,4 +1,4 @@
--- What a store returns of a state, and the changes of its calls.
+-- Values that a store returns from a state, and the changes that its calls make.
 use Rattle.std.specs.Prelude.{◌≡◌, ℕ, ◌+◌, ◌-◌, ◌==◌, ◌||◌, nat_lt, if◌then◌else◌, IsTrue, string_bytes, List, [], ◌∷◌, ◌++◌, length, map}
 use Rattle.std.specs.FinMap.{is_sorted}
 use Rattle.std.specs.List.{find}
@@ -36,15 +36,14 @@ pub record IsRequest (text : List ℕ) : Type 0 where
 abbrev pub sizes_of : Cargo → Sizes
 sizes_of c = record { moves = length c.book; lines = length c.trail; messages = length c.outbox }
 
--- what is built on a flight, ascending
+-- the amounts built on a flight, ascending
 abbrev pub load_on : List Move → FlightDate → ℕ → Load
 load_on book flight w = record { awb = w; amount = built book w flight }
 
 abbrev pub loads_on : List Move → FlightDate → List Load
 loads_on book flight = map (load_on book flight) (waybills_on book flight)
 
--- All balances, each waybill's once, ascending: a look-up finds them, and a waybill that isn't
--- listed has nothing.
+-- The balances of all waybills, ascending, each once. A waybill that isn't listed has none.
 abbrev pub nothing : Balances
 nothing = record {
   taken = amount 0 0;
@@ -61,14 +60,13 @@ pub record AreAllBalances (book : List Move) (rows : List WaybillBalances) : Typ
   pub same : (w : ℕ) → balances_of book w
       ≡ unwrap_or (option_map (λ row. row.balances) (find (λ row. w == row.awb) rows)) nothing
 
--- what a waybill with these balances has in store
+-- the amount in store by these balances
 abbrev pub left_of : (Amount → ℕ) → Balances → ℕ
 left_of measure b = measure b.taken + measure b.found - (measure b.departed + measure b.delivered + measure b.missing + measure b.transferred)
 
 abbrev pub stored_of : Balances → Amount
 stored_of b = amount (left_of (λ a. a.pieces) b) (left_of (λ a. a.tenths) b)
 
--- the rows of a waybill with these balances
 abbrev pub irregular_by : Cargo → WaybillBalances → IrregularRow
 irregular_by s row = record {
   awb = row.awb;
@@ -88,7 +86,7 @@ shed_by s row = record {
   notified = (declaration s row.awb).notified;
 }
 
--- changes of a state
+-- Changes of a state.
 
 abbrev pub on_cargo : (Cargo → Cargo) → State → State
 on_cargo f s = record s { cargo = f s.cargo }

@@ -11,7 +11,7 @@ use crate::keeper::Keeper;
 use station_days::Moment;
 use std::alloc::Global;
 
-/// One input, where a refusal is an answer.
+/// Passes one input to a keeper, and returns a refusal as an answer.
 pub fn answer_one<K: Keeper>(
     keeper: &mut K,
     input: &Input<'_>,
@@ -39,7 +39,7 @@ pub fn answer_one<K: Keeper>(
     }
 }
 
-/// Gives inputs, each at its moment, to a keeper in order, up to the first fault that is no
+/// Passes inputs to a keeper in order, each at its moment, up to the first fault other than a
 /// refusal. It makes room for each answer before it acts.
 pub fn act_all<K: Keeper>(
     alloc: Global,
@@ -53,7 +53,7 @@ pub fn act_all<K: Keeper>(
     ensures state { (s : State) → K.keeps keeper.old s → K.is_broken keeper.old ≡ false
         → K.is_sound keeper.new → (result.fault ≡ Some ActFault.Store → ⊥)
         → K.keeps keeper.new (after_all s (take (length result.answers.items) inputs.now)) }
-    // A fault stands for an input that wasn't answered.
+    // After a fault, at least one input isn't answered.
     ensures part { (e : ActFault) → result.fault ≡ Some e
         → length result.answers.items < length inputs.now }
     ensures fault { K.is_broken keeper.old ≡ false → (e : ActFault) → result.fault ≡ Some e
@@ -66,8 +66,8 @@ pub fn act_all<K: Keeper>(
         → IsMemoryOrReopen e }
     ensures premise { KeepsPremise K.is_clean K.is_sound keeper.old keeper.new }
 
-    // A reopening finds the state after the inputs that were answered, or where it ended by
-    // `Store`, after one more.
+    // Reopening finds the state after the answered inputs or, if `Store` ended them, perhaps after
+    // one more.
     ensures leaves { (s : State) → K.keeps keeper.old s → K.is_broken keeper.old ≡ false
         → K.is_sound keeper.new → (found : Option State) → K.may_find keeper.new found
         → IsAfterAnswered s inputs.now (length result.answers.items) result.fault found }

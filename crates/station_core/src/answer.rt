@@ -1,6 +1,6 @@
 use shipment_machine::{Detail, Refusal};
 
-/// The numbers are used up: the moves, the trail or the messages would be more than 4,294,967,295.
+/// The refusal if the moves, the trail lines or the messages would exceed 4,294,967,295.
 pub const NO_NUMBERS_LEFT: Refusal = Refusal {
     number: 402,
     detail: Detail::Nothing,
@@ -9,7 +9,7 @@ pub const NO_NUMBERS_LEFT: Refusal = Refusal {
 /// The reply to an accepted input.
 #[derive(Clone, Copy, Debug, PartialEq, Eq)]
 pub struct Reply {
-    /// The numbers of an order's run, the pieces of a desk command, the messages newly confirmed,
+    /// The numbers of an order's run, the pieces of a desk command, the newly confirmed messages,
     /// or the lines of a telegram.
     pub count: u32,
 }
@@ -21,22 +21,22 @@ pub enum Answer {
     Refused(Refusal),
 }
 
-/// Why an input wasn't accepted, or a reader didn't answer.
+/// The reason why an input wasn't accepted, or a reader didn't answer.
 #[derive(Clone, Copy, Debug, PartialEq, Eq)]
 pub enum ActFault {
     /// Nothing changed.
     Refused(Refusal),
-    /// Memory ran out: in `act`, before the store was asked. Nothing changed.
+    /// Memory ran out before `act` called the store. Nothing changed.
     Memory,
-    /// A call of the store failed: it holds the state before the input or after it, and has to be
+    /// A call of the store failed. It holds the state before the input or after it, and must be
     /// opened again.
     Store,
-    /// A call before this one answered `Store`. Nothing changed.
+    /// An earlier call returned `Store`. Nothing changed.
     Reopen,
 }
 
-/// The answers to a list of inputs, and the fault that ended it before its end. `Refused` is an
-/// answer and never the fault.
+/// The answers to a list of inputs, and the fault that ended it early. That fault is never
+/// `Refused`, which is an answer.
 #[derive(Debug, Drop)]
 pub struct AllAnswers {
     pub answers: Vec<Answer>,

@@ -1,4 +1,4 @@
-//! Readers and writers whose contracts say what they have done.
+//! Readers and writers with contracts about what they did.
 ghost use Rattle.std.specs.Prelude.{◌≡◌, ℕ, ◌<◌, length, OnOk, IfErr};
 ghost use Rattle.std.specs.Io.KnownBytes.{ReadConsumes, WriteAppends};
 ghost use Rattle.station_core.specs.Counted.{given_of, inner_of};
@@ -8,10 +8,10 @@ ghost use Rattle.station_core.specs.Ends.{ReadStep, WriteStep, Sent, HasCause, N
 use crate::tally::{Call, Tally};
 use std::io::{ErrorKind, Read, Write};
 
-/// Why a read moved nothing.
+/// The reason why a read moved nothing.
 #[derive(Clone, Copy, Debug, PartialEq, Eq)]
 pub enum ReadFault {
-    /// It is to be made again.
+    /// Interrupted: call again.
     Interrupted,
     /// The reader failed.
     Failed,
@@ -21,33 +21,33 @@ pub enum ReadFault {
 #[derive(Clone, Copy, Debug, PartialEq, Eq)]
 pub struct WriteFault;
 
-/// A reader, by what it has given: the bytes, the calls, the failures, and the calls that moved no
-/// byte.
+/// A reader, described by what it gave: the bytes, the calls, the failures, and the calls that
+/// moved 0 bytes.
 pub trait ByteIn {
     ghost given: { Self → Given };
 
-    /// One read. Interrupted is a call that moves nothing, and no failure.
+    /// Reads once. An interrupted call moves nothing and isn't a failure.
     fn read(&mut self, buf: &mut [u8]) -> Result<usize, ReadFault>
         ensures { ReadStep (given self.old) (given self.new) result buf.new };
 }
 
-/// A writer, by what it has taken: the bytes, the calls, the failures, and the calls that moved no
-/// byte.
+/// A writer, described by what it took: the bytes, the calls, the failures, and the calls that
+/// moved 0 bytes.
 pub trait ByteOut {
     ghost taken: { Self → Given };
 
-    /// One write. Interrupted is a failure like any other.
+    /// Writes once. An interrupted call counts as a failure.
     fn write(&mut self, buf: &[u8]) -> Result<usize, WriteFault>
         ensures { WriteStep (taken self.old) (taken self.new) result buf.now };
 
-    /// Says whether more input is at hand. If it is, what the writer takes next needn't go out
-    /// before the next read of the input.
+    /// Announces whether more input is at hand. If it is, later writes may be buffered until the
+    /// next read of the input.
     fn expect_more(&mut self, _more: bool)
         ensures { taken self.new ≡ taken self.old }
     {}
 }
 
-/// A reader or a writer of std, with a count of what it did that contracts alone see.
+/// A reader or a writer of std, with a count of its calls that only contracts see.
 #[derive(Drop)]
 pub struct Counted<T> {
     inner: T,
@@ -55,7 +55,7 @@ pub struct Counted<T> {
 }
 
 impl<T> Counted<T> {
-    /// Nothing was moved yet.
+    /// Wraps a reader or a writer before its first call.
     pub fn new(inner: T) -> Counted<T>
         ensures inner { inner_of result ≡ inner }
         ensures nothing { given_of result ≡ nothing_given }
@@ -66,7 +66,7 @@ impl<T> Counted<T> {
         }
     }
 
-    /// The reader or writer itself.
+    /// Returns the reader or writer.
     pub fn into_inner(self) -> T
         ensures { result ≡ inner_of self }
     {
@@ -80,7 +80,7 @@ impl<T: Read> ByteIn for Counted<T> {
 
     fn read(&mut self, buf: &mut [u8]) -> Result<usize, ReadFault>
         ensures step { ReadStep (given_of self.old) (given_of self.new) result buf.new }
-        // Where it is known what the reader has left, these bytes are gone from it, and no others.
+        // If the reader's remaining bytes are known, exactly these bytes were removed.
         ensures inner { ReadConsumes (T.remaining (inner_of self.old))
             (T.remaining (inner_of self.new)) result buf.new }
     {
@@ -107,7 +107,7 @@ impl<T: Write> ByteOut for Counted<T> {
 
     fn write(&mut self, buf: &[u8]) -> Result<usize, WriteFault>
         ensures step { WriteStep (given_of self.old) (given_of self.new) result buf.now }
-        // Where it is known what the writer holds, it grew by these bytes, once.
+        // If the writer's contents are known, exactly these bytes were appended.
         ensures inner { WriteAppends (T.contents (inner_of self.old))
             (T.contents (inner_of self.new)) result buf.now }
     {
@@ -124,7 +124,7 @@ impl<T: Write> ByteOut for Counted<T> {
     }
 }
 
-/// Writes all of the bytes, or returns how many went out before the writer failed or took none.
+/// Writes all bytes. If the writer fails or writes 0 bytes, it returns how many were written.
 pub fn send<W: ByteOut>(writer: &mut W, bytes: &[u8]) -> Result<(), usize>
     ensures all { OnOk result
         (Sent (W.taken writer.old) (W.taken writer.new) bytes.now (length bytes.now)) }

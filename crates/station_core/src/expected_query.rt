@@ -1,4 +1,4 @@
-//! Which of what flights are to bring is asked for.
+//! Queries of expectations.
 ghost use Rattle.std.specs.Prelude.{◌≡◌, ℕ, IfOk, Option};
 ghost use Rattle.shipment_machine.specs.declared.flight.FlightDate as cargo_flight;
 ghost use Rattle.shipment_machine.specs.declared.moves.Expected as cargo_line;
@@ -9,7 +9,7 @@ use shipment_machine::Expected;
 use std::alloc::{AllocError, Global};
 
 impl ExpectedQuery {
-    /// Whether a line of what flights are to bring is asked for.
+    /// Returns whether the query includes an expectation.
     pub fn asks_for(&self, line: &Expected) -> bool
         ensures { result ≡ asks_for self.now line.now }
     {
@@ -20,7 +20,7 @@ impl ExpectedQuery {
     }
 }
 
-/// What is asked for of all that flights are to bring. It fails only where memory runs out.
+/// Returns the expectations that the query includes.
 pub fn expectations_for(
     alloc: Global,
     query: ExpectedQuery,

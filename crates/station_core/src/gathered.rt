@@ -1,31 +1,30 @@
-//! A writer that buffers what it takes while more input is at hand.
+//! A writer that buffers while more input is at hand.
 ghost use Rattle.std.specs.Prelude.{◌≡◌, ◌++◌, true, false};
 
 use crate::ends::{ByteOut, WriteFault};
 use crate::tally::{Call, Tally};
 use std::alloc::Global;
 
-/// The most bytes that are buffered.
 const ROOM: usize = 8192;
 
-/// A writer with a buffer. While more input is at hand, bytes wait there, as far as there is room.
-/// Otherwise the buffer is flushed, and the bytes are written at once.
+/// A buffered writer. While more input is at hand, bytes are buffered as long as there is room.
+/// Otherwise the buffer is flushed, and bytes are written at once.
 #[derive(Drop)]
 pub struct Gathered<W> {
     inner: W,
-    // The buffer. The first bytes of it, so many, were written; the others wait.
+    // The buffer. Its first `gone` bytes are written, the rest is pending.
     pending: Vec<u8>,
     gone: usize,
-    // Whether more input is at hand.
+    // True if more input is at hand.
     more: bool,
-    // A count of its calls that contracts alone see.
+    // A count of its calls that only contracts see.
     tally: Tally,
 }
 
 impl<W> Gathered<W> {
     ghost use Rattle.station_core.specs.Gathered.{waiting};
 
-    /// The writer itself. What waits isn't written.
+    /// Returns the writer without flushing.
     fn into_inner(self) -> W
         ensures { result ≡ self.inner }
     {
@@ -60,8 +59,8 @@ impl<W> Gathered<W> {
 impl<W: ByteOut> Gathered<W> {
     ghost use Rattle.station_core.specs.Gathered.{taken_of, begun, GoesOut, HasGone, IsCutShort};
 
-    /// Nothing waits yet. The buffer takes memory when something is to wait. If memory runs out,
-    /// that is written at once.
+    /// Wraps a writer, with an empty buffer. The buffer is allocated when it is first needed. If
+    /// that fails, the bytes are written at once.
     pub fn new(alloc: Global, inner: W) -> Gathered<W>
         ensures { taken_of W.taken result ≡ begun (W.taken inner) }
     {
@@ -74,8 +73,8 @@ impl<W: ByteOut> Gathered<W> {
         }
     }
 
-    /// Writes what waits. Returns `Ok(true)` if all of it was written, and `Ok(false)` if the
-    /// writer took no byte. What wasn't written still waits.
+    /// Flushes the buffer. Returns `Ok(true)` if everything is written, and `Ok(false)` if the
+    /// writer wrote 0 bytes. Unwritten bytes stay in the buffer.
     fn flush(&mut self) -> Result<bool, WriteFault>
         ensures tally { self.new.tally ≡ self.old.tally }
         ensures gone { HasGone W.taken self.old self.new result }
@@ -92,9 +91,9 @@ impl<W: ByteOut> Gathered<W> {
         Ok(true)
     }
 
-    /// Writes what waits, and returns the writer.
+    /// Flushes the buffer, and returns the writer.
     ///
-    /// Returns [`WriteFault`] if the writer fails or takes no byte: a prefix was written.
+    /// Returns [`WriteFault`] if the writer fails or writes 0 bytes. A prefix was written.
     pub fn end(mut self) -> (W, Result<(), WriteFault>)
         ensures { GoesOut (taken_of W.taken self) (W.taken result.0) result.1 }
     {
@@ -104,7 +103,7 @@ impl<W: ByteOut> Gathered<W> {
         }
     }
 
-    /// Returns the writer, and writes nothing: what waits is lost. It is for a writer that failed.
+    /// Returns a failed writer without flushing. Buffered bytes are lost.
     pub fn give_up(self) -> W
         ensures { IsCutShort (taken_of W.taken self) (W.taken result) }
     {

@@ -2,11 +2,11 @@ use crate::key::Key;
 use desk_commands::Command;
 use telegrams::Telegram;
 
-/// What a station is handed.
+/// An input of a station.
 #[derive(Drop)]
 pub enum Input<'a> {
-    /// A command, under a key of the caller's own: the same key again is the same command again.
+    /// A command under a key that the caller chose. The same key means the same command.
     Keyed(Key, Command),
-    /// A telegram that arrived: the same normal text again is the same telegram again.
+    /// A telegram that arrived. The same normal text means the same telegram.
     Wire(Telegram<'a>),
 }

@@ -11,39 +11,40 @@ use awb_number::Awb;
 use row_sinks::Sink;
 use station_days::Moment;
 
-/// What keeps the state of a station.
+/// The keeper of a station's state.
 ///
-/// Its readers change nothing. Those that hand rows to a sink hand out all of them in order, or a
-/// beginning: where the sink takes no more, or after a fault.
+/// Its readers change nothing. Readers of rows hand them to a sink in order: all of them, or a
+/// prefix if the sink stops or after a fault.
 pub trait Keeper {
     ghost use Rattle.agent_stock.specs.Runs.{AreStockRuns};
     ghost use Rattle.station_core.specs.Step.{State, IsLawfulState};
     ghost use Rattle.station_core.specs.Keeping.{Breaks, Acts, Leaves, IsReadersFault, KeepsPremise, OnlyReads, HandsOut, keeping};
     ghost use Rattle.station_core.specs.Readers.{waybill_of, shed_rows, AreFlightRows, AreExpectedBy, AreExpectedRows, irregular_rows, book_rows, book_by, pending_messages, trail_rows, trail_by};
 
-    /// It keeps this state: what it returns is by it.
+    /// The keeper keeps this state.
     ghost keeps: { Self → State → Type 0 };
 
     /// The disk has returned what was written, and kept what it confirmed.
     ghost is_clean: { Self → Type 0 };
 
-    /// The premise of what the calls say: it is clean, and nothing else is wrong with what it lies
-    /// in. A call changes it only where the disk fails.
+    /// The premise of the contracts: the keeper is clean, and nothing else is wrong with its
+    /// storage. A call ends it only if the disk fails.
     ghost is_sound: { Self → Type 0 };
 
-    /// It returns `Reopen`.
+    /// True if the keeper is broken: every call returns `Reopen`.
     ghost is_broken: { Self → Bool };
 
-    /// What a reopening after a crash at this moment may find: a state, or what means none.
+    /// The states that reopening may find after a crash at this moment; `None` if the tables mean
+    /// no state.
     ghost may_find: { Self → Option State → Type 0 };
 
-    /// What holds if a call returns `Store` while it isn't broken. It is absurd of a keeper that
-    /// lies in memory alone, and always holds of one over a store that may fail.
+    /// A consequence of a `Store` from a keeper that isn't broken: absurd in memory, and trivial if
+    /// the store may fail.
     ghost may_fail: { Type 0 };
 
-    /// One input, at a moment.
+    /// Acts on one input at a moment.
     fn act(&mut self, input: &Input<'_>, at: Moment) -> Result<Reply, ActFault>
-        // After a failure of the store nothing happens until the station is opened again.
+        // After a failure of the store, nothing happens until the station is opened again.
         ensures reopen { is_broken self.old ≡ true → (result ≡ Err ActFault.Reopen)
             × (self.new ≡ self.old) }
         ensures breaks { is_broken self.old ≡ false → Breaks result (is_broken self.new) }
@@ -56,7 +57,7 @@ pub trait Keeper {
             → is_sound self.new → (found : Option State) → may_find self.new found
             → Leaves s input.now at result found };
 
-    /// Who holds a number.
+    /// Returns the holder of a number.
     fn holder(&mut self, number: &Awb) -> Result<Option<Holder>, ActFault>
         ensures reopen { is_broken self.old ≡ true → (result ≡ Err ActFault.Reopen)
             × (self.new ≡ self.old) }
@@ -66,7 +67,7 @@ pub trait Keeper {
         ensures holder { (s : State) → keeps self.old s → is_sound self.new
             → IfOk result (λ holder. holder ≡ s.cargo.holders number.now) };
 
-    /// What is known of a waybill.
+    /// Returns the record of a waybill.
     fn waybill(&mut self, number: &Awb) -> Result<Option<Waybill>, ActFault>
         ensures reopen { is_broken self.old ≡ true → (result ≡ Err ActFault.Reopen)
             × (self.new ≡ self.old) }
@@ -76,24 +77,23 @@ pub trait Keeper {
         ensures waybill { (s : State) → keeps self.old s → is_sound self.new
             → IfOk result (λ waybill. waybill ≡ waybill_of s.cargo number.now) };
 
-    /// The stock, as its maximal runs of one holder, ascending.
+    /// Hands out the stock as maximal runs of one holder, ascending.
     fn stock<S: Sink<StockRun>>(&mut self, sink: &mut S) -> Result<(), ActFault>
         ensures { HandsOut (keeping keeps is_clean is_sound is_broken may_find may_fail)
             self.old self.new result S.takes (λ s rows. AreStockRuns s.holders rows)
             sink.old sink.new };
 
-    /// The waybills with pieces in store, ascending.
+    /// Hands out the waybills with pieces in store, ascending.
     fn shed<S: Sink<ShedRow>>(&mut self, sink: &mut S) -> Result<(), ActFault>
         ensures { HandsOut (keeping keeps is_clean is_sound is_broken may_find may_fail)
             self.old self.new result S.takes (λ s rows. rows ≡ shed_rows s) sink.old sink.new };
 
-    /// The flights that are noted, with what is built on each, by their written form and then by
-    /// the day.
+    /// Hands out the noted flights with their loads, ordered by written form and then by day.
     fn flights<S: Sink<FlightRow>>(&mut self, sink: &mut S) -> Result<(), ActFault>
         ensures { HandsOut (keeping keeps is_clean is_sound is_broken may_find may_fail)
             self.old self.new result S.takes (λ s rows. AreFlightRows s rows) sink.old sink.new };
 
-    /// What flights are to bring, by flight as `flights` has them and then by waybill.
+    /// Hands out all expectations, ordered by flight as in `flights` and then by waybill.
     fn expected<S: Sink<ExpectedRow>>(&mut self, sink: &mut S) -> Result<(), ActFault>
         ensures { HandsOut (keeping keeps is_clean is_sound is_broken may_find may_fail)
             self.old self.new result S.takes (λ s rows. AreExpectedRows s rows) sink.old sink.new }
@@ -101,7 +101,7 @@ pub trait Keeper {
         self.expected_by(&ExpectedQuery::All, sink)
     }
 
-    /// What flights are to bring of what is asked for, in the same order.
+    /// Hands out the queried expectations, in the same order.
     fn expected_by<S: Sink<ExpectedRow>>(
         &mut self,
         query: &ExpectedQuery,
@@ -111,13 +111,13 @@ pub trait Keeper {
             self.old self.new result S.takes (λ s rows. AreExpectedBy query.now s rows)
             sink.old sink.new };
 
-    /// The waybills of which pieces are missing or were found, ascending.
+    /// Hands out the waybills with missing or found pieces, ascending.
     fn irregular<S: Sink<IrregularRow>>(&mut self, sink: &mut S) -> Result<(), ActFault>
         ensures { HandsOut (keeping keeps is_clean is_sound is_broken may_find may_fail)
             self.old self.new result S.takes (λ s rows. rows ≡ irregular_rows s)
             sink.old sink.new };
 
-    /// The movement book, in order.
+    /// Hands out the movement book, in order.
     fn book<S: Sink<BookRow>>(&mut self, sink: &mut S) -> Result<(), ActFault>
         ensures { HandsOut (keeping keeps is_clean is_sound is_broken may_find may_fail)
             self.old self.new result S.takes (λ s rows. rows ≡ book_rows s) sink.old sink.new }
@@ -125,19 +125,19 @@ pub trait Keeper {
         self.book_by(&BookQuery::All, sink)
     }
 
-    /// The movements that are asked for, in order, with their numbers in the movement book.
+    /// Hands out the queried movements, in order, with their numbers in the book.
     fn book_by<S: Sink<BookRow>>(&mut self, query: &BookQuery, sink: &mut S) -> Result<(), ActFault>
         ensures { HandsOut (keeping keeps is_clean is_sound is_broken may_find may_fail)
             self.old self.new result S.takes (λ s rows. rows ≡ book_by query.now s)
             sink.old sink.new };
 
-    /// The messages that weren't confirmed yet, in order.
+    /// Hands out the unconfirmed messages, in order.
     fn pending<S: Sink<Message>>(&mut self, sink: &mut S) -> Result<(), ActFault>
         ensures { HandsOut (keeping keeps is_clean is_sound is_broken may_find may_fail)
             self.old self.new result S.takes (λ s rows. rows ≡ pending_messages s)
             sink.old sink.new };
 
-    /// The trail, in order.
+    /// Hands out the trail, in order.
     fn trail<S: Sink<TrailRow>>(&mut self, sink: &mut S) -> Result<(), ActFault>
         ensures { HandsOut (keeping keeps is_clean is_sound is_broken may_find may_fail)
             self.old self.new result S.takes (λ s rows. rows ≡ trail_rows s) sink.old sink.new }
@@ -145,7 +145,7 @@ pub trait Keeper {
         self.trail_by(&TrailQuery::All, sink)
     }
 
-    /// The lines of the trail that are asked for, in order, with their numbers in the trail.
+    /// Hands out the queried lines of the trail, in order, with their numbers in the trail.
     fn trail_by<S: Sink<TrailRow>>(
         &mut self,
         query: &TrailQuery,
@@ -155,10 +155,10 @@ pub trait Keeper {
             self.old self.new result S.takes (λ s rows. rows ≡ trail_by query.now s)
             sink.old sink.new };
 
-    /// A reopening finds the state that it keeps.
+    /// Reopening finds the state that is kept.
     ghost settled: { (k : Self) (s : State) → keeps k s → is_sound k → (found : Option State)
         → may_find k found → found ≡ Some s };
 
-    /// Each state that a reopening may find is lawful.
+    /// Each state that reopening may find is lawful.
     ghost lawful: { (k : Self) (s : State) → is_sound k → may_find k (Some s) → IsLawfulState s };
 }

@@ -6,14 +6,13 @@ use awb_number::ascii_text;
 use std::fmt;
 use std::marker::Model;
 
-/// The most bytes that a key has.
+/// The length of the longest key, in bytes.
 const LONGEST: usize = 40;
 
-/// The key under which a caller sends a command: 1 to 40 bytes from 0x21 to 0x7E. Contracts see it
-/// as that text.
+/// The key of a command: 1 to 40 bytes from 0x21 to 0x7E. Contracts see it as that text.
 #[derive(Clone, Copy, Debug, PartialEq, Eq)]
 pub struct Key {
-    // Zeros follow the key.
+    // Zeros pad the key.
     bytes: [u8; LONGEST],
     len: usize,
 }
@@ -43,7 +42,6 @@ fn are_key_bytes(text: &[u8]) -> bool
     text.iter().all(|b| 0x21 <= *b && *b <= 0x7E)
 }
 
-/// Whether these bytes are a key.
 fn is_key(text: &[u8]) -> bool
     ensures { result ≡ is_key text.now }
 {
@@ -51,7 +49,7 @@ fn is_key(text: &[u8]) -> bool
 }
 
 impl Key {
-    /// The key that these bytes are, where they are one.
+    /// Returns the key if the text is one.
     pub fn read(text: &[u8]) -> Option<Key>
         ensures valid { IsSome result ↔ IsTrue (is_key text.now) }
         ensures value { IfSome result (λ key. key ≡ text.now) }

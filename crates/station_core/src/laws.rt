@@ -1,4 +1,4 @@
-//! What holds of the definitions.
+//! Laws about the definitions.
 ghost use Rattle.std.specs.Prelude.{◌≡◌, ℕ, List, None};
 ghost use Rattle.station_days.specs.Date.{LocalMinute};
 ghost use Rattle.shipment_machine.specs.Laws.{IsConserved, AreBalances};
@@ -7,8 +7,8 @@ ghost use Rattle.station_core.specs.Ranges.{IsInput, AreInputs};
 ghost use Rattle.station_core.specs.Retries.{RetryEvent, ActsOnce};
 ghost use Rattle.station_core.specs.Step.{State, IsLawfulState, opening, repeated, step, after_all};
 
-/// Whatever is sent, cut off by a crash and repeated, each accepted input acts once, from any state
-/// on. A new station has kept no reply.
+/// Whatever is sent, cut off by a crash and repeated, each accepted input acts once, from any
+/// state. A new station has kept no reply.
 pub fn retry_law()
     ensures once { (start : State) (events : List RetryEvent) → ActsOnce start events }
     ensures new { (here : List ℕ) (input : Input) → repeated (opening here) input ≡ None }
@@ -21,9 +21,9 @@ pub fn step_law()
         → IsLawfulState (step s input at).state }
 {}
 
-/// Every state that inputs lead to from a new station is lawful. In it, for each waybill, what was
-/// taken over or found is in store, departed, delivered, transferred or missing, in pieces and in
-/// tenths; and the amounts that are shown of it are the balances of its moves.
+/// Every state that inputs lead to from a new station is lawful. For each waybill, what was
+/// received or found is in store, departed, delivered, transferred or missing, in pieces and in
+/// tenths, and the amounts shown are the balances of its moves.
 pub fn run_law()
     ensures lawful { (here : List ℕ) (inputs : List (Input × LocalMinute)) → AreInputs inputs
         → IsLawfulState (after_all (opening here) inputs) }

@@ -1,4 +1,4 @@
-//! The station as a machine: inputs, answers, and what keeps a station's state.
+//! The station as a machine: its inputs and answers, and the keepers of its state.
 #![tactic(auto)]
 
 mod all;

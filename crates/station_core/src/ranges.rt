@@ -1,4 +1,4 @@
-//! What a telegram says is in range, as its types keep it.
+//! The ranges of a telegram's fields, guaranteed by their types.
 
 ghost use Rattle.std.specs.Prelude.{◌≤◌, IsTrue, IfSome};
 ghost use Rattle.std.specs.List.{AllByRecursion, list_all};
@@ -87,10 +87,9 @@ fn status_range(status: &StatusContent<'_>)
     let _lines = status.lines.as_slice();
 }
 
-/// What a telegram says is in range, as its types keep it. So is a key, by
-/// [`Key::as_bytes`](crate::Key::as_bytes), and a command, by
-/// [`command_text`](desk_commands::command_text): [`step_law`](crate::step_law) and
-/// [`run_law`](crate::run_law) hold of whatever a station is handed.
+/// The fields of a telegram are in range, as are keys ([`Key::as_bytes`](crate::Key::as_bytes)) and
+/// commands ([`command_text`](desk_commands::command_text)). So [`step_law`](crate::step_law) and
+/// [`run_law`](crate::run_law) hold for every input.
 pub fn content_range_law(content: &Content<'_>)
     ensures { IsContent content.now }
 {

@@ -1,12 +1,12 @@
-//! The answer to a key that is known.
+//! The answer to a known key.
 ghost use Rattle.std.specs.Prelude.{◌≡◌};
 ghost use Rattle.station_core.specs.Step.{repeated_key};
 
 use crate::answer::{Answer, Reply};
 use shipment_machine::{Detail, Refusal};
 
-/// The answer to a request under a key that is known: the count that was kept, where the request is
-/// the one that was kept with it, and 501 where it is another.
+/// Returns the answer to a request under a known key: the stored count if the request is the stored
+/// one, otherwise 501.
 pub fn repeated_key(kept: &str, count: u32, request: &str) -> Answer
     ensures { result ≡ repeated_key (record { request = kept.now; count = count }) request.now }
 {

@@ -6,7 +6,7 @@ use imp_fields::Airport;
 use shipment_machine::{Amount, Declared, Expected, FlightDate, Move, Outbound};
 use std::marker::Model;
 
-/// A text that is handed out.
+/// A text in a row.
 #[derive(Drop)]
 pub struct RowText {
     bytes: Vec<u8>,
@@ -21,7 +21,7 @@ impl Model for RowText {
 }
 
 impl RowText {
-    /// The text of these bytes.
+    /// Wraps bytes.
     pub fn new(bytes: Vec<u8>) -> RowText
         ensures { result ≡ bytes.items }
     {
@@ -36,24 +36,24 @@ impl RowText {
     }
 }
 
-/// What is known of a waybill: what was declared, and its balances.
+/// The record of a waybill: its declaration and its balances.
 #[derive(Clone, Copy, Debug, PartialEq, Eq)]
 pub struct Waybill {
     pub declared: Declared,
-    /// What was taken over from a shipper, an agent or an airline.
+    /// The amount received from a shipper, an agent or an airline.
     pub taken: Amount,
-    /// What no one had announced.
+    /// The unannounced amount.
     pub found: Amount,
-    /// What is in the store, built for flights or not.
+    /// The amount in store, built for flights or not.
     pub store: Amount,
     pub departed: Amount,
     pub delivered: Amount,
     pub missing: Amount,
-    /// What went to other airlines.
+    /// The amount handed to other airlines.
     pub transferred: Amount,
 }
 
-/// A waybill of which pieces are missing or were found.
+/// A waybill with missing or found pieces.
 #[derive(Clone, Copy, Debug, PartialEq, Eq)]
 pub struct IrregularRow {
     pub awb: Awb,
@@ -69,34 +69,34 @@ pub struct ShedRow {
     pub awb: Awb,
     pub origin: Airport,
     pub destination: Airport,
-    /// What may be built, delivered or transferred.
+    /// The amount that can be built, delivered or transferred.
     pub free: Amount,
-    /// What is built for flights that haven't departed.
+    /// The amount built for flights that haven't departed.
     pub built: Amount,
-    /// Whether the consignee was notified.
+    /// True if the consignee was notified.
     pub notified: bool,
 }
 
-/// A flight that is noted: something was built on it.
+/// A noted flight: something was built on it.
 #[derive(Clone, Copy, Debug, PartialEq, Eq)]
 pub struct NotedFlight {
     pub flight: FlightDate,
     pub outbound: Outbound,
 }
 
-/// A noted flight, and what is built on it.
+/// A noted flight with its load.
 #[derive(Clone, Copy, Debug, PartialEq, Eq)]
 pub struct FlightRow {
     pub noted: NotedFlight,
-    /// How many waybills have pieces built on it.
+    /// The number of waybills built on the flight.
     pub waybills: u16,
-    /// Their pieces that are built on it.
+    /// The number of their pieces built on the flight.
     pub pieces: u64,
-    /// The weight of these, in tenths of a kilogram.
+    /// Their weight in tenths of a kilogram.
     pub tenths: u64,
 }
 
-/// What a flight is to bring of a waybill.
+/// The expectation of a waybill on a flight.
 #[derive(Clone, Copy, Debug, PartialEq, Eq)]
 pub struct Expectation {
     pub flight: FlightDate,
@@ -104,7 +104,7 @@ pub struct Expectation {
     pub expected: Expected,
 }
 
-/// What a flight is to bring of a waybill, with the waybill's route.
+/// The expectation of a waybill on a flight, with the waybill's route.
 #[derive(Clone, Copy, Debug, PartialEq, Eq)]
 pub struct ExpectedRow {
     pub expectation: Expectation,
@@ -112,42 +112,42 @@ pub struct ExpectedRow {
     pub destination: Airport,
 }
 
-/// Which of what flights are to bring is asked for.
+/// A query of expectations.
 #[derive(Clone, Copy, Debug, PartialEq, Eq)]
 pub enum ExpectedQuery {
-    /// All of it.
+    /// All expectations.
     All,
-    /// What wasn't checked in yet.
+    /// Those not checked in yet.
     Open,
 }
 
-/// A line of the movement book.
+/// A row of the movement book.
 #[derive(Clone, Copy, Debug, PartialEq, Eq)]
 pub struct BookRow {
-    /// Its place in the book, from 1.
+    /// The position in the book, from 1.
     pub number: u32,
     pub movement: Move,
 }
 
-/// Which movements of the movement book are asked for.
+/// A query of the movement book.
 #[derive(Clone, Copy, Debug, PartialEq, Eq)]
 pub enum BookQuery {
-    /// All of them.
+    /// All movements.
     All,
     /// Those with a greater number.
     After(u32),
-    /// The last ones, at most so many.
+    /// The last movements, at most this many.
     Last(u32),
     /// Those of a waybill.
     Of(Awb),
-    /// Those of a flight: what was built on it, taken off it, left with it or came by it.
+    /// Those of a flight: built on it, offloaded from it, departed with it or received from it.
     On(FlightDate),
 }
 
-/// A message that wasn't confirmed yet.
+/// An unconfirmed message.
 #[derive(Drop)]
 pub struct Message {
-    /// Its place in the outbox, from 1.
+    /// The position in the outbox, from 1.
     pub number: u32,
     pub text: RowText,
 }
@@ -155,20 +155,20 @@ pub struct Message {
 /// A line of a status message that arrived.
 #[derive(Drop)]
 pub struct TrailRow {
-    /// Its place in the trail, from 1.
+    /// The position in the trail, from 1.
     pub number: u32,
     pub awb: Awb,
     pub line: RowText,
 }
 
-/// Which lines of the trail are asked for.
+/// A query of the trail.
 #[derive(Clone, Copy, Debug, PartialEq, Eq)]
 pub enum TrailQuery {
-    /// All of them.
+    /// All lines.
     All,
     /// Those with a greater number.
     After(u32),
-    /// The last ones, at most so many.
+    /// The last lines, at most this many.
     Last(u32),
     /// Those of a waybill.
     Of(Awb),

@@ -1,4 +1,4 @@
-//! What a telegram says, as it is planned.
+//! The content of a telegram as a command.
 ghost use Rattle.std.specs.Prelude.{◌≡◌};
 ghost use Rattle.station_core.specs.Step.{shipment_of};
 
@@ -7,7 +7,7 @@ use shipment_machine::{
 };
 use telegrams::{Content, PartContent, StatusContent};
 
-/// A part of a manifest, as it is planned.
+/// Returns a part of a manifest as a command's argument.
 fn inbound_part(part: &PartContent) -> InboundPart<'_>
     ensures { result
         ≡ record {
@@ -27,7 +27,7 @@ fn inbound_part(part: &PartContent) -> InboundPart<'_>
     }
 }
 
-/// A status message, as it is planned.
+/// Returns a status message as a command's argument.
 fn inbound_status<'a>(status: &'a StatusContent<'a>) -> InboundStatus<'a>
     ensures { result ≡ record { awb = status.now.awb; lines = status.now.lines } }
 {
@@ -37,7 +37,7 @@ fn inbound_status<'a>(status: &'a StatusContent<'a>) -> InboundStatus<'a>
     }
 }
 
-/// What a telegram says, as the command that `plan` takes. It lends the lines.
+/// Returns the content of a telegram as the command that `plan` takes, with its lines borrowed.
 pub fn shipment_of<'a>(content: &'a Content<'a>) -> ShipmentCommand<'a>
     ensures { result ≡ shipment_of content.now }
 {

@@ -6,7 +6,7 @@ use agent_stock::Order;
 use awb_number::Awb;
 use shipment_machine::{Detail, Refusal};
 
-/// The refusal of an order: its number, and the lowest waybill number that fails, if it is for one.
+/// Returns the refusal of an order, with the lowest waybill number that fails, if there is one.
 pub fn refusal_of_order(number: u16, lowest: Option<Awb>) -> Refusal
     ensures { result ≡ record { number = number; detail = waybill_or_nothing lowest } }
 {
@@ -22,7 +22,7 @@ pub fn refusal_of_order(number: u16, lowest: Option<Awb>) -> Refusal
     }
 }
 
-/// What an accepted order counts: the numbers of its run.
+/// Returns the count in the reply to an order: the numbers of its run.
 pub fn count_of_order(order: &Order) -> u32
     ensures { result ≡ (run_of order.now).count }
 {

@@ -1,31 +1,31 @@
-//! What a store returns of a station's state.
+//! Values that a store returns from a station's state.
 use awb_number::Awb;
 use shipment_machine::{Amount, Balances};
 
-/// What was accepted under a key.
+/// The reply stored under a key.
 #[derive(Debug, Drop)]
 pub struct KeptReply {
     /// The command's text.
     pub request: String,
-    /// What was returned for it.
+    /// The count in its reply.
     pub count: u32,
 }
 
-/// What of a waybill is built on a flight.
+/// The amount of a waybill built on a flight.
 #[derive(Clone, Copy, Debug, PartialEq, Eq)]
 pub struct Load {
     pub awb: Awb,
     pub amount: Amount,
 }
 
-/// What the moves of a waybill add up to.
+/// The balances of a waybill.
 #[derive(Clone, Copy, Debug, PartialEq, Eq)]
 pub struct WaybillBalances {
     pub awb: Awb,
     pub balances: Balances,
 }
 
-/// How many moves, lines of the trail and messages there are. Each is numbered from 1.
+/// The numbers of moves, trail lines and messages. Each of the three is numbered from 1.
 #[derive(Clone, Copy, Debug, PartialEq, Eq)]
 pub struct Sizes {
     pub moves: u32,

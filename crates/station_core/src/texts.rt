@@ -6,7 +6,7 @@ use crate::answer::Reply;
 use shipment_machine::{Detail, Refusal};
 use std::alloc::{AllocError, Global};
 
-/// `ok 10`.
+/// Returns a text such as `ok 10`.
 pub fn reply_text(alloc: Global, reply: &Reply) -> Result<String, AllocError>
     ensures { IfOk result (λ text. string_bytes text ≡ reply_text reply.now) }
 {
@@ -14,16 +14,16 @@ pub fn reply_text(alloc: Global, reply: &Reply) -> Result<String, AllocError>
     format!(in alloc; "ok {count}")
 }
 
-/// What a refusal is about: `020-12345723`, the free pieces, `LH400/2026-01-12`,
-/// `LH400/2026-01-12/FRA/1`, a line and a word as `4 ending`, the mark and the last message as `3
-/// 4`, or nothing.
+/// Returns the subject of a refusal: `020-12345723`, the free pieces, `LH400/2026-01-12`,
+/// `LH400/2026-01-12/FRA/1`, line and word such as `4 ending`, the last confirmed and the last
+/// message such as `3 4`, or an empty text.
 pub fn detail_text(alloc: Global, detail: &Detail) -> Result<String, AllocError>
     ensures { IfOk result (λ text. string_bytes text ≡ detail_text detail.now) }
 {
     format!(in alloc; "{detail}")
 }
 
-/// `refused 102 020-12345723`, or without a detail `refused 501`.
+/// Returns a text such as `refused 102 020-12345723`, or without a detail `refused 501`.
 pub fn refusal_text(alloc: Global, refusal: &Refusal) -> Result<String, AllocError>
     ensures { IfOk result (λ text. string_bytes text ≡ refusal_text refusal.now) }
 {

@@ -1,4 +1,4 @@
--- What a store shows is what a reopening finds.
+-- Reopening finds what a store shows.
 use Rattle.std.specs.Prelude.{◌≡◌, Option, Some, None}
 use Rattle.std.proofs.Common.{inl, inr, sym, ap, subst}
 use Rattle.station_core.specs.Step.{State, IsLawfulState}

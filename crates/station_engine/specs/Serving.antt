@@ -1,4 +1,4 @@
--- What serving an input comes to.
+-- Answers to inputs.
 use Rattle.std.specs.Prelude.{◌≡◌, ℕ, List, [], Option, Some, None, Result, Ok, Err}
 use Rattle.station_days.specs.Date.{LocalMinute}
 use Rattle.desk_commands.specs.Command.{command_text, IsCommand}
@@ -12,8 +12,7 @@ use Rattle.station_core.specs.declared.input.Input.{Input}
 use Rattle.station_core.specs.declared.input.Input.TheVariants.{Keyed, Wire}
 use Rattle.station_core.specs.Step.{State, IsLawfulState, acted, cargo_acted, repeated, step}
 
--- the text by which a command is compared with the one that was kept; a telegram has no other text
--- than its own
+-- the text by which a command is compared with the stored one; empty for a telegram
 abbrev pub request_of : Input → List ℕ
 request_of (Keyed key command) = command_text command
 request_of (Wire telegram) = []
@@ -23,35 +22,34 @@ abbrev pub IsAsked : Input → Type 0
 IsAsked (Keyed key command) = IsCommand command
 IsAsked (Wire telegram) = Unit {0}
 
--- the text is that of an input, whose command is in range
+-- the text is that of an input whose command is in range
 pub record IsRequestOf (i : Input) (text : List ℕ) : Type 0 where
   pub in_range : IsAsked i
   pub is : text ≡ request_of i
 
--- a plan or a refusal is the effect
 abbrev pub IsEffect : Result Outcome Refusal → Result Plan Refusal → Type 0
 IsEffect answer (Ok plan) = answer ≡ Ok (outcome_of plan)
 IsEffect answer (Err refusal) = answer ≡ Err refusal
 
--- the answer is the step's, and this holds of the state after it
+-- the answer is the step's, and `keeps` holds of the state after it
 pub record Serves (s : State) (i : Input) (at : LocalMinute) (keeps : State → Type 0) (given : Answer) : Type 0 where
   pub answer : (step s i at).answer ≡ given
   pub state : keeps (step s i at).state
 
--- what is said of a plan, where there is one
+-- a property of the plan, if there is one
 abbrev pub IfPlanned : (Plan → Type 0) → Result Plan Refusal → Type 0
 IfPlanned P (Ok plan) = P plan
 IfPlanned P (Err refusal) = Unit {0}
 
--- in a lawful state an input isn't known yet and does what a plan says, where the telegram in work
--- has this text; the state stays lawful
+-- in a lawful state, an input is new and does what a plan says; `text` is that of the current
+-- telegram; the state stays lawful
 pub record IsPlanned (s : State) (i : Input) (at : LocalMinute) (text : List ℕ) (plan : Plan) : Type 0 where
   pub lawful : IsLawfulState s
   pub unknown : repeated s i ≡ None
   pub does : acted s.cargo i at ≡ cargo_acted text s.cargo (Ok (outcome_of plan))
   pub stays : IsLawful (carried_out text (outcome_of plan) s.cargo)
 
--- the step's state is found, which is lawful
+-- the state after the step is found, which is lawful
 pub record IsAfter (s : State) (i : Input) (at : LocalMinute) (found : Option State) : Type 0 where
   pub lawful : IsLawfulState (step s i at).state
   pub is : found ≡ Some (step s i at).state

@@ -1,4 +1,4 @@
--- What an accepted input writes.
+-- Writing the effect of an accepted input.
 use Rattle.std.specs.Prelude.{ℕ, List, map, Vec}
 use Rattle.shipment_machine.specs.declared.plans.Change.{Change}
 use Rattle.shipment_machine.specs.declared.plans.Plan.{Plan}
@@ -14,6 +14,5 @@ with_changes text changes = on_cargo (written_all text changes)
 abbrev pub texts_in : {Z : Type 0} → List (Vec ℕ Z) → List (List ℕ)
 texts_in rows = map (λ text. text.items) rows
 
--- all that a plan changes
 abbrev pub with_plan : List ℕ → Plan → List (List ℕ) → State → State
 with_plan text plan messages = on_cargo (λ c. sent messages (carried_out text (outcome_of plan) c))

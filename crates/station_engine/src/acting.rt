@@ -1,4 +1,4 @@
-//! An input done once, over any store.
+//! Acting once on an input, over any store.
 ghost use Rattle.std.specs.Prelude.{◌≡◌, ◌⊎◌, ◌++◌, ◌∷◌, [], List, ℕ, Option, None, Ok, IfOk, OnOk, string_bytes, map};
 ghost use Rattle.station_days.specs.Date.{LocalMinute};
 ghost use Rattle.agent_stock.specs.Stock.{order_refusal};
@@ -27,7 +27,6 @@ use station_days::Moment;
 use std::alloc::{AllocError, Global};
 use telegrams::notice_text;
 
-/// Appends the text of a message.
 fn put_text(alloc: Global, texts: &mut Vec<Vec<u8>>, notice: &Notice) -> Result<(), AllocError>
     ensures { OnOk result (texts_in texts.new.items
         ≡ texts_in texts.old.items ++ notice_text notice.now ∷ []) }
@@ -37,7 +36,6 @@ fn put_text(alloc: Global, texts: &mut Vec<Vec<u8>>, notice: &Notice) -> Result<
     Ok(())
 }
 
-/// The texts of messages, in order.
 fn texts_of(alloc: Global, notices: &[Notice]) -> Result<Vec<Vec<u8>>, AllocError>
     ensures { IfOk result (λ texts. texts_in texts.items ≡ map notice_text notices.now) }
 {
@@ -67,12 +65,12 @@ fn plan_on<'a, S: StateStore>(
         Ok(plan) => Ok(Ok(plan)),
         Err(PlanFault::Refused(refusal)) => Ok(Err(refusal)),
         Err(PlanFault::Memory) => Err(StoreFault),
-        // What was read is no lawful state's.
+        // No lawful state has what was read.
         Err(PlanFault::Unfit) => Err(StoreFault),
     }
 }
 
-/// Does what a plan says, unless its rows can't all be numbered.
+/// Carries out a plan, unless its rows can't all be numbered.
 fn do_plan<S: StateStore>(
     alloc: Global,
     store: &mut S,
@@ -100,7 +98,7 @@ fn do_plan<S: StateStore>(
     Ok(Answer::Done(Reply { count: plan.count }))
 }
 
-/// Does a command on cargo that isn't known yet, where the telegram in work has this text.
+/// Acts on a new cargo command; `text` is that of the current telegram.
 fn do_shipment<S: StateStore>(
     alloc: Global,
     store: &mut S,
@@ -128,7 +126,6 @@ fn do_shipment<S: StateStore>(
     }
 }
 
-/// Does an order on the stock that isn't known yet.
 fn do_order<S: StateStore>(
     store: &mut S,
     input: &Input<'_>,
@@ -161,7 +158,6 @@ fn do_order<S: StateStore>(
     }
 }
 
-/// Does an input that isn't known yet.
 fn act_anew<S: StateStore>(
     alloc: Global,
     store: &mut S,
@@ -193,7 +189,7 @@ fn act_anew<S: StateStore>(
     }
 }
 
-/// Serves an input: a known one is answered by what was kept, and a new one acts.
+/// Answers an input: a known one gets the stored answer, and a new one acts.
 pub(crate) fn serve<S: StateStore>(
     alloc: Global,
     store: &mut S,

@@ -1,4 +1,4 @@
-//! What an accepted input writes.
+//! Writing the effect of an accepted input.
 ghost use Rattle.std.specs.Prelude.{OnOk};
 ghost use Rattle.station_core.specs.Keeping.{KeepsPremise};
 ghost use Rattle.station_core.specs.Step.{State, kept_with};
@@ -12,7 +12,6 @@ use shipment_machine::{Change, Move, Plan};
 use state_store::{StateStore, StoreFault};
 use station_core::Input;
 
-/// Adds moves to the book.
 fn add_moves<S: StateStore>(store: &mut S, moves: &[Move]) -> Result<(), StoreFault>
     ensures done { (before s : State) → S.shows store.old (inside before s)
         → OnOk result (S.shows store.new (inside before (with_moves moves.now s))) }
@@ -24,7 +23,7 @@ fn add_moves<S: StateStore>(store: &mut S, moves: &[Move]) -> Result<(), StoreFa
     Ok(())
 }
 
-/// Writes rows, where the telegram in work has this text.
+/// Writes rows; `text` is that of the current telegram.
 fn write_all<S: StateStore>(
     store: &mut S,
     text: &[u8],
@@ -40,7 +39,6 @@ fn write_all<S: StateStore>(
     Ok(())
 }
 
-/// Adds messages to the outbox.
 fn add_messages<S: StateStore>(store: &mut S, messages: &[Vec<u8>]) -> Result<(), StoreFault>
     ensures done { (before s : State) → S.shows store.old (inside before s)
         → OnOk result (S.shows store.new (inside before (with_messages
@@ -53,7 +51,7 @@ fn add_messages<S: StateStore>(store: &mut S, messages: &[Vec<u8>]) -> Result<()
     Ok(())
 }
 
-/// Writes all that a plan changes, in a transaction.
+/// Writes all changes of a plan, inside a transaction.
 fn carry_out<S: StateStore>(
     store: &mut S,
     text: &[u8],
@@ -71,7 +69,6 @@ fn carry_out<S: StateStore>(
     Ok(())
 }
 
-/// Keeps an input and its count, and commits.
 pub(crate) fn keep_and_commit<S: StateStore>(
     store: &mut S,
     input: &Input<'_>,
@@ -90,7 +87,7 @@ pub(crate) fn keep_and_commit<S: StateStore>(
     Ok(())
 }
 
-/// Does what a plan says, in one transaction, and keeps the input and its count.
+/// Carries out a plan in one transaction, and stores the input and its count.
 pub(crate) fn commit_plan<S: StateStore>(
     store: &mut S,
     input: &Input<'_>,

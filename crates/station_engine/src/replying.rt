@@ -1,4 +1,4 @@
-//! Known inputs, and what is kept of new ones.
+//! Known inputs, and storing new ones.
 ghost use Rattle.std.specs.Prelude.{◌≡◌, string_bytes, OnOk, IfOk};
 ghost use Rattle.station_core.specs.Step.{State, repeated, key_answer, text_answer, kept_with};
 ghost use Rattle.std.specs.Option.{option_map};
@@ -11,7 +11,7 @@ use state_store::{StateStore, StoreFault};
 use station_core::{Answer, Input, KeptReply, Reply, repeated_key};
 use std::alloc::{AllocError, Global};
 
-/// The text by which an input is compared with one that was kept under its key.
+/// Returns the text by which an input is compared with the one stored under its key.
 pub(crate) fn request_of(alloc: Global, input: &Input<'_>) -> Result<String, AllocError>
     ensures { IfOk result (λ text. IsRequestOf input.now (string_bytes text)) }
 {
@@ -21,7 +21,7 @@ pub(crate) fn request_of(alloc: Global, input: &Input<'_>) -> Result<String, All
     }
 }
 
-/// The answer to a request under a key, if the key is known.
+/// Returns the answer to a request under a key, if the key is known.
 fn answer_under(kept: &Option<KeptReply>, request: &str) -> Option<Answer>
     ensures { result ≡ key_answer (option_map kept_of kept.now) request.now }
 {
@@ -31,7 +31,6 @@ fn answer_under(kept: &Option<KeptReply>, request: &str) -> Option<Answer>
     }
 }
 
-/// The answer to a telegram, if its text is known.
 fn answer_to(kept: Option<u32>) -> Option<Answer>
     ensures { result ≡ text_answer kept }
 {
@@ -41,7 +40,7 @@ fn answer_to(kept: Option<u32>) -> Option<Answer>
     }
 }
 
-/// The answer to an input, if its key or its text is known: one read.
+/// Returns the answer to an input, if its key or its text is known, in one read.
 pub(crate) fn known<S: StateStore>(
     store: &mut S,
     input: &Input<'_>,
@@ -65,7 +64,6 @@ pub(crate) fn known<S: StateStore>(
     }
 }
 
-/// Keeps an input and its count.
 pub(crate) fn keep<S: StateStore>(
     store: &mut S,
     input: &Input<'_>,

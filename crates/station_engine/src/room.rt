@@ -1,4 +1,4 @@
-//! Whether all rows can be numbered.
+//! Limits on numbered rows.
 ghost use Rattle.std.specs.Prelude.{◌≡◌, ◌+◌, ◌&&◌, nat_le, List, ℕ, length};
 ghost use Rattle.std.specs.List.{filter};
 ghost use Rattle.shipment_machine.specs.Cargo.{Cargo as AnyCargo};
@@ -12,7 +12,7 @@ ghost use Rattle.station_engine.specs.Written.{texts_in};
 use shipment_machine::{Change, Plan};
 use station_core::Sizes;
 
-/// How many changes add a line to the trail.
+/// Returns the number of changes that add a line to the trail.
 fn lines_in(changes: &[Change<'_>]) -> usize
     ensures { result ≡ length (filter is_line changes.now) }
 {
@@ -22,7 +22,7 @@ fn lines_in(changes: &[Change<'_>]) -> usize
         .count()
 }
 
-/// Whether so many rows and some more can be numbered.
+/// Returns whether `rows` and `more` rows can be numbered.
 fn can_be_numbered(rows: u32, more: usize) -> bool
     ensures { result ≡ nat_le (rows + more) most_rows }
 {
@@ -30,14 +30,13 @@ fn can_be_numbered(rows: u32, more: usize) -> bool
     more <= most - rows as usize
 }
 
-/// Whether the three hold.
 fn all_three(a: bool, b: bool, c: bool) -> bool
     ensures { result ≡ (a && b && c) }
 {
     a && b && c
 }
 
-/// Whether all rows can be numbered after a plan.
+/// Returns whether all rows can be numbered after a plan.
 pub(crate) fn has_room(sizes: &Sizes, plan: &Plan<'_>, messages: &[Vec<u8>]) -> bool
     ensures { (s : AnyCargo) (text : List ℕ) → sizes.now ≡ sizes_of s
         → result

@@ -20,19 +20,19 @@ use std::alloc::Global;
 
 /// A station over a store of its state. It takes every input.
 ///
-/// An input is one transaction, or none where it is refused or known. After `Store` the station
-/// returns `Reopen`: the store then holds the state before the input or the one after it. A
-/// reader's `Store` changes nothing.
+/// An accepted input is one transaction; a refused or known one has none. After `Store` the station
+/// returns `Reopen`: the store then has the state before the input or after it. A reader's `Store`
+/// changes nothing.
 #[derive(Drop)]
 pub struct StoredStation<S: StateStore> {
     alloc: Global,
     store: S,
-    // Since a call of the store failed, it returns `Reopen`.
+    // True once a call of the store failed: every call returns `Reopen`.
     broken: bool,
 }
 
 impl<S: StateStore> StoredStation<S> {
-    /// A station over a store that shows a lawful state, with no transaction begun.
+    /// Returns a station over a store that shows a lawful state, outside a transaction.
     pub fn over(alloc: Global, store: S) -> StoredStation<S>
         ensures keeps { (s : State) → IsLawfulState s → S.shows store (at_rest s)
             → ⟦<StoredStation<S> as Keeper>⟧.keeps result s }
@@ -47,8 +47,8 @@ impl<S: StateStore> StoredStation<S> {
         }
     }
 
-    /// One input, at a moment, as a `Keeper` takes it. The store is as sound afterwards as before,
-    /// but for a disk that failed.
+    /// Acts on one input at a moment, as a `Keeper` does. Only a disk that fails ends the store's
+    /// soundness.
     pub fn act_on(&mut self, input: &Input<'_>, at: Moment) -> Result<Reply, ActFault>
         ensures reopen { self.old.broken ≡ true → (result ≡ Err ActFault.Reopen)
             × (self.new ≡ self.old) }
@@ -73,7 +73,7 @@ impl<S: StateStore> StoredStation<S> {
         let Ok(request) = request_of(self.alloc, input) else {
             return Err(ActFault::Memory);
         };
-        // Until the store has answered for the whole input.
+        // Cleared when the store has answered for the whole input.
         self.broken = true;
         match serve(self.alloc, &mut self.store, input, &request, at) {
             Err(_) => Err(ActFault::Store),
@@ -87,7 +87,7 @@ impl<S: StateStore> StoredStation<S> {
         }
     }
 
-    /// The store comes back, whatever state it is in.
+    /// Returns the store, whatever its state.
     pub fn into_store(self) -> S
         ensures same { result ≡ self.store }
         ensures shows { (s : State) → ⟦<StoredStation<S> as Keeper>⟧.keeps self s
@@ -105,9 +105,9 @@ impl<S: StateStore> StoredStation<S> {
     }
 }
 
-// What the readers of rows share.
+// The common part of the readers of rows.
 impl<S: StateStore> StoredStation<S> {
-    /// The maximal runs of the stock, ascending.
+    /// Returns the maximal runs of the stock, ascending.
     #[tactic(auto, using(crate::proofs::Reading::reads_only))]
     fn runs(&mut self) -> Result<Vec<StockRun>, ActFault>
         ensures reopen { self.old.broken ≡ true → (result ≡ Err ActFault.Reopen)
@@ -131,7 +131,7 @@ impl<S: StateStore> StoredStation<S> {
         }
     }
 
-    /// The waybills with pieces in store, ascending.
+    /// Returns the waybills with pieces in store, ascending.
     #[tactic(auto, using(crate::proofs::Reading::reads_only))]
     fn shed_rows(&mut self) -> Result<Vec<ShedRow>, ActFault>
         ensures reopen { self.old.broken ≡ true → (result ≡ Err ActFault.Reopen)
@@ -155,7 +155,7 @@ impl<S: StateStore> StoredStation<S> {
         }
     }
 
-    /// The flights that are noted, with what is built on each.
+    /// Returns the noted flights with their loads.
     #[tactic(auto, using(crate::proofs::Reading::reads_only))]
     fn flight_rows(&mut self) -> Result<Vec<FlightRow>, ActFault>
         ensures reopen { self.old.broken ≡ true → (result ≡ Err ActFault.Reopen)
@@ -179,7 +179,7 @@ impl<S: StateStore> StoredStation<S> {
         }
     }
 
-    /// What flights are to bring of what is asked for, by flight and then by waybill.
+    /// Returns the queried expectations, by flight and then by waybill.
     #[tactic(auto, using(crate::proofs::Reading::reads_only))]
     fn expected_rows(&mut self, query: &ExpectedQuery) -> Result<Vec<ExpectedRow>, ActFault>
         ensures reopen { self.old.broken ≡ true → (result ≡ Err ActFault.Reopen)
@@ -203,7 +203,7 @@ impl<S: StateStore> StoredStation<S> {
         }
     }
 
-    /// The waybills of which pieces are missing or were found, ascending.
+    /// Returns the waybills with missing or found pieces, ascending.
     #[tactic(auto, using(crate::proofs::Reading::reads_only))]
     fn irregular_rows(&mut self) -> Result<Vec<IrregularRow>, ActFault>
         ensures reopen { self.old.broken ≡ true → (result ≡ Err ActFault.Reopen)

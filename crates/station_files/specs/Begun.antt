@@ -1,4 +1,4 @@
--- A database that was begun in two files.
+-- A database started in two files.
 use Rattle.std.specs.Prelude.{◌⊎◌, ℕ, IsTrue}
 use Rattle.sqlite_disk.specs.declared.Disk.{Ghosts}
 use Rattle.sqlite_disk.specs.declared.Files.{Files}
@@ -15,21 +15,21 @@ use Rattle.sqlite.specs.Files.{image_of, HoldsDatabase, IsEmpty}
 use Rattle.sqlite.specs.declared.file.Leftover.{Leftover}
 use Rattle.sqlite.specs.declared.file.Leftover.TheVariants as left
 
--- no database with pages of this size yet, or one with no table and no row
+-- no database with pages of this size yet, or one without tables and rows
 abbrev pub IsUnstarted : ℕ → Image → Type 0
 IsUnstarted size image =
     IsBlankFile size image ⊎ ∥ ((db : Trees) × HoldsDatabase image db × IsEmpty db) ∥₁
 
 module _ {D : Type 0} {g : Ghosts D} where
-  -- The store over the two files is open, and has no table and no row.
+  -- The store over the two files is open, without tables and rows.
   pub record IsBegun (files : Files D) (it : FileStore D g) : Type 0 where
     pub honest : AreClean g files.log files.db
     pub fresh : IsFresh (view it)
     pub is_open : IsTrue (view it).is_open
     pub empty : IsEmpty (view it).trees
 
-  -- Whatever a crash leaves of the files now, it might have left before, or they have no database,
-  -- or one with no table and no row. Where the files had something, they are as they were.
+  -- Each crash state of the files now was one before, or has no database, or one without tables and
+  -- rows. Files that weren't empty are unchanged.
   abbrev pub LeavesUnstarted : ℕ → Files D → Leftover D g → Type 0
   LeavesUnstarted size files (left.Files now) =
       (image : Image) → outcomes g now.log now.db image → outcomes g files.log files.db image

@@ -1,4 +1,4 @@
--- Files that a list of trees reads, in whatever order they list the trees.
+-- Files read by a list of trees, whatever the order in the files.
 use Rattle.std.specs.Prelude.{◌≡◌, ◌<◌, ℕ, false, List, [], length, map, slice_index, IsTrue}
 use Rattle.sqlite_disk.specs.declared.Disk.{Ghosts}
 use Rattle.sqlite_disk.specs.declared.Files.{Files}
@@ -31,8 +31,8 @@ pub record HoldsPages (size : ℕ) (image : Image) : Type 0 where
   pub found : Adopts size image pages
   pub sound : IsSoundFile size pages
 
--- The files recover to the pages of a sound file of some trees, in any order. By the list of these
--- trees the pages read as this database, which obeys its schema.
+-- The files recover to the pages of a sound file of some trees, in any order. Read by the list of
+-- these trees, the pages are this database, which obeys its schema.
 pub record HoldsByList (image : Image) (db : Trees) : Type 0 where
   pub size : ℕ
   pub valid : IsPageSize (stored_size size)
@@ -44,8 +44,8 @@ pub record HoldsByList (image : Image) (db : Trees) : Type 0 where
   pub reads : db ≡ file_trees size wanted pages
   pub sound : IsSound schema db
 
--- The files recover to the pages of a sound file of some trees, in any order. By the list of these
--- trees those with some numbers are this database, which obeys its schema.
+-- The files recover to the pages of a sound file of some trees, in any order. Read by the list, the
+-- trees with some numbers are this database, which obeys its schema.
 pub record HoldsOwn (image : Image) (db : Trees) : Type 0 where
   pub size : ℕ
   pub valid : IsPageSize (stored_size size)
@@ -60,18 +60,18 @@ pub record HoldsOwn (image : Image) (db : Trees) : Type 0 where
   pub reads : db ≡ own_trees numbers (file_trees size wanted pages)
   pub sound : IsSound schema db
 
--- the trees of a database are those of this list, in its order
+-- the trees of a database are those of this list, in order
 abbrev pub IsListedBy : List Object → Trees → Type 0
 IsListedBy objects db = db catalog_tree ≡ listed_from 0 (map wanted_of objects)
 
--- both files hold the database, and so does the database file with no log
+-- both files together hold the database, and so does the database file without a log
 pub record HoldsByListAlone (image : Image) (db : Trees) : Type 0 where
   pub both : ∥ HoldsByList image db ∥₁
   pub alone : ∥ HoldsByList (record image { log = [] }) db ∥₁
 
 module _ {D : Type 0} {g : Ghosts D} where
-  -- The connection shows what the files hold, as a list of trees reads it, all of it or some of
-  -- its trees.
+  -- The connection shows what the files hold, read by a list of trees: all of it or some of its
+  -- trees.
   pub record FindsByList (files : Files D) (objects : List Object) (c : Held (FileStore D g)) : Type 0 where
     pub honest : AreClean g files.log files.db
     pub size : ℕ
@@ -84,12 +84,12 @@ module _ {D : Type 0} {g : Ghosts D} where
     pub holds_own : (db : Trees) → HoldsOwn (image_of g files) db → IsListedBy objects db
         → (file_state c).committed.trees ≡ db
 
-  -- whatever a crash leaves of the files holds a database that the store may leave
+  -- each crash state of the files holds a database that the store may leave
   abbrev pub LeavesByList : FileStore D g → Type 0
   LeavesByList it = (image : Image) → (state it).may_leave image
       → ∥ ((db : Trees) × recovers it db × HoldsByList image db) ∥₁
 
-  -- the last commit is in the database file, as its list reads it now and after a crash
+  -- the last commit is in the database file, read by its list, now and after a crash
   pub record IsCopiedByList (c : Held (FileStore D g)) (files : Files D) : Type 0 where
     pub was_clean : HasCleanDisk (file_state c)
     pub was_open : IsTrue (file_state c).is_open
@@ -97,6 +97,6 @@ module _ {D : Type 0} {g : Ghosts D} where
     pub left : (image : Image) → outcomes g files.log files.db image
         → HoldsByListAlone image (file_state c).committed.trees
 
--- this holds of each store that leaves databases only, as that of a connection does
+-- this holds for each store that leaves only databases, like that of a connection
 abbrev pub LeaveByList : {D : Type 0} → Ghosts D → Type 0
 LeaveByList {D} g = (it : FileStore D g) → AreDatabases (recovers it) → LeavesByList it

@@ -13,8 +13,8 @@ use Rattle.sqlite.specs.Steps.{IsFresh}
 use Rattle.sqlite.specs.Files.{image_of}
 use Rattle.station_files.specs.ByList.{HoldsPages}
 
--- The store shows what the files recover to, as a list of trees reads it; the files list the trees
--- in its order.
+-- The store shows what the files recover to, read by a list of trees; the files list the trees in
+-- its order.
 pub record IsReadByList {D : Type 0} {g : Ghosts D} (files : Files D) (objects : List Object)
     (it : FileStore D g) : Type 0 where
   pub honest : AreClean g files.log files.db

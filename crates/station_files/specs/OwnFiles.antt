@@ -1,4 +1,4 @@
--- Files that have trees of other programs beside those of a list.
+-- Files with trees of other programs besides those of a list.
 use Rattle.std.specs.Prelude.{◌≡◌, ◌≢◌, ◌⊎◌, ◌<◌, ◌%◌, ℕ, false, List, [], length, slice_index, take, IsTrue}
 use Rattle.sqlite_disk.specs.declared.Disk.{Ghosts}
 use Rattle.sqlite_disk.specs.declared.Files.{Files}
@@ -25,14 +25,14 @@ use Rattle.station_files.specs.ByList.{HoldsByList, HoldsOwn, HoldsPages, IsList
 use Rattle.station_files.specs.Own.{as_numbered, own_trees}
 use Rattle.station_files.specs.Spared.{SparesFiles}
 
--- both files hold the database so, and so does the database file with no log
+-- both files together hold the database in this way, and so does the database file without a log
 pub record HoldsOwnAlone (image : Image) (db : Trees) : Type 0 where
   pub both : ∥ HoldsOwn image db ∥₁
   pub alone : ∥ HoldsOwn (record image { log = [] }) db ∥₁
 
 -- The files recover to the pages of a sound file of the first trees of a list and of others, which
--- are about other tables. The last commit is what the pages read as by the list of these trees
--- alone, and is what the files hold so.
+-- belong to other tables. The last commit is what the pages mean, read only for the trees of this
+-- list.
 pub record FindsOwn {D : Type 0} (g : Ghosts D) (files : Files D) (objects : List Object) (made : ℕ) (s : State) : Type 0 where
   pub honest : AreClean g files.log files.db
   pub size : ℕ
@@ -46,8 +46,8 @@ pub record FindsOwn {D : Type 0} (g : Ghosts D) (files : Files D) (objects : Lis
   pub holds : (db : Trees) → HoldsByList (image_of g files) db → IsListedBy (take made objects) db → s.committed.trees ≡ db
   pub holds_own : (db : Trees) → HoldsOwn (image_of g files) db → IsListedBy (take made objects) db → s.committed.trees ≡ db
 
--- the last commit is in the database file, as the list of its trees reads those that are shown, now
--- and after a crash
+-- the last commit is in the database file, read by its list for the trees that are shown, now and
+-- after a crash
 pub record IsCopiedOwn {D : Type 0} (g : Ghosts D) (s : State) (files : Files D) : Type 0 where
   pub was_clean : HasCleanDisk s
   pub was_open : IsTrue s.is_open
@@ -55,17 +55,17 @@ pub record IsCopiedOwn {D : Type 0} (g : Ghosts D) (s : State) (files : Files D)
   pub left : (image : Image) → outcomes g files.log files.db image → HoldsOwnAlone image s.committed.trees
 
 module _ {D : Type 0} {g : Ghosts D} where
-  -- what a store may leave, as those of its trees that have these numbers
+  -- a database that a store may leave in its trees with these numbers
   abbrev pub may_leave_own : FileStore D g → List ℕ → Trees → Type 0
   may_leave_own it numbers db = (whole : Trees) × recovers it whole × (db ≡ own_trees numbers whole)
 
-  -- whatever a crash leaves of the files holds a database that the store may leave so
+  -- each crash state of the files holds a database that the store may leave in these trees
   abbrev pub LeavesOwn : FileStore D g → List ℕ → Type 0
   LeavesOwn it numbers = (image : Image) → (state it).may_leave image
       → ∥ ((db : Trees) × may_leave_own it numbers db × HoldsOwn image db) ∥₁
 
-  -- A store that a connection with this state gave back: a crash of it has no new outcome, by those
-  -- of its trees that were shown, and each one is a database.
+  -- A store that a connection with this state returned: there is no new crash state of the trees
+  -- that were shown, and each one is a database.
   pub record IsClosedOwn (s : State) (last : FileStore D g) : Type 0 where
     pub numbers : List ℕ
     pub few : length numbers < 65536
@@ -74,7 +74,7 @@ module _ {D : Type 0} {g : Ghosts D} where
     pub outcomes : (db : Trees) → may_leave_own last numbers db → s.may_leave db
     pub sound : IsClean (view last) → AreDatabases (may_leave_own last numbers)
 
-  -- The store shows what the files recover to, as some list of their trees reads it.
+  -- The store shows what the files recover to, read by some list of their trees.
   pub record IsReadByTheirs (files : Files D) (it : FileStore D g) : Type 0 where
     pub honest : AreClean g files.log files.db
     pub fresh : IsFresh (as_numbered (view it))
@@ -87,8 +87,8 @@ module _ {D : Type 0} {g : Ghosts D} where
     pub reads : (view it).trees ≡ file_trees size wanted (state it).committed
     pub sized : (n : ℕ) → HoldsPages n (image_of g files) → n ≡ size
 
-  -- As `SparesFiles`. Where the store was opened, it reads as the files did by a list of their
-  -- trees, or those of its trees that have some numbers read as the files did by this list.
+  -- As `SparesFiles`. If the store was opened, it reads like the files did by a list of their
+  -- trees, or its trees with some numbers read like the files did by this list.
   abbrev pub SparesOwn : Files D → List Object → Leftover D g → Type 0
   SparesOwn files objects (left.Files now) = SparesFiles {g = g} files objects (left.Files now)
   SparesOwn files objects (left.Unopened now) = SparesFiles {g = g} files objects (left.Unopened now)
@@ -97,8 +97,8 @@ module _ {D : Type 0} {g : Ghosts D} where
       × (((wanted : List Wanted) × ∥ IsOurs size false wanted pages ∥₁ × (db ≡ file_trees size wanted pages))
       ⊎ ((numbers : List ℕ) × (own_trees numbers db ≡ read_by size objects pages)))
 
--- this holds of each store whose trees with some numbers are databases only, as those of a
--- connection are
+-- this holds for each store whose trees with some numbers are always a database, like those of a
+-- connection
 abbrev pub LeaveOwn : {D : Type 0} → Ghosts D → Type 0
 LeaveOwn {D} g = (it : FileStore D g) (numbers : List ℕ) → length numbers < 65536
     → ((t : ℕ) → t < length numbers → slice_index numbers t < 65536) → AreDatabases (may_leave_own it numbers) → LeavesOwn it numbers

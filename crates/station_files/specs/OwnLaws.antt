@@ -1,4 +1,4 @@
--- The laws of a store that shows the trees of a list of another.
+-- Laws about a store that shows the trees of a list of another.
 use Rattle.std.proofs.Common.{◌≡◌, ◌≢◌, ◌⊎◌, ◌<◌, ◌≤◌, ℕ, ◌+◌, if◌then◌else◌, pos, false, IsTrue, List, [], ◌∷◌, ◌++◌, length, find, unwrap_or, option_map, Option, Some, None, Less, slice_index, refl, sym, ap, subst, subst₂, ◌∙◌, inl, inr, arith, eqb, ltb, ne_eqb, lt-ltb, le-ltb, ltb-true, ltb-false}
 use Rattle.std.proofs.Math.Path.{fun_ext}
 use Rattle.std.proofs.lemmas.Bool.{cases_eq, cases_Bool}
@@ -19,15 +19,14 @@ use Rattle.station_files.specs.Own.{own_trees, own_shapes, own_reals, reals_by, 
 use Rattle.station_files.specs.declared.layout.Layout.{Layout}
 use Rattle.station_files.specs.OwnRows.{found_own, found_none}
 
--- a store that isn't broken is clean
+-- a store that isn't broken is clean and open
 pub clean_if_sound : (v : View) → (v.is_clean ≡ false → v.is_open ≡ false) → (v.is_open ≡ false → IsTrue v.is_broken) → v.is_broken ≡ false → IsClean v
 clean_if_sound v shut broken sound = elim (cases_Bool v.is_clean) [ inl clean ↦ no_doubt v.is_clean clean | inr dirty ↦ absurd (let b = broken (shut dirty) in cc) ]
 
--- and open
 pub open_if_sound : (v : View) → (v.is_open ≡ false → IsTrue v.is_broken) → v.is_broken ≡ false → IsTrue v.is_open
 open_if_sound v broken sound = elim (cases_Bool v.is_open) [ inl on ↦ on | inr off ↦ absurd (let b = broken off in cc) ]
 
--- each of the numbers is below those that name the list and the version
+-- each number is less than those of the list and of the version
 abbrev pub AreLow : List ℕ → Type 0
 AreLow numbers = (t : ℕ) → t < length numbers → slice_index numbers t < 65536
 
@@ -63,7 +62,7 @@ own_nothing numbers = fun_ext (λ t. elim (cases_Bool (eqb t version_tree)) [
   ]
 ])
 
--- the rows rise by their numbers
+-- the rows are ascending by their numbers
 pub id_below : (a b : ℕ) → a < b → value_cmp (Int (pos a)) (Int (pos b)) ≡ Less
 id_below a b h = value_cmp-Int (pos a) (pos b) ∙ grind (arith, ints, nat_tests)
 
@@ -147,7 +146,7 @@ module _ (numbers : List ℕ) (few : length numbers < 65536) (low : AreLow numbe
     ]
   ]
 
--- the laws of what is shown, where it is laid out as it is inside
+-- laws about what is shown, if its layout is the inner one
 module _ (numbers : List ℕ) (layouts before : List Layout) (v : View) (few : length numbers < 65536) (low : AreLow numbers) (shown : AreLaidOut numbers layouts v.shape v.reals)
     (now : IsListed (v.trees catalog_tree) v.shape v.reals) where
   pub view_listed : IsListed (own_trees numbers v.trees catalog_tree) (shapes_by layouts) (reals_by layouts)
@@ -156,13 +155,13 @@ module _ (numbers : List ℕ) (layouts before : List Layout) (v : View) (few : l
   pub view_ordered : IsOrdered v.shape v.trees → IsOrdered (shapes_by layouts) (own_trees numbers v.trees)
   view_ordered ordered = subst (λ shape. IsOrdered shape (own_trees numbers v.trees)) shown.shaped (own_ordered numbers few low v.trees v.shape v.reals now ordered)
 
-  -- where the lists that are shown are the same, so are the shapes
+  -- if the lists that are shown are the same, so are the shapes
   pub view_unaltered : AreLaidOut numbers before v.committed_shape v.committed_reals → IsListed (v.committed catalog_tree) v.committed_shape v.committed_reals
       → own_trees numbers v.trees catalog_tree ≡ own_trees numbers v.committed catalog_tree → (shapes_by layouts ≡ shapes_by before) × (reals_by layouts ≡ reals_by before)
   view_unaltered kept listed same = listed_once _ _ _ _ _ view_listed
       (subst (λ rows. IsListed rows (shapes_by before) (reals_by before)) (sym same)
       (subst₂ (IsListed (own_trees numbers v.committed catalog_tree)) kept.shaped kept.typed (own_listed numbers few low v.committed v.committed_shape v.committed_reals listed)))
 
--- the layouts that a rollback goes back to, unless the store is shut
+-- the layouts after a rollback, which restores them unless the store is shut
 abbrev pub GoBack : List Layout → List Layout → List Layout → View → Type 0
 GoBack layouts before new v = ((new ≡ layouts) ⊎ (new ≡ before)) × (IsClean v → new ≡ (if v.is_broken then layouts else before))

@@ -13,7 +13,7 @@ not_earlier from id (n ∷ numbers) rows below = go (find (has_rowid (pos (n + 1
     go None rest = rest
     go (Some row) rest = rw (value_cmp-Int (pos (from + 1)) (pos id), le-ltb (from + 1) id (omega arith), lt-ltb id (from + 1) (omega arith)) rest
 
--- a tree's row is the one that it has under its number
+-- a tree's row is the one with its number
 pub found_own : (from at t : ℕ) (numbers : List ℕ) (rows : List Row) → t ≡ from + at → at < length numbers
     → find (has_rowid (pos (t + 1))) (rows_from from numbers rows) ≡ option_map (renumbered t) (find (has_rowid (pos (get_or numbers at 0 + 1))) rows)
 found_own from at t [] rows is low = absurd (omega arith)
@@ -30,7 +30,7 @@ found_own from (suc at) t (n ∷ numbers) rows is low = go (find (has_rowid (pos
     go None rest = rest
     go (Some row) rest = rw (value_cmp-Int (pos (from + 1)) (pos (t + 1)), lt-ltb (from + 1) (t + 1) (omega arith)) rest
 
--- and no other tree has one
+-- no other tree has a row
 pub found_none : (from t : ℕ) (numbers : List ℕ) (rows : List Row) → from + length numbers ≤ t → find (has_rowid (pos (t + 1))) (rows_from from numbers rows) ≡ None
 found_none from t [] rows high = refl
 found_none from t (n ∷ numbers) rows high = go (find (has_rowid (pos (n + 1))) rows) (found_none (from + 1) t numbers rows (omega arith))

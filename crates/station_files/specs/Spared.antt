@@ -1,4 +1,4 @@
--- What an opening that gave up leaves of the two files.
+-- The two files after an opening that gave up.
 use Rattle.std.specs.Prelude.{◌≡◌, ℕ, List}
 use Rattle.sqlite_disk.specs.declared.Disk.{Ghosts}
 use Rattle.sqlite_disk.specs.declared.Files.{Files}
@@ -16,8 +16,8 @@ use Rattle.sqlite.specs.declared.file.Leftover.{Leftover}
 use Rattle.sqlite.specs.declared.file.Leftover.TheVariants as left
 
 module _ {D : Type 0} {g : Ghosts D} where
-  -- Whatever a crash leaves of the files now, it might have left before, or it recovers to the same
-  -- pages. Where the list of trees was accepted, it reads as the files did by that list.
+  -- Each crash state of the files now was one before, or recovers to the same pages. If the list of
+  -- trees was accepted, it reads like the files did by that list.
   abbrev pub SparesFiles : Files D → List Object → Leftover D g → Type 0
   SparesFiles files objects (left.Files now) =
       (image : Image) → outcomes g now.log now.db image → outcomes g files.log files.db image

@@ -1,4 +1,4 @@
-//! Files that have trees of other programs beside those of a list.
+//! Files with trees of other programs besides those of a list.
 ghost use Rattle.std.specs.Prelude.{◌≡◌, ◌⊎◌, ◌<◌, ◌≤◌, false, ℕ, List, length, slice_index, take, IsTrue, IfErr, IfOk, IfSome};
 ghost use Rattle.sqlite_pages.specs.PageMap.{PageMap};
 ghost use Rattle.sqlite_pool.specs.Stored.{Recovers};
@@ -29,7 +29,7 @@ use sqlite_trees::store::Store;
 use sqlite_value::row::Row;
 use std::alloc::Global;
 
-/// The rows of sqlite_schema of files, and whether the root of each begins an index.
+/// Returns the rows of sqlite_schema, and for each whether its root begins an index.
 fn read_entries<D: Disk>(files: &mut Unopened<D>) -> Option<(Vec<Row>, Vec<bool>)>
     requires { AreUsable files.old }
     ensures usable { IfSome result (λ _. AreUsable files.new) }
@@ -48,9 +48,9 @@ fn read_entries<D: Disk>(files: &mut Unopened<D>) -> Option<(Vec<Row>, Vec<bool>
     Some((entries, roots))
 }
 
-/// Gives files the list of all their trees. Returns the numbers under which it has the first of
-/// those that are asked for, and free ones for the rest, which are to be made. There are none if
-/// one of the first is missing, and where memory or the disk fails.
+/// Gives the files the list of all their trees. Returns the numbers of the first `made` objects,
+/// and free ones for the rest, which can be made. It is `None` if one of the first is missing, or
+/// memory or the disk fails.
 fn list_trees<D: Disk>(
     alloc: Global,
     files: &mut Unopened<D>,
@@ -79,7 +79,8 @@ fn list_trees<D: Disk>(
     }
 }
 
-/// Opens files by their list. Trees can be made if it is numbered as the files are.
+/// Opens files by their list. If `makes`, the list is numbered like the files, and trees can be
+/// made.
 fn open_as<D: Disk>(files: Unopened<D>, makes: bool) -> Result<FileStore<D>, Unopened<D>>
     requires { AreUsable files }
     ensures ready { IfOk result IsReady }
@@ -109,8 +110,8 @@ fn open_as<D: Disk>(files: Unopened<D>, makes: bool) -> Result<FileStore<D>, Uno
     }
 }
 
-/// Opens files that hold a database of the first of these trees and of others. Returns the numbers
-/// of the trees too.
+/// Opens files with a database of the first `made` objects and other trees. Returns their numbers
+/// too.
 fn open_all<D: Disk>(
     alloc: Global,
     mut files: Unopened<D>,
@@ -143,8 +144,8 @@ fn open_all<D: Disk>(
     }
 }
 
-/// The store of two files that hold a database of the first of these trees and of others, without
-/// sums, and the numbers of the trees.
+/// Returns the store over two files with a database of the first `made` objects and other trees,
+/// without checksums, and their numbers.
 fn store_beside<D: Disk>(
     alloc: Global,
     mut files: Files<D>,
@@ -179,9 +180,9 @@ fn store_beside<D: Disk>(
     }
 }
 
-/// Connects to the trees of a store that was just opened which have these numbers. Returns the
-/// store where they aren't the first of those that are asked for, or another tree is about a table
-/// of theirs; where the library refuses them, or where memory runs out.
+/// Connects to the trees with these numbers in a store that was just opened. Returns the store if
+/// they aren't the first `made` objects, if another tree belongs to one of their tables, if the
+/// library refuses them, or if memory runs out.
 fn connect_own<S: Alter + Drop>(
     alloc: Global,
     store: S,
@@ -233,14 +234,14 @@ fn connect_own<S: Alter + Drop>(
     }
 }
 
-/// Opens two files that hold a database of the first `made` of these trees, in any order, of none
-/// of the rest, and of other programs' trees beside them, whose pages have no sums. It shows the
-/// first ones alone, numbered by their list. The rest can be made, in their order; no other tree is
-/// made, and none is dropped. It gives up where another tree has a name of these, or is about a
-/// table of these, such as an index: a write would leave it behind.
+/// Opens two files with a database of the first `made` objects, in any order, none of the rest, and
+/// trees of other programs, whose pages have no checksums. It shows only the first ones, numbered
+/// by their list. The rest can be made, in order; no other tree is made or dropped. It gives up if
+/// another tree has a name of these, or belongs to one of their tables, such as an index: a write
+/// wouldn't update it.
 ///
-/// Returns what is left of other files, and of files where memory or the disk fails; an opening of
-/// any files finds the same in them, or says why not.
+/// Returns the remains of other files, and of files for which memory or the disk fails; opening
+/// these finds the same content, or reports the reason.
 pub fn open_beside<D: Disk + Drop>(
     alloc: Global,
     files: Files<D>,

@@ -1,4 +1,4 @@
-//! Files that are closed.
+//! Closing files.
 ghost use Rattle.std.specs.Prelude.{IfErr, IfOk};
 ghost use Rattle.sqlite.specs.Closing.{IsCopied};
 ghost use Rattle.sqlite.specs.Files.{IsClosed};
@@ -12,15 +12,15 @@ use sqlite::{Connection, FileStore};
 use sqlite_disk::{Disk, Files};
 use sqlite_trees::store::Store;
 
-/// Rolls back, copies the log into the database file, and gives the files back.
+/// Rolls back, copies the log into the database file, and returns the files.
 ///
-/// Returns the store where the log can't be copied.
+/// Returns the store if the log can't be copied.
 pub fn close_files<D: Disk + Drop>(conn: Connection<FileStore<D>>) -> Result<Files<D>, FileStore<D>>
     ensures copied { IfOk result (λ files. AreClean D.Disk files.log files.db
         → IsCopied conn files) }
     ensures by_list { IfOk result (λ files. AreClean D.Disk files.log files.db
         → IsCopiedByList conn files) }
-    // A crash has no new outcome, and each one is a database.
+    // There is no new crash state, and each one is a database.
     ensures left { IfErr result (λ store. IsClosed conn store) }
 {
     match conn.close_files() {
@@ -29,15 +29,15 @@ pub fn close_files<D: Disk + Drop>(conn: Connection<FileStore<D>>) -> Result<Fil
     }
 }
 
-/// Rolls back and gives the store back, without copying the log: what a crash of it may leave, the
-/// connection may.
+/// Rolls back and returns the store, without copying the log. Its crash states are among those of
+/// the connection.
 pub fn give_back<D: Disk + Drop>(conn: Connection<FileStore<D>>) -> FileStore<D>
     ensures { IsClosed conn result }
 {
     conn.into_store()
 }
 
-/// As `close_files`, of a connection to some trees of its files.
+/// Closes like `close_files`, for a connection to some trees of its files.
 pub fn close_beside<D: Disk + Drop>(
     conn: Connection<OwnTrees<FileStore<D>>>,
 ) -> Result<Files<D>, FileStore<D>>
@@ -47,7 +47,7 @@ pub fn close_beside<D: Disk + Drop>(
         IsClosedOwn (state ⟦<OwnTrees<FileStore<D>> as Store>⟧ conn) store) }
 {
     let mut store = conn.into_store().into_inner();
-    // Again, for what only this store's rollback says of the log.
+    // Rolls back again, as only this store's rollback has a contract about the log.
     store.rollback();
     match store.checkpoint() {
         Ok(()) => Ok(store.close()),
@@ -55,7 +55,7 @@ pub fn close_beside<D: Disk + Drop>(
     }
 }
 
-/// As `give_back`, of a connection to some trees of its files.
+/// Returns the store like `give_back`, for a connection to some trees of its files.
 pub fn give_back_beside<D: Disk + Drop>(conn: Connection<OwnTrees<FileStore<D>>>) -> FileStore<D>
     ensures { IsClosedOwn (state ⟦<OwnTrees<FileStore<D>> as Store>⟧ conn) result }
 {

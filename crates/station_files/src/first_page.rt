@@ -1,4 +1,4 @@
-//! What two files look like before anything of them is recovered. Nothing is written.
+//! The start of two files before recovery. Nothing is written.
 ghost use Rattle.std.specs.Prelude.{◌≡◌, ℕ, IsTrue, IfSome};
 ghost use Rattle.sqlite_wal.specs.PageSize.{bytes_of};
 ghost use Rattle.sqlite_wal.specs.Reads.{AreClean, OnlyReads};
@@ -10,10 +10,10 @@ use sqlite_disk::{Disk, Files};
 use sqlite_wal::{PageSize, probe_first_page, probe_page_size};
 use std::alloc::Global;
 
-/// Bytes 20 to 23 of the header of a database whose pages end in sums.
+/// Bytes 20 to 23 of the header of a database whose pages end with checksums.
 const WITH_SUMS: u32 = 0x0840_2020;
 
-/// The page size that two files name, if they name one that SQLite has.
+/// Returns the page size that two files name, if SQLite allows it.
 pub(crate) fn named_size<D: Disk>(files: &mut Files<D>) -> Option<PageSize>
     requires log { IsTrue (D.Disk.is_usable files.old.log) }
     requires db { IsTrue (D.Disk.is_usable files.old.db) }
@@ -28,7 +28,8 @@ pub(crate) fn named_size<D: Disk>(files: &mut Files<D>) -> Option<PageSize>
     }
 }
 
-/// Whether two files with pages of a size begin as a database whose pages have no sums.
+/// Returns whether two files with pages of a size begin like a database whose pages have no
+/// checksums.
 pub(crate) fn begins_plain<D: Disk>(alloc: Global, files: &mut Files<D>, size: PageSize) -> bool
     requires log { IsTrue (D.Disk.is_usable files.old.log) }
     requires db { IsTrue (D.Disk.is_usable files.old.db) }

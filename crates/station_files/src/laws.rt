@@ -1,4 +1,4 @@
-//! Laws of stores in files whose trees are read by a list, or of which some are shown.
+//! Laws about stores in files whose trees are read by a list, or only partly shown.
 ghost use Rattle.station_schema.specs.Own.{LiesInOrder};
 ghost use Rattle.station_files.specs.ByList.{LeaveByList};
 ghost use Rattle.station_files.specs.OwnFiles.{LeaveOwn};
@@ -9,20 +9,19 @@ use sqlite_disk::Disk;
 use sqlite_trees::store::Store;
 use station_schema::files_lie_in_order;
 
-/// The law that whatever a crash leaves of the files of a store holds, as the list of their trees
-/// reads it, a database that the store may leave.
+/// Each crash state of a store's files holds, read by the list of their trees, a database that the
+/// store may leave.
 pub fn files_leave_by_list<D: Disk>()
     ensures { LeaveByList D.Disk }
 {}
 
-/// The law that whatever a crash leaves of the files of a store holds, as the list of their trees
-/// reads those with some numbers, a database that the store may leave so.
+/// Each crash state of a store's files holds, read by the list for the trees with some numbers, a
+/// database that the store may leave in them.
 pub fn files_leave_own<D: Disk>()
     ensures { LeaveOwn D.Disk }
 {}
 
-/// The law that the rows of tables in files lie in order, on every disk, if only some trees are
-/// shown.
+/// The rows of tables in files are in order, on every disk, if only some trees are shown.
 pub fn own_files_lie_in_order<D: Disk>()
     ensures { LiesInOrder ⟦<OwnTrees<FileStore<D>> as Store>⟧ }
 {

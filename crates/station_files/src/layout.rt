@@ -1,4 +1,4 @@
-//! How trees are laid out.
+//! Layouts of trees.
 
 use sqlite_trees::store::Shape;
 

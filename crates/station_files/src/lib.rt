@@ -1,4 +1,4 @@
-//! The two files of a station: begun, opened by the list of their trees, and closed.
+//! The two files of a station: started, opened by the list of their trees, and closed.
 #![tactic(auto)]
 
 mod beside;

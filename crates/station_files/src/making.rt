@@ -1,4 +1,4 @@
-//! A database that is begun in two files that have none.
+//! Starting a database in two empty files.
 ghost use Rattle.std.specs.Prelude.{◌≡◌, ◌↔◌, false, IsTrue, IfErr, IfOk, IfSome};
 ghost use Rattle.sqlite_wal.specs.PageSize.{bytes_of};
 ghost use Rattle.sqlite_wal.specs.Reads.{AreClean, OnlyReads};
@@ -17,7 +17,7 @@ use sqlite_store::OpenError;
 use sqlite_wal::PageSize;
 use std::alloc::Global;
 
-/// Why the library began no database.
+/// Returns the error code if the library started no database.
 fn begin_code(error: OpenError) -> ErrorCode {
     match error {
         OpenError::OutOfMemory => ErrorCode::OutOfMemory,
@@ -26,7 +26,7 @@ fn begin_code(error: OpenError) -> ErrorCode {
     }
 }
 
-/// Why a database that was begun isn't opened.
+/// Returns the error code if a started database can't be opened.
 fn open_code(error: Error) -> ErrorCode {
     match error {
         Error::SqliteFailure(code) => code,
@@ -34,7 +34,7 @@ fn open_code(error: Error) -> ErrorCode {
     }
 }
 
-/// The store of a database with no table that is begun in two files.
+/// Returns the store over a database without tables, started in two files.
 fn store_begun<D: Disk>(
     alloc: Global,
     files: Files<D>,
@@ -60,7 +60,7 @@ fn store_begun<D: Disk>(
     }
 }
 
-/// Whether two files have no database, not even another that was begun with pages of this size.
+/// Returns whether no database has been made in two files yet, with pages of this size.
 fn is_blank<D: Disk>(alloc: Global, files: &mut Files<D>, size: PageSize) -> Result<bool, ErrorCode>
     requires log { IsTrue (D.Disk.is_usable files.old.log) }
     requires db { IsTrue (D.Disk.is_usable files.old.db) }
@@ -76,12 +76,12 @@ fn is_blank<D: Disk>(alloc: Global, files: &mut Files<D>, size: PageSize) -> Res
     }
 }
 
-/// Begins a database with no table in two files that have none, with pages of this size, and opens
-/// it. Whatever stops it, the files have none or the whole one, and the next call goes on from
+/// Starts a database without tables in two empty files, with pages of this size, and opens it.
+/// Whatever stops it, the files have no database or the whole one, and the next call continues from
 /// there.
 ///
-/// Returns `None` for files that have something, and leaves them as they are. The code of an error
-/// says whether memory ran out, the disk is full, or it failed; what is left of the files comes
+/// Returns `None` for files that aren't empty, and leaves them as they are. The error code says
+/// whether memory ran out, the disk is full, or it failed; the remains of the files are returned
 /// with it.
 pub fn open_new<D: Disk + Drop>(
     alloc: Global,

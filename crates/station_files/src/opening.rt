@@ -1,4 +1,4 @@
-//! Files that are opened by a list of their trees.
+//! Opening files by a list of their trees.
 ghost use Rattle.std.specs.Prelude.{◌≡◌, false, IsTrue, IfErr, IfOk};
 ghost use Rattle.sqlite_wal.specs.PageSize.{bytes_of};
 ghost use Rattle.sqlite_store.specs.FileStore.{view, is_shielded};
@@ -20,7 +20,7 @@ use sqlite_trees::schema::Object;
 use sqlite_wal::PageSize;
 use std::alloc::{AllocFailed, Global};
 
-/// Files with pages of a size, and a list of their trees. Returns the files where memory runs out.
+/// Returns files with pages of a size and a list of their trees, or the files if memory runs out.
 pub(crate) fn with_list<D: Disk>(
     alloc: Global,
     files: Files<D>,
@@ -43,7 +43,8 @@ pub(crate) fn with_list<D: Disk>(
     }
 }
 
-/// The store of two files that hold a database of exactly these trees, in this order, without sums.
+/// Returns the store over two files with a database of exactly these trees, in this order, without
+/// checksums.
 fn store_by_list<D: Disk>(
     alloc: Global,
     mut files: Files<D>,
@@ -74,12 +75,12 @@ fn store_by_list<D: Disk>(
     }
 }
 
-/// Opens two files that hold a database of exactly these trees, in this order, whose pages have no
-/// sums. It recovers the log once, where `Connection::open_files` does twice: first to read the
-/// list of trees.
+/// Opens two files with a database of exactly these trees, in this order, whose pages have no
+/// checksums. It recovers the log once, while `Connection::open_files` recovers it twice: first to
+/// read the list of trees.
 ///
-/// Returns what is left of other files, and of files where memory or the disk fails; an opening of
-/// any files finds the same in them, or says why not.
+/// Returns the remains of other files, and of files for which memory or the disk fails; opening
+/// these finds the same content, or reports the reason.
 pub fn open_listed<D: Disk + Drop>(
     alloc: Global,
     files: Files<D>,

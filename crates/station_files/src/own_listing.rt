@@ -1,4 +1,4 @@
-//! Whether a store lists the trees of a list, and other trees that are about other tables.
+//! Comparing the trees of a store with a list.
 ghost use Rattle.std.specs.Prelude.{◌≡◌, ◌<◌, ◌+◌, pos, false, map, take, length, find, if◌then◌else◌, [], IsTrue};
 ghost use Rattle.std.specs.List.{list_all};
 ghost use Rattle.sqlite_trees.specs.Objects.{catalog_tree};
@@ -16,7 +16,6 @@ use sqlite_trees::store::Alter;
 use sqlite_value::row::Row;
 use std::alloc::Global;
 
-/// Whether a tree has this number in a store, as it is asked for.
 fn is_there<S: Alter>(store: &S, rows: &[Row], object: &Object<'_>, number: u32) -> bool
     ensures { IsTrue result → IsClean (S.Store.view store.now)
         → (S.Store.view store.now).is_broken ≡ false
@@ -36,7 +35,7 @@ fn is_there<S: Alter>(store: &S, rows: &[Row], object: &Object<'_>, number: u32)
     }
 }
 
-/// Whether a tree has this number in a store, as it is asked for, or none has, if it isn't made
+/// Returns whether a store has this object under this number, or no tree there if it isn't made
 /// yet.
 fn is_placed<S: Alter>(
     store: &S,
@@ -59,8 +58,8 @@ fn is_placed<S: Alter>(
     }
 }
 
-/// Whether the first of these trees have these numbers in a store, in their order, and there are
-/// none of the rest.
+/// Returns whether the first `made` objects are in the store under `numbers`, in order, and the
+/// others aren't in it.
 fn are_there<S: Alter>(
     store: &S,
     rows: &[Row],
@@ -83,8 +82,6 @@ fn are_there<S: Alter>(
     true
 }
 
-/// Whether a row lists a tree about a table of those that are asked for, or with a name of theirs,
-/// in any case of letters.
 fn is_about(objects: &[Object<'_>], row: &Row) -> bool
     ensures { result ≡ is_about objects.now row.now }
 {
@@ -93,30 +90,27 @@ fn is_about(objects: &[Object<'_>], row: &Row) -> bool
         || same_name(o.name.as_bytes(), name))
 }
 
-/// Whether a row lists one of the trees with these numbers.
 fn is_one_of(numbers: &[u32], row: &Row) -> bool
     ensures { result ≡ is_one_of numbers.now row.now }
 {
     numbers.iter().any(|n| has_number(row, *n))
 }
 
-/// Whether a row lists one of the trees with these numbers, or a tree about another table than
-/// those that are asked for, which a write to one of these would leave behind.
 fn is_known(row: &Row, objects: &[Object<'_>], numbers: &[u32]) -> bool
     ensures { result ≡ is_known objects.now numbers.now row.now }
 {
     is_one_of(numbers, row) || !is_about(objects, row)
 }
 
-/// Whether each row lists a tree that is known so.
+/// Returns whether `is_known` holds for every row.
 fn are_known(rows: &[Row], objects: &[Object<'_>], numbers: &[u32]) -> bool
     ensures { result ≡ list_all (is_known objects.now numbers.now) rows.now }
 {
     rows.iter().all(|row| is_known(row, objects, numbers))
 }
 
-/// Whether the first of these trees have these numbers in a store, in their order, there are none
-/// of the rest, and each other tree is about another table.
+/// Returns whether the first `made` objects are in the store under `numbers`, in order, the others
+/// aren't in it, and no other tree belongs to their tables.
 pub(crate) fn are_beside<S: Alter>(
     alloc: Global,
     store: &S,

@@ -1,4 +1,4 @@
-//! Files that have trees of other programs beside those of a list.
+//! Files with trees of other programs besides those of a list.
 ghost use Rattle.std.specs.Prelude.{◌≡◌, ◌≢◌, ◌⊎◌, ◌<◌, ℕ, ◌+◌, map, take, length, slice_index, false, [], ◌∷◌, ◌++◌, IsTrue, IfOk, IfErr, IfSome, OnOk};
 ghost use Rattle.std.specs.List.{AllByRecursion};
 ghost use Rattle.sqlite_value.specs.declared.value.Value.TheVariants.{Text};
@@ -23,14 +23,14 @@ use sqlite_value::row::Row;
 use sqlite_value::value::ValueRef;
 use std::alloc::{AllocError, Global};
 
-/// A store that shows some trees of another, numbered by their places in a list, and hides the
+/// A store that shows some trees of another, numbered by their position in a list, and hides the
 /// rest. It makes trees of the list that are missing, if the other store is numbered, and drops
 /// none.
 pub struct OwnTrees<S: Alter> {
     store: S,
-    /// The number that each tree has in the other store.
+    /// The number of each tree in the other store.
     numbers: Vec<u32>,
-    /// How the trees are laid out now, and were at the last commit.
+    /// The layouts of the trees now, and at the last commit.
     layouts: Vec<Layout>,
     before: Vec<Layout>,
     makes: bool,
@@ -47,13 +47,13 @@ pub struct OwnTrees<S: Alter> {
         (S.Store.view store).shape (S.Store.view store).reals },
     ghost kept: { IsClean (S.Store.view store) → AreLaidOut numbers.items before.items
         (S.Store.view store).committed_shape (S.Store.view store).committed_reals },
-    // The list of the last commit gives the shapes that it left.
+    // The shapes follow from the list of the last commit.
     ghost listed: { IsClean (S.Store.view store) → IsTrue (S.Store.view store).is_open
         → IsListed ((S.Store.view store).committed catalog_tree)
         (S.Store.view store).committed_shape (S.Store.view store).committed_reals },
 }
 
-// It is written out, so that a caller does not prove again how each part is dropped.
+// Written out, so that callers needn't prove again how each part is dropped.
 impl<S: Alter + Drop> Drop for OwnTrees<S> {
     fn drop(self) {
         let OwnTrees {
@@ -67,7 +67,7 @@ impl<S: Alter + Drop> Drop for OwnTrees<S> {
     }
 }
 
-/// Whether the number at a place comes before it too.
+/// Returns whether the number at `at` occurs before it.
 fn comes_before(numbers: &[u32], at: usize) -> bool
     requires { at < length numbers.now }
     ensures { result ≡ false → (s : ℕ) → s < at
@@ -76,7 +76,6 @@ fn comes_before(numbers: &[u32], at: usize) -> bool
     numbers[..at].contains(&numbers[at])
 }
 
-/// Whether these are the numbers of different trees.
 fn are_apart(numbers: &[u32]) -> bool
     ensures few { IsTrue result → length numbers.now < 65536 }
     ensures low { IsTrue result → (t : ℕ) → t < length numbers.now
@@ -95,7 +94,6 @@ fn are_apart(numbers: &[u32]) -> bool
     true
 }
 
-/// How the tree with this number is laid out in a store.
 fn layout_of<S: Alter>(store: &S, number: u32) -> Layout
     ensures shaped { result.shape ≡ (S.Store.view store.now).shape number }
     ensures typed { result.reals ≡ (S.Store.view store.now).reals number }
@@ -104,7 +102,6 @@ fn layout_of<S: Alter>(store: &S, number: u32) -> Layout
     Layout { shape, reals }
 }
 
-/// Takes over how the trees with these numbers are laid out in a store.
 fn lay_out<S: Alter>(store: &S, numbers: &[u32], layouts: &mut [Layout])
     requires few { length numbers.now < 65536 }
     requires all { length layouts.old ≡ length numbers.now }
@@ -117,7 +114,6 @@ fn lay_out<S: Alter>(store: &S, numbers: &[u32], layouts: &mut [Layout])
     }
 }
 
-/// How the trees with these numbers are laid out in a store.
 fn layouts_of<S: Alter>(
     alloc: Global,
     store: &S,
@@ -137,7 +133,7 @@ fn layouts_of<S: Alter>(
     Ok(layouts)
 }
 
-/// Goes back to the layouts of the last commit, unless the store is shut.
+/// Restores the layouts of the last commit, unless the store is shut.
 fn go_back<S: Alter>(store: &S, layouts: &mut [Layout], before: &[Layout])
     requires { length layouts.old ≡ length before.now }
     ensures went { GoBack layouts.old before.now layouts.new (S.Store.view store.now) }
@@ -148,7 +144,7 @@ fn go_back<S: Alter>(store: &S, layouts: &mut [Layout], before: &[Layout])
     }
 }
 
-/// The first five columns of the row of a tree, under this number.
+/// Returns the first five columns of a tree's row, under this number.
 fn renumber(alloc: Global, tree: usize, row: &Row) -> Result<Row, AllocError>
     requires { tree < 65536 }
     ensures { IfOk result (λ new. new ≡ take 5 (renumbered tree row.now)) }
@@ -162,7 +158,6 @@ fn renumber(alloc: Global, tree: usize, row: &Row) -> Result<Row, AllocError>
     Ok(new)
 }
 
-/// Whether a row of the list of objects has this name.
 fn is_named(rows: &[Row], name: &str) -> bool
     ensures { result ≡ false → AllByRecursion (λ r. column r 2 ≢ Text name.now) rows.now }
 {
@@ -170,7 +165,7 @@ fn is_named(rows: &[Row], name: &str) -> bool
         .any(|row| is_same(row.get(2), ValueRef::Text(name.as_bytes())))
 }
 
-/// Puts the first five columns of the row of a tree, if there is one, behind the others.
+/// Appends the first five columns of a tree's row, if there is one.
 fn push_row(
     alloc: Global,
     own: &mut Vec<Row>,
@@ -191,8 +186,8 @@ fn push_row(
     }
 }
 
-/// The first five columns of the rows that list the trees with these numbers, numbered by their
-/// places.
+/// Returns the first five columns of the rows of the trees with these numbers, numbered by their
+/// position.
 fn own_rows(alloc: Global, numbers: &[u32], rows: &[Row]) -> Result<Vec<Row>, AllocError>
     requires { length numbers.now < 65536 }
     ensures { IfOk result (λ own. (all : _) → rows.now ≡ map (take 5) all
@@ -206,9 +201,9 @@ fn own_rows(alloc: Global, numbers: &[u32], rows: &[Row]) -> Result<Vec<Row>, Al
 }
 
 impl<S: Alter> OwnTrees<S> {
-    /// Shows the trees of a store that was just opened which have these numbers there. Trees may be
-    /// made at numbers that are free there, if `makes`. Returns the store if two of the numbers are
-    /// the same, or one of them is too large.
+    /// Shows the trees with these numbers of a store that was just opened. If `makes`, trees can be
+    /// made at numbers that are free there. Returns the store if two numbers are the same, or one
+    /// is too large.
     pub fn new(alloc: Global, store: S, numbers: Vec<u32>, makes: bool) -> Result<OwnTrees<S>, S>
         requires fresh { IsClean (S.Store.view store)
             → IsFresh (as_numbered (S.Store.view store)) }
@@ -237,7 +232,7 @@ impl<S: Alter> OwnTrees<S> {
         })
     }
 
-    /// Gives the store inside back.
+    /// Returns the store inside.
     pub fn into_inner(self) -> S
         ensures { result ≡ self.store }
     {
@@ -252,7 +247,7 @@ impl<S: Alter> OwnTrees<S> {
         store
     }
 
-    /// The number inside of a tree that is shown.
+    /// Returns the inner number of a tree that is shown.
     fn number_of(&self, tree: u32) -> Option<u32>
         ensures { IfSome result (IsNumberOf self.now.numbers.items self.now.layouts.items
             (S.Store.view self.now.store) tree) }
@@ -266,7 +261,8 @@ impl<S: Alter> OwnTrees<S> {
         }
     }
 
-    /// The number inside of a tree that can be made: no tree of another program has its name.
+    /// Returns the inner number of a tree that can be made: no tree of another program has its
+    /// name.
     fn free_number(&self, tree: u32, name: &str) -> Option<u32>
         ensures number { IfSome result (IsNumberOf self.now.numbers.items self.now.layouts.items
             (S.Store.view self.now.store) tree) }
@@ -486,7 +482,7 @@ impl<S: Alter> Alter for OwnTrees<S> {
                 lay_out(&self.store, &self.numbers, &mut self.layouts);
                 Ok(())
             }
-            // The rows that are hidden may be why.
+            // The hidden rows may be the reason.
             Err(StoreError::Unstorable) => Err(StoreError::OutOfMemory),
             Err(error) => Err(error),
         }

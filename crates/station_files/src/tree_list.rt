@@ -1,4 +1,4 @@
-//! Lists of trees: those that are asked for, and those of other programs.
+//! Lists of trees: those of a list, and those of other programs.
 ghost use Rattle.std.specs.Prelude.{◌≡◌, ◌+◌, pos, ◌∷◌, [], find, option_copied, IsTrue};
 ghost use Rattle.sqlite_value.specs.Order.{column};
 ghost use Rattle.sqlite_value.specs.Value.{owned};
@@ -14,28 +14,26 @@ use sqlite_value::row::Row;
 use sqlite_value::value::ValueRef;
 use std::alloc::{AllocError, Global};
 
-/// The rows of a list of trees without their roots, and how each tree is laid out.
+/// The rows of a list of trees without their roots, and the layout of each tree.
 #[derive(Drop)]
 pub(crate) struct TreeList {
     pub(crate) rows: Vec<Row>,
     pub(crate) layouts: Vec<(Shape, u64)>,
 }
 
-/// The list of all trees of files, and the numbers of those that are asked for.
+/// The list of all trees of files, and the numbers of the objects.
 #[derive(Drop)]
 pub(crate) struct AllTrees {
     pub(crate) list: TreeList,
     pub(crate) numbers: Vec<u32>,
 }
 
-/// Whether a number with this shape names a tree.
 pub(crate) fn is_present(shape: Shape) -> bool
     ensures { result ≡ is_present shape }
 {
     !matches!(shape, Shape::Absent)
 }
 
-/// The text of a tree, or NULL.
 fn text_or_null(sql: Option<&str>) -> ValueRef<'_>
     ensures { owned result ≡ text_or_null sql.entry }
 {
@@ -45,7 +43,7 @@ fn text_or_null(sql: Option<&str>) -> ValueRef<'_>
     }
 }
 
-/// Whether a row has type, name, table and text of a tree that is asked for.
+/// Returns whether a row has the type, name, table and text of an object.
 pub(crate) fn is_object(object: &Object<'_>, row: &Row) -> bool
     ensures { IsTrue result → column row.now 1 ∷ column row.now 2 ∷ column row.now 3
         ∷ column row.now 4 ∷ [] ≡ (wanted_of object.now).row }
@@ -56,21 +54,19 @@ pub(crate) fn is_object(object: &Object<'_>, row: &Row) -> bool
         && is_same(row.get(4), text_or_null(object.sql))
 }
 
-/// Whether a row lists the tree with this number.
 pub(crate) fn has_number(row: &Row, number: u32) -> bool
     ensures { result ≡ has_rowid (pos (number + 1)) row.now }
 {
     compare(row.get(0), ValueRef::Int(i64::from(number) + 1)).is_eq()
 }
 
-/// The row that lists the tree with this number.
 pub(crate) fn row_of(rows: &[Row], number: u32) -> Option<&Row>
     ensures { option_copied result ≡ find (has_rowid (pos (number + 1))) rows.now }
 {
     rows.iter().find(|row| has_number(row, number))
 }
 
-/// The number of the tree that a row lists.
+/// Returns the number of a row's tree.
 fn number_of(row: &Row) -> Option<u32> {
     match row.get(0) {
         ValueRef::Int(id) if 1 <= id && id <= 65536 => Some((id - 1) as u32),
@@ -78,12 +74,12 @@ fn number_of(row: &Row) -> Option<u32> {
     }
 }
 
-/// The rowid of the tree at a place of a list.
+/// Returns the rowid of the tree at a position of a list.
 fn id_at(place: usize) -> i64 {
     i64::try_from(place).map_or(i64::MAX, |at| at.saturating_add(1))
 }
 
-/// The row of a tree with this rowid, and type, name, table and text.
+/// Returns the row of a tree with this rowid, type, name, table and text.
 fn described(
     alloc: Global,
     id: i64,
@@ -101,7 +97,6 @@ fn described(
     Ok(row)
 }
 
-/// The row of a tree that is asked for.
 fn row_for(alloc: Global, id: i64, object: &Object<'_>) -> Result<Row, AllocError> {
     described(
         alloc,
@@ -113,7 +108,7 @@ fn row_for(alloc: Global, id: i64, object: &Object<'_>) -> Result<Row, AllocErro
     )
 }
 
-/// A row of sqlite_schema without its root.
+/// Returns a row of sqlite_schema without its root.
 fn without_root(alloc: Global, id: i64, entry: &Row) -> Result<Row, AllocError> {
     described(
         alloc,
@@ -125,8 +120,8 @@ fn without_root(alloc: Global, id: i64, entry: &Row) -> Result<Row, AllocError> 
     )
 }
 
-/// The shape by which a tree of another program is listed. It is only read, and what has no pages
-/// and no text that is all of it, as a virtual table, isn't listed.
+/// Returns the shape of another program's tree, which is only read. A tree without pages that isn't
+/// described fully by its text, such as a virtual table, has none.
 fn other_shape(entry: &Row, has_index_root: bool) -> Option<Shape> {
     if is_text_only(entry.get(1)) {
         return Some(Shape::Pageless);
@@ -155,8 +150,8 @@ impl TreeList {
     }
 }
 
-/// The list of the trees that are asked for and, behind them, of the others that sqlite_schema
-/// lists, by its rows and whether the root of each begins an index.
+/// Returns the list of the objects, followed by the other trees in sqlite_schema. It is made from
+/// its rows, and from whether the root of each begins an index.
 fn list_own_first(
     alloc: Global,
     objects: &[Object<'_>],
@@ -181,7 +176,7 @@ fn list_own_first(
     Ok(list)
 }
 
-/// How a tree is listed: as it is asked for, or as one of another program.
+/// Returns the layout of a tree: as an object, or as one of another program.
 fn layout_of(
     objects: &[Object<'_>],
     row: &Row,
@@ -194,8 +189,8 @@ fn layout_of(
     }
 }
 
-/// The list of all trees that sqlite_schema lists, in its order and under its numbers. There is
-/// none if one of them has neither pages nor a text that is all of it.
+/// Returns the list of all trees in sqlite_schema, in its order and with its numbers. It is `None`
+/// if one of them has neither pages nor a text that describes it fully.
 fn list_in_order(
     alloc: Global,
     objects: &[Object<'_>],
@@ -217,7 +212,7 @@ fn list_in_order(
     Ok(Some(list))
 }
 
-/// The numbers under which rows list the first of these trees, and free ones for the rest.
+/// Returns the numbers of the first `made` objects in the rows, and free ones for the rest.
 fn numbers_of(
     alloc: Global,
     objects: &[Object<'_>],
@@ -248,9 +243,9 @@ fn numbers_of(
     Ok(Some(numbers))
 }
 
-/// The list of all trees that sqlite_schema lists, by its rows and whether the root of each begins
-/// an index: in its order, if trees are to be made, and otherwise with those that are asked for
-/// first. There is none if one of the first `made` is missing.
+/// Returns the list of all trees in sqlite_schema, made from its rows, and from whether the root of
+/// each begins an index. It is in the order of sqlite_schema if trees are to be made, otherwise
+/// with the objects first. It is `None` if one of the first `made` is missing.
 pub(crate) fn all_trees(
     alloc: Global,
     objects: &[Object<'_>],

@@ -1,4 +1,4 @@
-//! The trees of a station's file: the tables and the indexes that `init` makes, in their order.
+//! The trees of a station's file: the tables and the indexes that `init` makes, in order.
 
 use sqlite_trees::schema::Object;
 use sqlite_trees::store::Shape;
@@ -8,10 +8,9 @@ use station_schema::declarations::{
     STOCK, TRAIL, WAYBILL, WAYBILL2,
 };
 
-/// How many of the trees a file of version 1 has: the first ones.
+/// The number of trees in a file of version 1: the first ones.
 pub const OLD_TREES: usize = 22;
 
-/// A table by its text.
 fn table(name: &'static str, sql: &'static str) -> Object<'static> {
     Object {
         shape: Shape::Table,
@@ -23,7 +22,7 @@ fn table(name: &'static str, sql: &'static str) -> Object<'static> {
     }
 }
 
-/// An index of a table, by its text, or as a key of the table makes it.
+/// Returns an index of a table, with its text, or without one for the index of a key.
 fn index(name: &'static str, table: &'static str, sql: Option<&'static str>) -> Object<'static> {
     Object {
         shape: Shape::Index(Order::PLAIN),
@@ -35,7 +34,7 @@ fn index(name: &'static str, table: &'static str, sql: Option<&'static str>) -> 
     }
 }
 
-/// The trees, each with the text that `init` declares it by.
+/// Returns the trees, each with the text by which `init` declares it.
 pub fn station_trees() -> [Object<'static>; 23] {
     [
         table("station", STATION),

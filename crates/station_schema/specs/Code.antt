@@ -1,4 +1,4 @@
--- Tables are data: two of them are equal in one way at most.
+-- Tables are data: they are equal in at most one way.
 use Rattle.std.specs.Prelude.{ℕ, ℤ, List, refl}
 use Rattle.std.specs.Coded.{Coded, code_by, coded×, coded_ℕ, coded_ℤ, coded_list}
 use Rattle.std.specs.FinMap.{FinMap}

@@ -1,4 +1,4 @@
--- What a connection shows, as the tables of a station.
+-- The view of a connection as the tables of a station.
 use Rattle.std.specs.Prelude.{◌≡◌, ◌⊎◌, true, ℕ, pos, List, [], ◌∷◌}
 use Rattle.std.specs.FinMap.{empty}
 use Rattle.sqlite.specs.Tree.{Trees}
@@ -20,7 +20,7 @@ view_of s = record {
   may_leave = λ t. (db : Trees) × s.may_leave db × (t ≡ tables_of db);
 }
 
--- a connection over any store, also one that isn't a station's
+-- a connection over any store, even one that isn't a station's
 abbrev pub connection_view : {S : Type 0} → Ghosts S → Held S → View
 connection_view g conn = view_of (state g conn)
 
@@ -53,7 +53,7 @@ pub record IsOpening (airport : List ℕ) (v : View) : Type 0 where
   pub at_rest : IsAtRest v
   pub now_is : v.now ≡ opening airport
 
--- No fault is forgotten, and a crash leaves what it left before, or in a store that was vacant the
+-- Faults stay recorded, and the crash states are those from before or, in an empty store, the
 -- tables of a new station.
 pub record MayOpen (Vacant : Type 0) (airport : List ℕ) (old new : View) : Type 0 where
   pub sound : new.IsSound → old.IsSound

@@ -1,4 +1,4 @@
--- That tables are a station's has one proof at most.
+-- That tables are a station's has at most one proof.
 use Rattle.std.specs.Prelude.{◌<ℤ◌, ◌==◌, ℤ, ℕ, List, [], ◌∷◌, refl, Bool, true, false, MatchBool}
 use Rattle.std.specs.List.{AllByRecursion}
 use Rattle.station_schema.specs.Schema.{station_schema}

@@ -12,14 +12,14 @@ use Rattle.station_schema.specs.Schema.{old_schema, station_schema}
 use Rattle.station_schema.specs.Tables.{tables_of}
 use base.Stored.{Coded-set}
 
--- whoever reads a schema out of these trees finds that of a station
+-- these trees allow only the schema of a station
 pub record IsOwn (db : Trees) : Type 0 where
   pub only : (schema : Schema) → IsSound schema db → schema ≡ station_schema
 
 pub own_once : (db : Trees) → IsProp (IsOwn db)
 own_once db a b = λ i. record { only = λ schema sound. Coded-set schema_row.coded _ _ (a.only schema sound) (b.only schema sound) i }
 
--- whoever reads a schema out of these trees finds that of a station of version 1
+-- these trees allow only the schema of a station of version 1
 pub record IsOldOwn (db : Trees) : Type 0 where
   pub only : (schema : Schema) → IsSound schema db → schema ≡ old_schema
 
@@ -28,8 +28,8 @@ pub record IsNewStation (airport : List ℕ) (db : Trees) : Type 0 where
   pub own : IsOwn db
   pub tables : tables_of db ≡ opening airport
 
--- In each store of this type that is open, the rows of the last commit lie by their rowids, as its
--- listing says.
+-- In each open store of this type, the rows of the last commit are ordered by rowid, as its listing
+-- says.
 abbrev pub LiesInOrder : {S : Type 0} → Ghosts S → Type 0
 LiesInOrder {S} g = (s : S) → IsTrue (g.view s).is_open
     → IsOrdered (g.view s).committed_shape (g.view s).committed

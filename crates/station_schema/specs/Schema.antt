@@ -17,7 +17,7 @@ key_column name kind = record { name = name; kind = kind; is_strict = true; not_
 abbrev pub column_of : List ℕ → Kind → Column
 column_of name kind = record { name = name; kind = kind; is_strict = true; not_null = true; default = Null; collation = Binary }
 
--- a STRICT table whose first column is its INTEGER PRIMARY KEY; its rows lie in the tree of this
+-- a STRICT table whose first column is its INTEGER PRIMARY KEY; its rows are in the tree with this
 -- number
 abbrev pub keyed_table : ℕ → List ℕ → List Column → Table
 keyed_table tree name columns = record {
@@ -68,7 +68,7 @@ station = keyed_table 0 (codes "station") (key_column (codes "id") Integer
     ∷ column_of (codes "airport") Text ∷ column_of (codes "version") Integer
     ∷ column_of (codes "confirmed") Integer ∷ [])
 
--- the waybills of a file of version 1; in one of version 2 it is empty
+-- the waybills of a file of version 1; empty in version 2
 abbrev pub waybill : Table
 waybill = keyed_table 1 (codes "waybill") (key_column (codes "awb") Integer
     ∷ column_of (codes "origin") Text ∷ column_of (codes "destination") Text
@@ -99,7 +99,6 @@ moves = keyed_table 6 (codes "moves") (key_column (codes "number") Integer
     ∷ column_of (codes "fday") Integer ∷ column_of (codes "day") Integer
     ∷ column_of (codes "minute") Integer ∷ [])
 
--- the moves of a waybill
 abbrev pub moves_index : Index
 moves_index = record (key_index 7 6 (2 ∷ []) (codes "moves_awb")) { is_unique = false }
 
@@ -158,7 +157,7 @@ build = table_by 20 (1 ∷ 2 ∷ 3 ∷ []) (codes "build") (column_of (codes "fl
 abbrev pub build_index : Index
 build_index = key_index 21 20 (1 ∷ 2 ∷ 3 ∷ []) (codes "sqlite_autoindex_build_1")
 
--- the waybills of a file of version 2, with the day on which each was last declared
+-- the waybills of a file of version 2, with the day of their last declaration
 abbrev pub waybill2 : Table
 waybill2 = keyed_table 22 (codes "waybill2") (key_column (codes "awb") Integer
     ∷ column_of (codes "origin") Text ∷ column_of (codes "destination") Text
@@ -166,7 +165,7 @@ waybill2 = keyed_table 22 (codes "waybill2") (key_column (codes "awb") Integer
     ∷ column_of (codes "goods") Text ∷ column_of (codes "notified") Integer
     ∷ column_of (codes "since") Integer ∷ [])
 
--- the schema once the last of these tables is made
+-- the schema after the last of these tables is made
 abbrev pub no_schema : Schema
 no_schema = record { tables = []; indexes = []; views = [] }
 
@@ -267,7 +266,7 @@ counts_made = record {
   views = [];
 }
 
--- the tables of both versions, and more of them
+-- the tables of both versions, and more
 abbrev pub schema_with : List Table → Schema
 schema_with more = record {
   tables = station ∷ waybill ∷ stock ∷ flight ∷ moves ∷ expected ∷ part ∷ trail ∷ outbox ∷ kept_key
@@ -281,6 +280,6 @@ schema_with more = record {
 abbrev pub old_schema : Schema
 old_schema = schema_with []
 
--- and that of a file of version 2
+-- the schema of a file of version 2
 abbrev pub station_schema : Schema
 station_schema = schema_with (waybill2 ∷ [])

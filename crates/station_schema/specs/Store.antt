@@ -1,24 +1,22 @@
--- What a store of tables shows, and what a call does to it.
+-- The view of a store of tables, and the effect of calls on it.
 use Rattle.std.specs.Prelude.{◌≡◌, ◌⊎◌, Bool, true, false}
 use Rattle.station_schema.specs.Tables.{Tables}
 
 pub record View : Type 1 where
-  -- as the transaction sees them, and as the last commit left them; they say nothing once the store
-  -- is shut
+  -- as the transaction sees them, and as the last commit left them; undefined once the store is
+  -- shut
   pub now : Tables
   pub committed : Tables
   pub in_transaction : Bool
   pub is_open : Bool
-  -- so far the disk has returned what was written
+  -- the disk is clean: it has returned what was written so far
   pub IsClean : Type 0
-  -- the premise of what is said of values: it is clean, and its tables are declared as a new
-  -- station declares them
+  -- the premise for values: it is clean, and its tables are declared as a new station declares them
   pub IsSound : Type 0
-  -- what an open after a crash at this moment may find
+  -- the tables that an opening after a crash at this moment may find
   pub may_leave : Tables → Type 0
 
--- what a store shows: what the transaction sees, what the last commit left, and whether a
--- transaction is open
+-- the tables in the transaction, those of the last commit, and whether a transaction is open
 pub record Seen : Type 0 where
   pub now : Tables
   pub committed : Tables
@@ -28,18 +26,16 @@ pub record Seen : Type 0 where
 abbrev pub at_rest : Tables → Seen
 at_rest t = record { now = t; committed = t; in_transaction = false }
 
--- in a transaction that has come so far
 abbrev pub inside : Tables → Tables → Seen
 inside before t = record { now = t; committed = before; in_transaction = true }
 
--- it is open and shows these
 pub record Displays (v : View) (seen : Seen) : Type 0 where
   pub is_open : v.is_open ≡ true
   pub now_is : v.now ≡ seen.now
   pub committed_is : v.committed ≡ seen.committed
   pub mode : v.in_transaction ≡ seen.in_transaction
 
--- it does so as long as the disk has returned what was written
+-- it displays this as long as the disk is clean
 abbrev pub IsShowing : View → Seen → Type 0
 IsShowing v seen = v.IsSound → Displays v seen
 
@@ -49,22 +45,22 @@ pub record IsAtRest (v : View) : Type 0 where
   pub same : v.now ≡ v.committed
 
 module _ (old new : View) where
-  -- whatever a call returns: no fault is forgotten, what was sound and is clean is sound, and a
-  -- crash leaves what it left before
+  -- whatever a call returns: faults stay recorded, what was sound and is clean is sound, and the
+  -- crash states are those from before
   pub record Survives : Type 0 where
     pub clean : new.IsClean → old.IsClean
     pub still : old.IsSound → new.IsClean → new.IsSound
     pub sound : new.IsSound → old.IsSound
     pub crash : new.IsSound → (t : Tables) → new.may_leave t → old.may_leave t
 
-  -- a commit may leave what the transaction saw
+  -- a commit may leave the tables of the transaction
   pub record MayCommit : Type 0 where
     pub clean : new.IsClean → old.IsClean
     pub still : old.IsSound → new.IsClean → new.IsSound
     pub sound : new.IsSound → old.IsSound
     pub crash : new.IsSound → (t : Tables) → new.may_leave t → old.may_leave t ⊎ (t ≡ old.now)
 
-  -- the store was open and is, and shows these
+  -- the store was open and still is, with these tables
   pub record Shows (now committed : Tables) (in_transaction : Bool) : Type 0 where
     pub was_open : old.is_open ≡ true
     pub is_open : new.is_open ≡ true

@@ -1,5 +1,5 @@
--- The tables of a station as typed rows: a list where SQLite is given the key as an id, and a map
--- where the key is of columns.
+-- The tables of a station as typed rows: a list if SQLite gets the key as a rowid, and a map if the
+-- key has columns.
 use Rattle.std.specs.Prelude.{◌≡◌, ◌==◌, ℤ, pos, ℕ, List, [], ◌∷◌, map, MatchBool}
 use Rattle.sqlite.specs.declared.types.Value.TheVariants.{Null, Int, Text}
 use Rattle.sqlite.specs.Order.{Row, column}
@@ -17,9 +17,8 @@ use Rattle.sqlite_keyed.proofs.SortLemmas.{pair_cmp}
 use Rattle.row_laws.specs.Columns.{AreEntries, AreListed}
 use Rattle.station_schema.specs.Schema.{old_schema, station_schema}
 
--- Of each table: a row (where the key is of columns, apart from the key), the row as it is stored,
--- and back. A row that is stored begins with its rowid; SQLite keeps NULL in the place of an
--- INTEGER PRIMARY KEY.
+-- For each table: a row (without a key of columns), the stored row, and the conversion back. A
+-- stored row begins with its rowid; SQLite stores NULL instead of an INTEGER PRIMARY KEY.
 
 -- ---- station
 
@@ -76,7 +75,7 @@ old_waybill_in r = record {
 
 -- ---- waybill2
 
--- a row of `waybill2`: `since` is the day on which it was last declared, or 0 where none is known
+-- a row of `waybill2`: `since` is the day of its last declaration, or 0 if unknown
 pub record Waybill : Type 0 where
   pub awb : ℤ
   pub origin : List ℕ
@@ -108,7 +107,7 @@ waybill_in r = record {
 
 -- ---- stock
 
--- a row of `stock`, apart from its key
+-- a row of `stock`, without its key
 pub record Stock : Type 0 where
   pub high : ℤ
   pub holder : ℤ
@@ -132,12 +131,11 @@ stock_in r = (
 
 -- ---- flight
 
--- a row of `flight`, apart from its key
+-- a row of `flight`, without its key
 pub record Flight : Type 0 where
   pub unload : List ℕ
   pub closed : ℤ
 
--- flight and day
 abbrev pub FlightKey : Type 0
 FlightKey = List ℕ × ℤ
 
@@ -191,7 +189,7 @@ move_in r = record {
 
 -- ---- expected
 
--- a row of `expected`, apart from its key
+-- a row of `expected`, without its key
 pub record Expected : Type 0 where
   pub pieces : ℤ
   pub tenths : ℤ
@@ -271,7 +269,7 @@ message_in r = record {
 
 -- ---- kept_key
 
--- a row of `kept_key`, apart from its key
+-- a row of `kept_key`, without its key
 pub record Kept : Type 0 where
   pub command : List ℕ
   pub count : ℤ
@@ -301,7 +299,7 @@ kept_text_in r = (bytes_of (column r 1), int_of (column r 2))
 
 -- ---- counts
 
--- a row of `counts`, apart from its key
+-- a row of `counts`, without its key
 pub record Count : Type 0 where
   pub pieces : ℤ
   pub tenths : ℤ
@@ -324,7 +322,7 @@ count_in r = (
 
 -- ---- build
 
--- a row of `build`, apart from its key
+-- a row of `build`, without its key
 pub record Build : Type 0 where
   pub pieces : ℤ
   pub tenths : ℤ
@@ -347,7 +345,7 @@ build_in r = (
 
 -- ---- all tables
 
--- the rows of each table, as they lie in its tree
+-- the rows of each table, as stored in its tree
 pub record TreeRows : Type 0 where
   pub stations : List Row
   pub old_waybills : List Row
@@ -382,7 +380,6 @@ rows_in db = record {
   builds = db 20;
 }
 
--- and what they stand for
 pub record Tables : Type 0 where
   pub stations : List Station
   pub old_waybills : List OldWaybill
@@ -420,7 +417,7 @@ tables_in r = record {
 abbrev pub tables_of : Trees → Tables
 tables_of db = tables_in (rows_in db)
 
--- each row of the table with this tree is typed, and keys come once
+-- each row of the table with this tree is typed, and keys occur once
 abbrev pub IsTyped : ℕ → List Row → Type 0
 IsTyped t rows =
     MatchBool (t == 0) (AreListed station_id station_row station_in rows)
@@ -443,7 +440,7 @@ AreTyped db = AllByRecursion (λ (table : Table). IsTyped table.tree (db table.t
 
 -- ---- a file of version 1
 
--- one of its waybills as one of `waybill2`, with no day
+-- a waybill of version 1 as one of `waybill2`, without its day
 abbrev pub undated : OldWaybill → Waybill
 undated w = record {
   awb = w.awb;
@@ -456,7 +453,7 @@ undated w = record {
   since = pos 0;
 }
 
--- the tables of such trees: there is no `waybill2`
+-- the tables of a file of version 1: there is no `waybill2`
 abbrev pub old_tables_of : Trees → Tables
 old_tables_of db = tables_in (record (rows_in db) { waybills = [] })
 
@@ -464,18 +461,18 @@ old_tables_of db = tables_in (record (rows_in db) { waybills = [] })
 abbrev pub raised : List Station → List Station
 raised stations = update_where (λ s. int_eq (station_id s) (pos 1)) (λ s. record s { version = pos 2 }) stations
 
--- the tables of version 2 that those of version 1 become
+-- the tables of version 2 after an upgrade
 abbrev pub upgraded : Tables → Tables
 upgraded t = record t { stations = raised t.stations; old_waybills = []; waybills = map undated t.old_waybills }
 
--- the database has the tables of such a station, and each row of them is typed
+-- the database has the tables of such a station, with typed rows
 pub record IsOldStation (db : Database) : Type 0 where
   pub schema : db.schema ≡ old_schema
   pub typed : AllByRecursion (λ (table : Table). IsTyped table.tree (db.trees table.tree)) old_schema.tables
 
 -- ---- a station
 
--- the database has a station's tables, and each row of them is typed
+-- the database has a station's tables, with typed rows
 pub record IsStation (db : Database) : Type 0 where
   pub schema : db.schema ≡ station_schema
   pub typed : AreTyped db.trees

@@ -7,7 +7,7 @@ ghost use Rattle.station_schema.specs.Beside.{IsOneStep};
 use crate::declarations::DECLARATIONS;
 use sqlite::{Alter, Connection, Error, Transaction, params};
 
-/// Makes the tables and the index, in a transaction.
+/// Makes the tables and the index inside a transaction.
 fn declare<S: Alter>(tables: &mut Transaction<'_, S>) -> Result<(), Error>
     ensures same_reference { tables.new.conn.ghost_name ≡ tables.old.conn.ghost_name }
     ensures kept { HasCleanDisk (state S.Store tables.new.conn.now)
@@ -24,8 +24,8 @@ fn declare<S: Alter>(tables: &mut Transaction<'_, S>) -> Result<(), Error>
     Ok(())
 }
 
-/// Makes the tables of a new station beside other tables, in one transaction. Where it fails the
-/// connection is back outside a transaction and, while it is open, at the last commit.
+/// Makes the tables of a new station, with other tables in the database, in one transaction. If it
+/// fails, the connection is outside a transaction and, if it is open, at the last commit.
 pub fn create_beside<S: Alter>(conn: &mut Connection<S>, airport: &str) -> Result<(), Error>
     requires { conn.old.in_transaction ≡ false }
     ensures undone { HasCleanDisk (state S.Store conn.new) → IsSettled (state S.Store conn.old)

@@ -7,7 +7,7 @@ use sqlite_schema::schema::{Column, Kind};
 use sqlite_value::keys::Collation;
 use sqlite_value::value::Value;
 
-/// Whether the column has this name and type, in a STRICT table, and is NOT NULL.
+/// Returns whether the column has this name and type, in a STRICT table, and is NOT NULL.
 fn is_typed(column: &Column, name: &str, kind: Kind) -> bool
     ensures on { IsTrue result → column.now ≡ column_of name.now kind }
     ensures back { column.now ≡ column_of name.now kind → result ≡ true }
@@ -24,7 +24,7 @@ fn is_typed(column: &Column, name: &str, kind: Kind) -> bool
     matches!(&column.default, Value::Null)
 }
 
-/// Whether the column is the INTEGER PRIMARY KEY of a STRICT table, and has this name.
+/// Returns whether the column is the INTEGER PRIMARY KEY of a STRICT table, with this name.
 pub(crate) fn is_key(column: &Column, name: &str) -> bool
     ensures on { IsTrue result → column.now ≡ key_column name.now Integer }
     ensures back { column.now ≡ key_column name.now Integer → result ≡ true }
@@ -41,7 +41,7 @@ pub(crate) fn is_key(column: &Column, name: &str) -> bool
     matches!(&column.default, Value::Null)
 }
 
-/// Whether these are the columns, in this order, and each is NOT NULL.
+/// Returns whether these are the columns, in this order, and each is NOT NULL.
 pub(crate) fn are_columns(columns: &[Column], wanted: &[(&str, Kind)]) -> bool
     ensures on { IsTrue result → columns.now ≡ map column_as wanted.now }
     ensures back { columns.now ≡ map column_as wanted.now → result ≡ true }

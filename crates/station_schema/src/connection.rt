@@ -7,8 +7,8 @@ ghost use Rattle.station_schema.specs.Own.{IsOwn, IsOldOwn, LiesInOrder};
 use crate::schema::is_declared;
 use sqlite::{Alter, Connection};
 
-/// Whether the tables of a connection are declared as a new station declares them. It runs no
-/// statement and takes no memory.
+/// Returns whether the tables of a connection are declared as a new station declares them. It runs
+/// no statement and allocates nothing.
 pub fn has_station<S: Alter>(conn: &Connection<S>) -> bool
     ensures declared { IsTrue result ↔ (state S.Store conn.now).now.schema ≡ station_schema }
     ensures own { IsTrue (state S.Store conn.now).is_open
@@ -20,8 +20,8 @@ pub fn has_station<S: Alter>(conn: &Connection<S>) -> bool
     is_declared(conn.schema())
 }
 
-/// The law that an open connection at rest, with the schema of a station of version 1 or with trees
-/// out of which no other schema is read, shows the tables of one.
+/// An open connection at rest, with the schema of a station of version 1 or with trees that allow
+/// no other schema, shows the tables of one.
 pub fn shows_old_station<S: Alter>(conn: &Connection<S>)
     ensures schema { IsTrue (state S.Store conn.now).is_open
         → IsOldOwn (state S.Store conn.now).now.trees

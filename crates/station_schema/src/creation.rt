@@ -173,7 +173,7 @@ fn insert_station<S: Alter>(conn: &mut Connection<S>, airport: &str) -> Result<u
     )
 }
 
-/// Makes the station, the waybills and the stock, in a transaction.
+/// Makes the tables for the station, the waybills and the stock, inside a transaction.
 fn create_desk<S: Alter>(conn: &mut Connection<S>) -> Result<(), Error>
     ensures made { HasCleanDisk (state S.Store conn.new) → IsMade no_schema (state S.Store conn.old)
         → Makes (state S.Store conn.old) (state S.Store conn.new) result stock_made }
@@ -186,7 +186,7 @@ fn create_desk<S: Alter>(conn: &mut Connection<S>) -> Result<(), Error>
     Ok(())
 }
 
-/// Makes the flights and the moves, in a transaction.
+/// Makes the tables for the flights and the moves, inside a transaction.
 fn create_book<S: Alter>(conn: &mut Connection<S>) -> Result<(), Error>
     ensures made { HasCleanDisk (state S.Store conn.new)
         → IsMade stock_made (state S.Store conn.old)
@@ -200,7 +200,7 @@ fn create_book<S: Alter>(conn: &mut Connection<S>) -> Result<(), Error>
     Ok(())
 }
 
-/// Makes the tables of what manifests and status messages say, in a transaction.
+/// Makes the tables for manifests and status messages, inside a transaction.
 fn create_notices<S: Alter>(conn: &mut Connection<S>) -> Result<(), Error>
     ensures made { HasCleanDisk (state S.Store conn.new)
         → IsMade moves_indexed (state S.Store conn.old)
@@ -214,7 +214,7 @@ fn create_notices<S: Alter>(conn: &mut Connection<S>) -> Result<(), Error>
     Ok(())
 }
 
-/// Makes the outbox and what was accepted, in a transaction.
+/// Makes the tables for the outbox and accepted inputs, inside a transaction.
 fn create_replies<S: Alter>(conn: &mut Connection<S>) -> Result<(), Error>
     ensures made { HasCleanDisk (state S.Store conn.new)
         → IsMade trail_made (state S.Store conn.old)
@@ -228,7 +228,7 @@ fn create_replies<S: Alter>(conn: &mut Connection<S>) -> Result<(), Error>
     Ok(())
 }
 
-/// Makes the running counts, and the waybills of version 2, in a transaction.
+/// Makes the tables for the running counts and the waybills of version 2, inside a transaction.
 fn create_sums<S: Alter>(conn: &mut Connection<S>) -> Result<(), Error>
     ensures made { HasCleanDisk (state S.Store conn.new)
         → IsMade kept_text_made (state S.Store conn.old)
@@ -242,7 +242,7 @@ fn create_sums<S: Alter>(conn: &mut Connection<S>) -> Result<(), Error>
     Ok(())
 }
 
-/// Makes the tables of the cargo, in a transaction.
+/// Makes the tables of the cargo, inside a transaction.
 fn create_cargo<S: Alter>(conn: &mut Connection<S>) -> Result<(), Error>
     ensures made { HasCleanDisk (state S.Store conn.new) → IsMade no_schema (state S.Store conn.old)
         → Makes (state S.Store conn.old) (state S.Store conn.new) result trail_made }
@@ -255,7 +255,7 @@ fn create_cargo<S: Alter>(conn: &mut Connection<S>) -> Result<(), Error>
     Ok(())
 }
 
-/// Makes all tables, in a transaction.
+/// Makes all tables, inside a transaction.
 fn create_tables<S: Alter>(conn: &mut Connection<S>) -> Result<(), Error>
     ensures made { HasCleanDisk (state S.Store conn.new) → IsMade no_schema (state S.Store conn.old)
         → Makes (state S.Store conn.old) (state S.Store conn.new) result station_schema }
@@ -268,7 +268,7 @@ fn create_tables<S: Alter>(conn: &mut Connection<S>) -> Result<(), Error>
     Ok(())
 }
 
-/// Makes the tables and the one row of `station`, in a transaction.
+/// Makes the tables and the row of `station`, inside a transaction.
 fn fill_tables<S: Alter>(conn: &mut Connection<S>, airport: &str) -> Result<(), Error>
     ensures made { HasCleanDisk (state S.Store conn.new) → IsMade no_schema (state S.Store conn.old)
         → Fills (state S.Store conn.old) (state S.Store conn.new) result airport.now }
@@ -293,9 +293,9 @@ fn commit_tables<S: Alter>(conn: &mut Connection<S>, airport: &str) -> Result<()
     Ok(())
 }
 
-/// Makes the tables of a new station in a store that has none, in one transaction. On error the
-/// connection is back outside a transaction and, while it is open, at the last commit. It fails
-/// where a transaction is open, and where the store fails.
+/// Makes the tables of a new station in an empty store, in one transaction. If it fails, the
+/// connection is outside a transaction and, if it is open, at the last commit. It fails if a
+/// transaction is open, or the store fails.
 pub fn create_schema<S: Alter>(conn: &mut Connection<S>, airport: &str) -> Result<(), Error>
     ensures made { HasCleanDisk (state S.Store conn.new) → IsVacant S.Store conn.old
         → OnOk result (IsFounded (state S.Store conn.new) airport.now) }

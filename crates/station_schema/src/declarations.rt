@@ -1,6 +1,6 @@
 //! The statements that make the tables of a new station, and the index of its moves.
 
-/// The station: its airport, the version of its tables, and the last message that is confirmed.
+/// The station: its airport, the version of its tables, and the last confirmed message.
 pub const STATION: &str =
     "CREATE TABLE station (id INTEGER PRIMARY KEY, airport TEXT NOT NULL, version INTEGER NOT NULL, confirmed INTEGER NOT NULL) STRICT";
 
@@ -12,7 +12,7 @@ pub const WAYBILL: &str =
 pub const STOCK: &str =
     "CREATE TABLE stock (prefix INTEGER NOT NULL, low INTEGER NOT NULL, high INTEGER NOT NULL, holder INTEGER NOT NULL, agent TEXT NOT NULL, PRIMARY KEY (prefix, low)) STRICT";
 
-/// The outbound flights that are noted.
+/// The noted outbound flights.
 pub const FLIGHT: &str =
     "CREATE TABLE flight (flight TEXT NOT NULL, day INTEGER NOT NULL, unload TEXT NOT NULL, closed INTEGER NOT NULL, PRIMARY KEY (flight, day)) STRICT";
 
@@ -23,7 +23,7 @@ pub const MOVES: &str =
 /// The index of the movement book by waybill.
 pub const MOVES_AWB: &str = "CREATE INDEX moves_awb ON moves (awb)";
 
-/// What flights are to bring.
+/// The expectations on inbound flights.
 pub const EXPECTED: &str =
     "CREATE TABLE expected (flight TEXT NOT NULL, day INTEGER NOT NULL, awb INTEGER NOT NULL, pieces INTEGER NOT NULL, tenths INTEGER NOT NULL, checked INTEGER NOT NULL, PRIMARY KEY (flight, day, awb)) STRICT";
 
@@ -35,11 +35,11 @@ pub const PART: &str =
 pub const TRAIL: &str =
     "CREATE TABLE trail (number INTEGER PRIMARY KEY, awb INTEGER NOT NULL, line TEXT NOT NULL) STRICT";
 
-/// The messages that were written.
+/// The messages sent.
 pub const OUTBOX: &str =
     "CREATE TABLE outbox (number INTEGER PRIMARY KEY, body TEXT NOT NULL) STRICT";
 
-/// The commands that were accepted under their keys, with their counts.
+/// The commands accepted under their keys, with their counts.
 pub const KEPT_KEY: &str =
     "CREATE TABLE kept_key (id TEXT NOT NULL, command TEXT NOT NULL, count INTEGER NOT NULL, PRIMARY KEY (id)) STRICT";
 
@@ -47,19 +47,19 @@ pub const KEPT_KEY: &str =
 pub const KEPT_TEXT: &str =
     "CREATE TABLE kept_text (body TEXT NOT NULL, count INTEGER NOT NULL, PRIMARY KEY (body)) STRICT";
 
-/// The balances of waybills by place.
+/// The balances of waybills, by place.
 pub const COUNTS: &str =
     "CREATE TABLE counts (awb INTEGER NOT NULL, place INTEGER NOT NULL, pieces INTEGER NOT NULL, tenths INTEGER NOT NULL, PRIMARY KEY (awb, place)) STRICT";
 
-/// What is built on flights.
+/// The amounts built on flights.
 pub const BUILD: &str =
     "CREATE TABLE build (flight TEXT NOT NULL, day INTEGER NOT NULL, awb INTEGER NOT NULL, pieces INTEGER NOT NULL, tenths INTEGER NOT NULL, PRIMARY KEY (flight, day, awb)) STRICT";
 
-/// The waybills, each with the day on which it was last declared.
+/// The waybills, each with the day of its last declaration.
 pub const WAYBILL2: &str =
     "CREATE TABLE waybill2 (awb INTEGER PRIMARY KEY, origin TEXT NOT NULL, destination TEXT NOT NULL, pieces INTEGER NOT NULL, tenths INTEGER NOT NULL, goods TEXT NOT NULL, notified INTEGER NOT NULL, since INTEGER NOT NULL) STRICT";
 
-/// All of them, in the order in which they are carried out.
+/// All statements, in the order in which they run.
 pub(crate) const DECLARATIONS: [&str; 15] = [
     STATION, WAYBILL, STOCK, FLIGHT, MOVES, MOVES_AWB, EXPECTED, PART, TRAIL, OUTBOX, KEPT_KEY,
     KEPT_TEXT, COUNTS, BUILD, WAYBILL2,

@@ -4,8 +4,8 @@ ghost use Rattle.station_schema.specs.Schema.{key_index, stock_index, flight_ind
 use sqlite_schema::schema::Index;
 use sqlite_value::keys::Order;
 
-/// Whether the index has this number and this name, is of the columns at these places in the table
-/// with that number, and is one that SQLite makes for a key.
+/// Returns whether the index has this number and name, and is the one that SQLite makes for a key
+/// of the columns at these places in the table.
 fn is_key_index(index: &Index, tree: u32, table: u32, places: &[usize], name: &str) -> bool
     ensures on { IsTrue result → index.now ≡ key_index tree table places.now name.now }
     ensures back { index.now ≡ key_index tree table places.now name.now → result ≡ true }
@@ -13,7 +13,8 @@ fn is_key_index(index: &Index, tree: u32, table: u32, places: &[usize], name: &s
     is_index(index, tree, table, places, name) && index.is_unique
 }
 
-/// The same, whether a key stands in it once or more often.
+/// Returns whether the index has this number and name, of the columns at these places, unique or
+/// not.
 fn is_index(index: &Index, tree: u32, table: u32, places: &[usize], name: &str) -> bool
     ensures on { IsTrue result
         → index.now
@@ -29,7 +30,6 @@ fn is_index(index: &Index, tree: u32, table: u32, places: &[usize], name: &str) 
         && index.order == Order::PLAIN
 }
 
-/// Whether the index is that of `stock` as a new station has it.
 fn is_stock_index(index: &Index) -> bool
     ensures on { IsTrue result → index.now ≡ stock_index }
     ensures back { index.now ≡ stock_index → result ≡ true }
@@ -37,7 +37,6 @@ fn is_stock_index(index: &Index) -> bool
     is_key_index(index, 3, 2, &[1, 2], "sqlite_autoindex_stock_1")
 }
 
-/// Whether the index is that of `flight` as a new station has it.
 fn is_flight_index(index: &Index) -> bool
     ensures on { IsTrue result → index.now ≡ flight_index }
     ensures back { index.now ≡ flight_index → result ≡ true }
@@ -45,7 +44,6 @@ fn is_flight_index(index: &Index) -> bool
     is_key_index(index, 5, 4, &[1, 2], "sqlite_autoindex_flight_1")
 }
 
-/// Whether the index is that of `moves` as a new station has it.
 fn is_moves_index(index: &Index) -> bool
     ensures on { IsTrue result → index.now ≡ moves_index }
     ensures back { index.now ≡ moves_index → result ≡ true }
@@ -53,7 +51,6 @@ fn is_moves_index(index: &Index) -> bool
     is_index(index, 7, 6, &[2], "moves_awb") && !index.is_unique
 }
 
-/// Whether the index is that of `expected` as a new station has it.
 fn is_expected_index(index: &Index) -> bool
     ensures on { IsTrue result → index.now ≡ expected_index }
     ensures back { index.now ≡ expected_index → result ≡ true }
@@ -61,7 +58,6 @@ fn is_expected_index(index: &Index) -> bool
     is_key_index(index, 9, 8, &[1, 2, 3], "sqlite_autoindex_expected_1")
 }
 
-/// Whether the index is that of `part` as a new station has it.
 fn is_part_index(index: &Index) -> bool
     ensures on { IsTrue result → index.now ≡ part_index }
     ensures back { index.now ≡ part_index → result ≡ true }
@@ -69,7 +65,6 @@ fn is_part_index(index: &Index) -> bool
     is_key_index(index, 11, 10, &[1, 2, 3, 4], "sqlite_autoindex_part_1")
 }
 
-/// Whether the index is that of `kept_key` as a new station has it.
 fn is_kept_key_index(index: &Index) -> bool
     ensures on { IsTrue result → index.now ≡ kept_key_index }
     ensures back { index.now ≡ kept_key_index → result ≡ true }
@@ -77,7 +72,6 @@ fn is_kept_key_index(index: &Index) -> bool
     is_key_index(index, 15, 14, &[1], "sqlite_autoindex_kept_key_1")
 }
 
-/// Whether the index is that of `kept_text` as a new station has it.
 fn is_kept_text_index(index: &Index) -> bool
     ensures on { IsTrue result → index.now ≡ kept_text_index }
     ensures back { index.now ≡ kept_text_index → result ≡ true }
@@ -85,7 +79,6 @@ fn is_kept_text_index(index: &Index) -> bool
     is_key_index(index, 17, 16, &[1], "sqlite_autoindex_kept_text_1")
 }
 
-/// Whether the index is that of `counts` as a new station has it.
 fn is_counts_index(index: &Index) -> bool
     ensures on { IsTrue result → index.now ≡ counts_index }
     ensures back { index.now ≡ counts_index → result ≡ true }
@@ -93,7 +86,6 @@ fn is_counts_index(index: &Index) -> bool
     is_key_index(index, 19, 18, &[1, 2], "sqlite_autoindex_counts_1")
 }
 
-/// Whether the index is that of `build` as a new station has it.
 fn is_build_index(index: &Index) -> bool
     ensures on { IsTrue result → index.now ≡ build_index }
     ensures back { index.now ≡ build_index → result ≡ true }
@@ -101,7 +93,7 @@ fn is_build_index(index: &Index) -> bool
     is_key_index(index, 21, 20, &[1, 2, 3], "sqlite_autoindex_build_1")
 }
 
-/// Whether these are the indexes of a station, in the order in which it makes them.
+/// Returns whether these are the indexes of a station, in the order in which it makes them.
 pub(crate) fn are_indexes(indexes: &[Index]) -> bool
     ensures on { IsTrue result
         → indexes.now
@@ -122,7 +114,7 @@ pub(crate) fn are_indexes(indexes: &[Index]) -> bool
     }
 }
 
-/// Whether these are the indexes of a station behind that of `moves`.
+/// Returns whether these are the indexes of a station after that of `moves`.
 fn are_later_indexes(indexes: &[Index]) -> bool
     ensures on { IsTrue result
         → indexes.now
@@ -143,7 +135,6 @@ fn are_later_indexes(indexes: &[Index]) -> bool
     }
 }
 
-/// Whether these are the last indexes of a station.
 fn are_last_indexes(indexes: &[Index]) -> bool
     ensures on { IsTrue result → indexes.now ≡ kept_text_index ∷ counts_index ∷ build_index ∷ [] }
     ensures back { indexes.now ≡ kept_text_index ∷ counts_index ∷ build_index ∷ [] → result ≡ true }

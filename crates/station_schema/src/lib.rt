@@ -1,8 +1,7 @@
 //! The tables of a station in `sqlite`: their schema, their rows as typed values, the calls that
-//! make them, and whether a database that was found has them, declared as a new station declares
-//! them.
+//! make them, and the test whether a database declares them like a new station.
 //!
-//! The crates that read and write a table stand on this one.
+//! The crates that read and write tables build on this one.
 #![tactic(auto)]
 
 mod beside;

@@ -6,7 +6,7 @@ ghost use Rattle.station_schema.specs.Connection.{connection_view, IsVacant};
 use sqlite::{Connection, MemStore};
 use std::alloc::{AllocError, Global};
 
-/// A connection to a store in memory that has no table. It fails only where memory runs out.
+/// Returns a connection to an empty store in memory.
 pub fn open_memory(alloc: Global) -> Result<Connection<MemStore>, AllocError>
     ensures vacant { IfOk result (λ conn. IsVacant over_memory conn) }
     ensures open { IfOk result (λ conn. (connection_view over_memory conn).is_open ≡ true) }

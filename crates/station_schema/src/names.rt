@@ -3,7 +3,6 @@ ghost use Rattle.station_schema.specs.Names.{is_taken, takes_name};
 
 use sqlite_schema::schema::Schema;
 
-/// Whether a table, an index or a view has a name, whatever the case of its ASCII letters.
 fn is_taken(schema: &Schema, name: &str) -> bool
     ensures { result ≡ is_taken schema.now name.now }
 {
@@ -13,8 +12,8 @@ fn is_taken(schema: &Schema, name: &str) -> bool
         || schema.view_named(name).is_some()
 }
 
-/// Whether a table, an index or a view has one of the names that a new station gives, whatever the
-/// case of its ASCII letters.
+/// Returns whether a table, an index or a view has one of a new station's names, in any case of
+/// ASCII letters.
 pub fn takes_name(schema: &Schema) -> bool
     ensures { result ≡ takes_name schema.now }
 {

@@ -4,12 +4,12 @@ ghost use Rattle.station_schema.specs.Own.{LiesInOrder};
 
 use sqlite_disk::Disk;
 
-/// The law that the rows of tables in memory lie in order.
+/// The rows of tables in memory are in order.
 pub fn memory_lies_in_order()
     ensures { LiesInOrder over_memory }
 {}
 
-/// The law that the rows of tables in files lie in order, on every disk.
+/// The rows of tables in files are in order, on every disk.
 pub fn files_lie_in_order<D: Disk>()
     ensures { LiesInOrder (over_files {g = D.Disk}) }
 {}

@@ -5,8 +5,7 @@ ghost use Rattle.station_schema.specs.Schema.{station_schema};
 
 use sqlite::{Alter, Connection};
 
-/// The law that an open connection with the schema of a station shows trees out of which no other
-/// schema is read.
+/// An open connection with the schema of a station shows trees that allow no other schema.
 pub fn shows_own<S: Alter>(conn: &Connection<S>)
     ensures { IsTrue (state S.Store conn.now).is_open
         → (state S.Store conn.now).now.schema ≡ station_schema

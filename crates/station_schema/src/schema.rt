@@ -8,7 +8,7 @@ use crate::tables::{
 };
 use sqlite_schema::schema::{Schema, Table};
 
-/// Whether these are the tables of a station, in the order in which it makes them.
+/// Returns whether these are the tables of a station, in the order in which it makes them.
 fn are_tables(tables: &[Table]) -> bool
     ensures on { IsTrue result
         → tables.now
@@ -31,7 +31,7 @@ fn are_tables(tables: &[Table]) -> bool
     }
 }
 
-/// Whether these are the tables of a station behind `moves`.
+/// Returns whether these are the tables of a station after `moves`.
 fn are_later_tables(tables: &[Table]) -> bool
     ensures on { IsTrue result
         → tables.now
@@ -52,7 +52,6 @@ fn are_later_tables(tables: &[Table]) -> bool
     }
 }
 
-/// Whether these are the last tables of a station.
 fn are_last_tables(tables: &[Table]) -> bool
     ensures on { IsTrue result
         → tables.now ≡ kept_key ∷ kept_text ∷ counts ∷ build ∷ waybill2 ∷ [] }
@@ -71,8 +70,8 @@ fn are_last_tables(tables: &[Table]) -> bool
     }
 }
 
-/// Whether the schema is that of a new station: its fourteen tables and their indexes, each with
-/// the columns, keys and number that a new station gives it, and nothing else.
+/// Returns whether the schema is that of a new station: its fourteen tables and their indexes, with
+/// the same columns, keys and numbers, and nothing else.
 pub fn is_declared(schema: &Schema) -> bool
     ensures on { IsTrue result → schema.now ≡ station_schema }
     ensures back { schema.now ≡ station_schema → result ≡ true }

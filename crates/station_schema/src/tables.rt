@@ -17,7 +17,6 @@ fn has_none(terms: &Terms) -> bool
     terms.roots.len() == 0
 }
 
-/// Whether no default reads the time.
 fn is_timeless(stamps: &Stamps) -> bool
     ensures on { IsTrue result → stamps.now ≡ record { places = []; terms = []; formats = [] } }
     ensures back { stamps.now ≡ record { places = []; terms = []; formats = [] } → result ≡ true }
@@ -31,7 +30,7 @@ fn is_timeless(stamps: &Stamps) -> bool
     stamps.formats.len() == 0
 }
 
-/// Whether the table has this name and this number, and no rule but its keys.
+/// Returns whether the table has this name and number, and no constraint except its keys.
 fn is_plain(table: &Table, name: &str, tree: u32) -> bool
     ensures on { IsTrue result
         → table.now
@@ -93,7 +92,7 @@ fn is_one_key(uniques: &[Items<usize>], places: &[usize]) -> bool
     uniques[0].as_slice() == places
 }
 
-/// Whether the key of the table is of the columns at these places, which stand in one index.
+/// Returns whether the key of the table has the columns at these places, in one index.
 fn is_keyed(table: &Table, places: &[usize]) -> bool
     ensures on { IsTrue result
         → (table.now.key ≡ None) × (table.now.primary ≡ places.now)
@@ -107,7 +106,7 @@ fn is_keyed(table: &Table, places: &[usize]) -> bool
     is_plain_order(table.orders.as_slice()) && is_one_key(table.uniques.as_slice(), places)
 }
 
-/// Whether the key of the table is its first column.
+/// Returns whether the key of the table is its first column.
 fn is_numbered(table: &Table) -> bool
     ensures on { IsTrue result
         → (table.now.key ≡ Some 0) × (table.now.primary ≡ 0 ∷ []) × (table.now.orders ≡ [])
@@ -127,8 +126,8 @@ fn is_numbered(table: &Table) -> bool
     table.key == Some(0)
 }
 
-/// Whether the table has this name and this number, its key is of the columns at these places, and
-/// these are its columns.
+/// Returns whether the table has this name and number, the key of the columns at these places, and
+/// these columns.
 fn is_table_by(
     table: &Table,
     tree: u32,
@@ -147,8 +146,8 @@ fn is_table_by(
     are_columns(table.columns.as_slice(), wanted)
 }
 
-/// Whether the table has this name and this number, and its columns are the INTEGER PRIMARY KEY and
-/// then these.
+/// Returns whether the table has this name and number, and its columns are the INTEGER PRIMARY KEY
+/// and then these.
 fn is_keyed_table(table: &Table, tree: u32, name: &str, key: &str, wanted: &[(&str, Kind)]) -> bool
     ensures on { IsTrue result
         → table.now
@@ -166,7 +165,7 @@ fn is_keyed_table(table: &Table, tree: u32, name: &str, key: &str, wanted: &[(&s
     }
 }
 
-/// Whether the table is `station` as a new station has it.
+/// Returns whether the table is `station` as a new station declares it.
 pub(crate) fn is_station(table: &Table) -> bool
     ensures on { IsTrue result → table.now ≡ station }
     ensures back { table.now ≡ station → result ≡ true }
@@ -184,7 +183,6 @@ pub(crate) fn is_station(table: &Table) -> bool
     )
 }
 
-/// Whether the table is `waybill` as a new station has it.
 pub(crate) fn is_waybill(table: &Table) -> bool
     ensures on { IsTrue result → table.now ≡ waybill }
     ensures back { table.now ≡ waybill → result ≡ true }
@@ -205,7 +203,6 @@ pub(crate) fn is_waybill(table: &Table) -> bool
     )
 }
 
-/// Whether the table is `waybill2` as a new station has it.
 pub(crate) fn is_waybill2(table: &Table) -> bool
     ensures on { IsTrue result → table.now ≡ waybill2 }
     ensures back { table.now ≡ waybill2 → result ≡ true }
@@ -227,7 +224,6 @@ pub(crate) fn is_waybill2(table: &Table) -> bool
     )
 }
 
-/// Whether the table is `stock` as a new station has it.
 pub(crate) fn is_stock(table: &Table) -> bool
     ensures on { IsTrue result → table.now ≡ stock }
     ensures back { table.now ≡ stock → result ≡ true }
@@ -247,7 +243,6 @@ pub(crate) fn is_stock(table: &Table) -> bool
     )
 }
 
-/// Whether the table is `flight` as a new station has it.
 pub(crate) fn is_flight(table: &Table) -> bool
     ensures on { IsTrue result → table.now ≡ flight }
     ensures back { table.now ≡ flight → result ≡ true }
@@ -266,7 +261,6 @@ pub(crate) fn is_flight(table: &Table) -> bool
     )
 }
 
-/// Whether the table is `moves` as a new station has it.
 pub(crate) fn is_moves(table: &Table) -> bool
     ensures on { IsTrue result → table.now ≡ moves }
     ensures back { table.now ≡ moves → result ≡ true }
@@ -290,7 +284,6 @@ pub(crate) fn is_moves(table: &Table) -> bool
     )
 }
 
-/// Whether the table is `expected` as a new station has it.
 pub(crate) fn is_expected(table: &Table) -> bool
     ensures on { IsTrue result → table.now ≡ expected }
     ensures back { table.now ≡ expected → result ≡ true }
@@ -311,7 +304,6 @@ pub(crate) fn is_expected(table: &Table) -> bool
     )
 }
 
-/// Whether the table is `part` as a new station has it.
 pub(crate) fn is_part(table: &Table) -> bool
     ensures on { IsTrue result → table.now ≡ part }
     ensures back { table.now ≡ part → result ≡ true }
@@ -331,7 +323,6 @@ pub(crate) fn is_part(table: &Table) -> bool
     )
 }
 
-/// Whether the table is `trail` as a new station has it.
 pub(crate) fn is_trail(table: &Table) -> bool
     ensures on { IsTrue result → table.now ≡ trail }
     ensures back { table.now ≡ trail → result ≡ true }
@@ -345,7 +336,6 @@ pub(crate) fn is_trail(table: &Table) -> bool
     )
 }
 
-/// Whether the table is `outbox` as a new station has it.
 pub(crate) fn is_outbox(table: &Table) -> bool
     ensures on { IsTrue result → table.now ≡ outbox }
     ensures back { table.now ≡ outbox → result ≡ true }
@@ -353,7 +343,6 @@ pub(crate) fn is_outbox(table: &Table) -> bool
     is_keyed_table(table, 13, "outbox", "number", &[("body", Kind::Text)])
 }
 
-/// Whether the table is `kept_key` as a new station has it.
 pub(crate) fn is_kept_key(table: &Table) -> bool
     ensures on { IsTrue result → table.now ≡ kept_key }
     ensures back { table.now ≡ kept_key → result ≡ true }
@@ -371,7 +360,6 @@ pub(crate) fn is_kept_key(table: &Table) -> bool
     )
 }
 
-/// Whether the table is `kept_text` as a new station has it.
 pub(crate) fn is_kept_text(table: &Table) -> bool
     ensures on { IsTrue result → table.now ≡ kept_text }
     ensures back { table.now ≡ kept_text → result ≡ true }
@@ -385,7 +373,6 @@ pub(crate) fn is_kept_text(table: &Table) -> bool
     )
 }
 
-/// Whether the table is `counts` as a new station has it.
 pub(crate) fn is_counts(table: &Table) -> bool
     ensures on { IsTrue result → table.now ≡ counts }
     ensures back { table.now ≡ counts → result ≡ true }
@@ -404,7 +391,6 @@ pub(crate) fn is_counts(table: &Table) -> bool
     )
 }
 
-/// Whether the table is `build` as a new station has it.
 pub(crate) fn is_build(table: &Table) -> bool
     ensures on { IsTrue result → table.now ≡ build }
     ensures back { table.now ≡ build → result ≡ true }

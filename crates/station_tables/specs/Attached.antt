@@ -1,4 +1,4 @@
--- What is said of a store whose tables were found.
+-- Stores whose tables were found to be a station's.
 use Rattle.std.specs.Prelude.{◌≡◌, ⊤, Some, Result, Ok, Err}
 use Rattle.sqlite.specs.Effect.{Database}
 use Rattle.sqlite.specs.Held.{Held}
@@ -20,47 +20,46 @@ use Rattle.station_tables.specs.declared.fault.AttachFault.{AttachFault}
 use Rattle.station_tables.specs.declared.fault.AttachFault.TheVariants as fault
 use Rattle.station_tables.specs.declared.station.Station.{Station}
 
--- the database, read as of a version, is a station's, and this is the state that its tables mean
+-- the database, read as a version, is a station's, and its tables mean this state
 pub record IsStateOf (r : Reading) (s : State) : Type 0 where
   pub tables : Tables
   pub is_station : IsStationOf r tables
   pub means : meaning_of tables ≡ s
 
--- the same of the version that stations are made with
+-- the same for the current version
 abbrev pub IsStateIn : Database → State → Type 0
 IsStateIn db s = IsStateOf (read_as Second db) s
 
--- and of version 1, where no waybill has the day on which it was declared
+-- the same for version 1, in which no waybill has a day of declaration
 abbrev pub IsOldStateIn : Database → State → Type 0
 IsOldStateIn db s = IsStateOf (read_as First db) s
 
--- a state that the typed tables of a database mean
+-- the typed tables of a database mean the state
 pub record IsTypedState (db : Database) (s : State) : Type 0 where
   pub means : Means (tables_of db.trees) (Some s)
 
--- what is said of a station besides its rows is true of a state that its tables mean
+-- the findings besides the rows are true of a state that the tables mean
 pub record IsFoundIn (r : Reading) (found : FoundState) : Type 0 where
   pub state : State
   pub is_in : IsStateOf r state
   pub tells : Tells found is_in.tables
 
--- the database is a station's, and this is said of it; or why it isn't
+-- the database is a station's, with these findings; or the reason why it isn't
 abbrev pub IsJudged : Reading → Result FoundState Unfit → Type 0
 IsJudged r (Ok found) = IsFoundIn r found
 IsJudged r (Err why) = IsUnfit r why
 
--- the table of a file of version 1 in which these rows stand
+-- the table of a version 1 file that has these rows
 abbrev pub old_name : TableName → TableName
 old_name Waybill2 = Waybill
 old_name name = name
 
--- the table of this name is the first that isn't good, where the database is read as of a version
+-- this table is the first unlawful one, if the database is read as a version
 abbrev pub IsUnlawfulAt : FileVersion → Database → TableName → Type 0
 IsUnlawfulAt First db name = (audited : TableName) × (name ≡ old_name audited) × IsUnfit (read_as First db) (unfit.Unlawful audited)
 IsUnlawfulAt Second db name = IsUnfit (read_as Second db) (unfit.Unlawful name)
 
--- why a database is refused: that which `fault` names is so, and `Store` and `Memory` say nothing
--- of it
+-- the reason why a database is refused is true; `Store` and `Memory` guarantee nothing about it
 abbrev pub RefusesAs : FileVersion → Database → AttachFault → Type 0
 RefusesAs version db (fault.Unlawful name) = IsUnlawfulAt version db name
 RefusesAs version db fault.NoStation = IsUnfit (read_as version db) unfit.NoStation
@@ -78,6 +77,5 @@ IsBreakdown fault.Store = ⊤
 IsBreakdown fault.Memory = ⊤
 IsBreakdown _ = ⊥
 
--- the connection that a station stands on
 abbrev pub connection_in : {S : Type 0} {g : Ghosts S} → Station S g → Held S
 connection_in station = station.stored.store.store.conn

@@ -1,4 +1,4 @@
--- What each call over a file leaves. A caller that hands a call on cites its record.
+-- The effect of each call over a file, as records that a caller's contract can cite.
 use Rattle.std.specs.Prelude.{◌≡◌, ◌≢◌, ◌⊎◌, ◌↔◌, ℕ, Bool, true, false, IsTrue, Option, Some, None, Result, Err, IfOk, IfErr, OnOk, List}
 use Rattle.sqlite.specs.Held.{Held, state}
 use Rattle.sqlite.specs.State as connection
@@ -24,7 +24,7 @@ use Rattle.station_tables.specs.Attached.{connection_in, IsBreakdown, IsOldState
 use Rattle.station_tables.specs.Found.{Finds}
 use Rattle.station_tables.specs.Migrated.{HasMigrated, IsMigrated}
 
--- A new station was made over a connection, at an airport, or none was.
+-- The effect of `create`: a new station over a connection, or a fault.
 pub record HasMade {S : Type 0} (g : Ghosts S) (keeps : Station S g → State → Type 0) (is_sound : Station S g → Type 0) (is_broken : Station S g → Bool)
     (conn : Held S) (here : List ℕ) (opened : Result (Station S g) (Held S × AttachFault)) : Type 0 where
   pub free : OnOk opened (takes_name (state g conn).now.schema ≡ false)
@@ -33,18 +33,18 @@ pub record HasMade {S : Type 0} (g : Ghosts S) (keeps : Station S g → State �
   pub sound : IfOk opened (λ station. is_sound station → (connection_view g conn).IsSound)
   -- it keeps the opening state
   pub keeps_opening : IfOk opened (λ station. keeps station (opening here))
-  -- Occupied exactly where one of a new station's names is taken, and then nothing changed
+  -- Occupied exactly if one of a new station's names is taken, and then nothing changed
   pub inside : (connection_view g conn).in_transaction ≡ true → opened ≡ Err (conn, fault.Store)
   pub occupied : (connection_view g conn).in_transaction ≡ false
       → takes_name (state g conn).now.schema ≡ true → opened ≡ Err (conn, fault.Occupied)
   pub taken : IfErr opened (λ e. e.1 ≡ fault.Occupied → takes_name (state g conn).now.schema ≡ true)
   pub faults : IfErr opened (λ e. (e.1 ≡ fault.Occupied) ⊎ (e.1 ≡ fault.Store))
-  -- a crash leaves what it left before, or where the store was empty the opening station
+  -- the crash states are those from before or, if the store was empty, the opening station
   pub leaves : IfErr opened (λ e. IsVacant g conn → (connection_view g e.0).IsSound
       → (found : Option State)
       → Finds (connection_view g e.0) found → Finds (connection_view g conn) found ⊎ (IsVacant g conn × (found ≡ Some (opening here))))
-  -- beside other tables it leaves what it left before, or one database more, and a failure leaves
-  -- the last commit
+  -- with other tables they are those from before or one more database, and a failure leaves the
+  -- last commit
   pub step : IfErr opened (λ e. ¬ (IsVacant g conn) → IsOneStep (state g conn) (state g e.0))
   pub step_at_ok : IfOk opened (λ station. ¬ (IsVacant g conn)
       → IsOneStep (state g conn) (state g (connection_in station)))
@@ -52,54 +52,52 @@ pub record HasMade {S : Type 0} (g : Ghosts S) (keeps : Station S g → State �
       → IfErr opened (λ e. HasCleanDisk (state g e.0)
       → (connection_view g e.0).is_open ≡ true
       → IsUnchanged (connection_view g conn) (connection_view g e.0))
-  -- the same over the database, so that an opening knows the tables
+  -- the same for the database, so that an opening knows the tables
   pub survives : IfErr opened (λ e. Survives (state g conn) (state g e.0)
       (λ db. IsVacant g conn → IsFileOf db (opening here)))
 
--- The station that is there was found over a connection, or there is none.
+-- The effect of `attach`: the station found over a connection, or a fault.
 pub record HasFound {S : Type 0} (g : Ghosts S) (keeps : Station S g → State → Type 0) (is_sound : Station S g → Type 0) (is_broken : Station S g → Bool)
     (conn : Held S) (opened : Result (Station S g) (Held S × AttachFault)) : Type 0 where
   pub inside : (connection_view g conn).in_transaction ≡ true → opened ≡ Err (conn, fault.Store)
   pub works : IfOk opened (λ station. is_broken station ≡ false)
   pub sound : IfOk opened (λ station. is_sound station → (connection_view g conn).IsSound)
-  -- the tables are a station's of version 2, all of them lawful, and it keeps the state that they
-  -- mean
+  -- the tables are a station's of version 2 and lawful, and the station keeps their state
   pub found : IfOk opened (λ station. HasCleanDisk (state g (connection_in station)) → (s : State)
       × IsStateIn (state g conn).now s × keeps station s)
   pub own : IfOk opened (λ station. HasCleanDisk (state g (connection_in station))
       → IsOwn (state g conn).now.trees → are_declared station.stored.store.store ≡ true)
   pub typed : IfOk opened (λ station. is_sound station → (s : State)
       → IsStateIn (state g conn).now s → IsTypedState (state g conn).now s)
-  -- A fault names what is so. Where the tables are a station's and lawful, the store failed or
-  -- memory was out.
+  -- A fault is true of the tables. If they are a station's and lawful, the store failed or memory
+  -- ran out.
   pub refused : IfErr opened (λ e. HasCleanDisk (state g e.0) → Refuses (state g conn).now e.1)
   pub fit : IfErr opened (λ e. HasCleanDisk (state g e.0) → (s : State)
       → IsStateIn (state g conn).now s → IsBreakdown e.1)
   pub own_fit : IfErr opened (λ e. HasCleanDisk (state g e.0) → IsOwn (state g conn).now.trees
       → LiesInOrder g
       → (s : State) → IsTypedState (state g conn).now s → IsLawfulState s → IsBreakdown e.1)
-  -- a crash leaves what it left before
+  -- the crash states are those from before
   pub leaves : IfErr opened (λ e. (connection_view g e.0).IsSound → (found : Option State)
       → Finds (connection_view g e.0) found → Finds (connection_view g conn) found)
-  -- that a name is taken is no fault of an opening
   pub never : IfErr opened (λ e. e.1 ≢ fault.Occupied)
-  -- whatever is found, nothing is written; at Ok the connection shows what it showed
+  -- nothing is written in any case; at Ok the connection shows what it showed
   pub unwritten : IfOk opened (λ station.
       Survives (state g conn) (state g (connection_in station)) (λ _. ⊥))
   pub seen : IfOk opened (λ station. HasCleanDisk (state g (connection_in station))
       → connection.IsUnchanged (state g conn) (state g (connection_in station)))
   pub unwritten_at_err : IfErr opened (λ e. Survives (state g conn) (state g e.0) (λ _. ⊥))
-  -- at any fault but the store's no transaction is open, and the connection, if it is open, shows
-  -- what it showed
+  -- after any fault except the store's, no transaction is open, and an open connection shows what
+  -- it showed
   pub unmoved : (connection_view g conn).in_transaction ≡ false
       → IfErr opened (λ e. HasCleanDisk (state g e.0) → e.1 ≢ fault.Store
       → IsUndone (state g conn) (state g e.0))
 
--- A station gave its connection back: what `release` says of it.
+-- The effect of `release`: the station's connection is returned.
 pub record HasReleased {S : Type 0} {g : Ghosts S} (keeps : Station S g → State → Type 0) (is_sound : Station S g → Type 0)
     (may_find : Station S g → Option State → Type 0) (station : Station S g) (conn : Held S) : Type 0 where
   pub clean : HasCleanDisk (state g conn) → HasCleanDisk (state g (connection_in station))
-  -- what a crash may leave is as before, over the database: a station's own tables, if they were
+  -- the crash states are those from before, for the database: a station's own tables, if they were
   pub survives : Survives (state g (connection_in station)) (state g conn) (λ _. ⊥)
   pub own : HasCleanDisk (state g conn) → are_declared station.stored.store.store ≡ true
       → LiesInOrder g → (db : Trees) → (state g conn).may_leave db → IsOwn db
@@ -110,32 +108,31 @@ pub record HasReleased {S : Type 0} {g : Ghosts S} (keeps : Station S g → Stat
   pub shown : (s : State) → keeps station s
       → IfGivenBack (rows_view g conn (are_declared station.stored.store.store)) s
 
--- A connection with the tables of version 1 got those of version 2, or it didn't: what `migrate`
--- says of it.
+-- The effect of `migrate`: a connection with the tables of version 1 got those of version 2, or a
+-- fault.
 pub record HasMoved {S : Type 0} (g : Ghosts S) (conn : Held S)
     (migrated : Result (Held S) (Held S × AttachFault)) : Type 0 where
   pub inside : (connection_view g conn).in_transaction ≡ true → migrated ≡ Err (conn, fault.Store)
   pub clean : IfOk migrated (λ new. HasCleanDisk (state g new) → HasCleanDisk (state g conn))
   pub was : IfOk migrated (λ new. HasCleanDisk (state g new)
       → (s : State) × IsOldStateIn (state g conn).now s)
-  -- the tables are those of version 2, and mean the state that those of version 1 meant
+  -- the tables are those of version 2, with the state of those of version 1
   pub moved : IfOk migrated (λ new. HasCleanDisk (state g new)
       → IsOldOwn (state g conn).now.trees → LiesInOrder g
       → HasMigrated (state g conn).now (state g new))
-  -- A fault names what is so. Where the tables are lawful ones of version 1, the store failed or
-  -- memory was out.
+  -- A fault is true of the tables. If they are lawful ones of version 1, the store failed or memory
+  -- ran out.
   pub refused : IfErr migrated (λ e. HasCleanDisk (state g e.0)
       → RefusesAs First (state g conn).now e.1)
   pub fit : IfErr migrated (λ e. HasCleanDisk (state g e.0)
       → (s : State) → IsOldStateIn (state g conn).now s → IsBreakdown e.1)
   pub never : IfErr migrated (λ e. e.1 ≢ fault.Occupied)
-  -- a crash leaves what it left before, or the tables of version 2 with the state that those of
-  -- version 1 meant
+  -- the crash states are those from before, or the tables of version 2 with the same state
   pub leaves : IfErr migrated (λ e. HasCleanDisk (state g e.0)
       → IsOldOwn (state g conn).now.trees → LiesInOrder g → (db : Trees)
       → (state g e.0).may_leave db
       → (state g conn).may_leave db ⊎ IsMigrated (state g conn).now db)
-  -- no transaction is open then, and while the connection is open it shows the last commit
+  -- then no transaction is open, and an open connection shows the last commit
   pub undone : (connection_view g conn).in_transaction ≡ false
       → IfErr migrated (λ e. HasCleanDisk (state g e.0)
       → IsOldOwn (state g conn).now.trees → LiesInOrder g
@@ -143,13 +140,13 @@ pub record HasMoved {S : Type 0} (g : Ghosts S) (conn : Held S)
   pub unmoved : (connection_view g conn).in_transaction ≡ false
       → IfErr migrated (λ e. HasCleanDisk (state g e.0) → e.1 ≢ fault.Store
       → IsUndone (state g conn) (state g e.0))
-  -- only where the store fails is anything written
+  -- something is written only if the store fails
   pub spares : IfErr migrated (λ e. e.1 ≢ fault.Store
       → Survives (state g conn) (state g e.0) (λ _. ⊥))
 
--- A call over what a crash may leave of a station that gave its connection back. Its opening keeps
--- a state that a reopening of that station may find, works and is sound; and unless such a
--- reopening may find no station, it fails only where the store does or memory is out.
+-- A call over a crash state of a station that returned its connection. The opened station keeps a
+-- state that reopening the first one may find, works and is sound. Unless that reopening may find
+-- no station, the call fails only if the store does or memory runs out.
 pub record GoesOn {S : Type 0} (g : Ghosts S) (keeps : Station S g → State → Type 0) (is_sound : Station S g → Type 0) (is_broken : Station S g → Bool)
     (may_find : Station S g → Option State → Type 0) (last : Station S g)
     (opened : Result (Station S g) (Held S × AttachFault)) : Type 0 where

@@ -1,4 +1,4 @@
--- The lives of a file: each is a station that opens it, is given inputs, and ends.
+-- The lives of a file: in each, a station opens it, is given inputs, and ends.
 use Rattle.std.specs.Prelude.{◌≡◌, ◌⊎◌, ℕ, ◌+◌, ◌<◌, List, [], ◌∷◌, take, length, Option, Some, None}
 use Rattle.std.specs.List.{flat_map}
 use Rattle.station_days.specs.Date.{LocalMinute}
@@ -9,14 +9,14 @@ use Rattle.station_core.specs.declared.input.Input.{Input}
 use Rattle.station_core.specs.Keeping.{IsAfterAnswered}
 use Rattle.station_core.specs.Step.{State, IsLawfulState, after_all}
 
--- The inputs that a station was given, how many it answered, and the fault that ended them, if any.
--- Then it gave its connection back, or was cut off.
+-- The inputs given to a station, the number answered, and the fault that ended them, if any. Then
+-- it returned its connection, or was cut off.
 pub record Life : Type 0 where
   pub inputs : List (Input × LocalMinute)
   pub answered : ℕ
   pub ended : Option ActFault
 
--- A migration of the file to another version is a life of its own, which is given no input.
+-- An upgrade of the file is a life of its own without inputs.
 abbrev pub migration : Life
 migration = record { inputs = []; answered = 0; ended = None }
 
@@ -29,7 +29,7 @@ abbrev pub AreLives : State → List Life → State → Type 0
 AreLives s [] found = found ≡ s
 AreLives s (life ∷ lives) found = (mid : State) × IsAfterLife s life mid × AreLives mid lives found
 
--- Of a life those inputs count that were answered and, where it ended by Store, at most one more.
+-- The inputs of a life that count are those answered and, if it ended with Store, at most one more.
 abbrev pub Counts : Life → List (Input × LocalMinute) → Type 0
 Counts life inputs =
     (inputs ≡ take life.answered life.inputs)
@@ -40,13 +40,13 @@ AreCounted [] [] = Unit {0}
 AreCounted (life ∷ lives) (inputs ∷ more) = Counts life inputs × AreCounted lives more
 AreCounted _ _ = ⊥
 
--- what counts, one life's inputs behind another's
+-- all inputs that count, life after life
 abbrev pub in_order : List (List (Input × LocalMinute)) → List (Input × LocalMinute)
 in_order counted = flat_map (λ inputs. inputs) counted
 
--- The state after all that counts: it is lawful, and for each waybill what was taken over or found
--- is in store, departed, delivered, transferred or missing, in pieces and in tenths, and the
--- amounts that are shown are the balances of its moves.
+-- The state after all inputs that count: it is lawful, and for each waybill what was received or
+-- found is in store, departed, delivered, transferred or missing, in pieces and in tenths, and the
+-- amounts shown are the balances of its moves.
 pub record IsAfterLives (first : State) (lives : List Life) (found : State) : Type 0 where
   pub counted : List (List (Input × LocalMinute))
   pub each : AreCounted lives counted

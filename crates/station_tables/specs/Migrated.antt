@@ -1,4 +1,4 @@
--- What a migration does to a file of version 1.
+-- The effect of an upgrade on a file of version 1.
 use Rattle.std.specs.Prelude.{◌≡◌, Some, IsTrue}
 use Rattle.sqlite.specs.Effect.{Database}
 use Rattle.sqlite.specs.Tree.{Trees}
@@ -10,14 +10,14 @@ use Rattle.row_codec.specs.Meaning.{Means}
 use Rattle.station_core.specs.Step.{State}
 use Rattle.station_tables.specs.Attached.{IsStateIn, IsOldStateIn}
 
--- the trees are of version 2, as a station declares it, and mean the state that the database had as
--- one of version 1
+-- the trees are of version 2, as a station declares it, with the state that the database had as
+-- version 1
 pub record IsMigrated (old : Database) (db : Trees) : Type 0 where
   pub own : IsOwn db
   pub means : (s : State) → IsOldStateIn old s → Means (tables_of db) (Some s)
 
--- the file is of version 2 and keeps that state, the connection is open and at rest, and a crash
--- leaves nothing else
+-- the file is of version 2 with that state, the connection is open and at rest, and there is no
+-- other crash state
 pub record HasMigrated (old : Database) (new : sqlite.State) : Type 0 where
   pub is_open : IsTrue new.is_open
   pub settled : IsSettled new

@@ -1,4 +1,4 @@
--- What is found by opening a station again after a stop.
+-- The state found by opening a station again after a stop.
 use Rattle.std.specs.Prelude.{◌≡◌, ℕ, Bool, false, List, Option, Some}
 use Rattle.station_days.specs.Date.{LocalMinute}
 use Rattle.sqlite.specs.Effect.{Database}
@@ -9,11 +9,11 @@ use Rattle.station_core.specs.Keeping.{IsAfterAnswered}
 use Rattle.station_core.specs.Step.{State, IsLawfulState}
 use Rattle.station_tables.specs.Attached.{IsTypedState}
 
--- The state after the inputs that were answered or, where they ended by `Store`, after one more:
--- the tables mean it, so that the running counts are the book's sums; the station that was opened
--- works, and goes on from it; it is lawful; and for each waybill what was taken over or found is in
--- store, departed, delivered, transferred or missing, in pieces and in tenths, and the amounts that
--- are shown are the balances of its moves.
+-- The state after the inputs that were answered or, if they ended with `Store`, perhaps after one
+-- more. The tables mean it, so the running counts are the book's sums. The opened station works and
+-- keeps it. It is lawful. For each waybill what was received or found is in store, departed,
+-- delivered, transferred or missing, in pieces and in tenths, and the amounts shown are the
+-- balances of its moves.
 pub record IsRestored (s : State) (inputs : List (Input × LocalMinute)) (answered : ℕ) (ended : Option ActFault) (db : Database) (broken : Bool) (keeps : State → Type 0) : Type 0 where
   pub state : State
   pub is_after : IsAfterAnswered s inputs answered ended (Some state)

@@ -32,7 +32,7 @@ use std::alloc::Global;
 use table_load::FileVersion;
 use table_state::TableState;
 
-/// The fault that says why a database is no station's.
+/// Returns the fault for a database that isn't a station's.
 fn unfit_fault(unfit: Unfit) -> AttachFault
     ensures refuses { (db : Database) → IsUnfit (read_as Second db) unfit → Refuses db result }
     ensures never { result ≢ AttachFault.Occupied }
@@ -44,7 +44,7 @@ fn unfit_fault(unfit: Unfit) -> AttachFault
     }
 }
 
-/// The fault that a failed read is.
+/// Returns the fault for a failed read.
 pub(crate) fn breakdown(error: &Error) -> AttachFault
     ensures told { IsBreakdown result }
     ensures never { result ≢ AttachFault.Occupied }
@@ -55,7 +55,7 @@ pub(crate) fn breakdown(error: &Error) -> AttachFault
     }
 }
 
-/// The law that an open connection at rest, with a station's schema, shows a station's tables.
+/// An open connection at rest with a station's schema shows a station's tables.
 fn shows_station<S: Alter>(conn: &Connection<S>)
     ensures { (state S.Store conn.now).now.schema ≡ station_schema
         → IsTrue (state S.Store conn.now).is_open
@@ -65,8 +65,7 @@ fn shows_station<S: Alter>(conn: &Connection<S>)
     let _ = has_station(conn);
 }
 
-/// The law that an open connection at rest shows a station's tables where its trees are those that
-/// a station wrote.
+/// An open connection at rest shows a station's tables if a station wrote its trees.
 fn shows_own_station<S: Alter>(conn: &Connection<S>)
     ensures { IsOwn (state S.Store conn.now).now.trees → IsTrue (state S.Store conn.now).is_open
         → (state S.Store conn.now).now ≡ (state S.Store conn.now).committed → LiesInOrder S.Store
@@ -75,7 +74,7 @@ fn shows_own_station<S: Alter>(conn: &Connection<S>)
     let _ = has_station(conn);
 }
 
-/// A station over a store whose tables were found to be one's.
+/// Returns a station over a store that was found to be a station's.
 fn over_store<T: TableStore>(
     alloc: Global,
     store: T,
@@ -94,7 +93,7 @@ fn over_store<T: TableStore>(
     StoredStation::over(alloc, tables)
 }
 
-/// A station over a connection whose tables were found to be one's.
+/// Returns a station over a connection whose tables were found to be a station's.
 fn go_on<S: Alter>(
     alloc: Global,
     conn: Connection<S>,
@@ -133,7 +132,7 @@ fn go_on<S: Alter>(
     }
 }
 
-/// Reads and judges the tables of any database, as of a version.
+/// Reads and audits the tables of any database as a version.
 pub(crate) fn judge<S: Alter>(
     alloc: Global,
     conn: &mut Connection<S>,
@@ -147,7 +146,7 @@ pub(crate) fn judge<S: Alter>(
     found_state(alloc, conn, version)
 }
 
-/// A station over a connection whose tables were judged, or why there is none.
+/// Returns a station over an audited connection, or the reason why there isn't one.
 fn settle<S: Alter>(
     alloc: Global,
     conn: Connection<S>,
@@ -190,7 +189,7 @@ fn settle<S: Alter>(
     }
 }
 
-/// The station over the tables that a store has, clause by clause.
+/// Returns the station over the tables of a store, with its contract clause by clause.
 fn find_over<S: Alter>(
     alloc: Global,
     mut conn: Connection<S>,
@@ -201,7 +200,7 @@ fn find_over<S: Alter>(
     ensures sound { IfOk result (λ station. ⟦<Station<S> as Keeper>⟧.is_sound station
         → (connection_view S.Store conn).IsSound) }
 
-    // The tables are a station's, all of them lawful, and it keeps the state that they mean.
+    // The tables are a station's and lawful, and the station keeps their state.
     ensures found { IfOk result (λ station. HasCleanDisk (state S.Store (connection_in station))
         → (s : State) × IsStateIn (state S.Store conn).now s
         × ⟦<Station<S> as Keeper>⟧.keeps station s) }
@@ -213,28 +212,28 @@ fn find_over<S: Alter>(
         → IsStateIn (state S.Store conn).now s
         → IsTypedState (state S.Store conn).now s) }
 
-    // A fault names what is so. Where the tables are a station's and lawful, the store failed or
-    // memory was out.
+    // A fault is true of the tables. If they are a station's and lawful, the store failed or memory
+    // ran out.
     ensures refused { IfErr result (λ e. HasCleanDisk (state S.Store e.0)
         → Refuses (state S.Store conn).now e.1) }
     ensures fit { IfErr result (λ e. HasCleanDisk (state S.Store e.0) → (s : State)
         → IsStateIn (state S.Store conn).now s → IsBreakdown e.1) }
 
-    // That a name is taken is no fault of an opening.
+    // Opening never returns `Occupied`.
     ensures never { IfErr result (λ e. e.1 ≢ AttachFault.Occupied) }
 
-    // The same where a station wrote the tables, and they mean a lawful state.
+    // The same if a station wrote the tables and they mean a lawful state.
     ensures own_fit { IfErr result (λ e. HasCleanDisk (state S.Store e.0)
         → IsOwn (state S.Store conn).now.trees → LiesInOrder S.Store
         → (s : State) → IsTypedState (state S.Store conn).now s → IsLawfulState s
         → IsBreakdown e.1) }
 
-    // A crash leaves what it left before.
+    // The crash states are those from before.
     ensures leaves { IfErr result (λ e. (connection_view S.Store e.0).IsSound
         → (found : Option State)
         → Finds (connection_view S.Store e.0) found → Finds (connection_view S.Store conn) found) }
 
-    // Whatever is found, nothing is written. At Ok the connection shows what it showed.
+    // Nothing is written in any case. At Ok the connection shows what it showed.
     ensures unwritten { IfOk result
         (λ station. Survives (state S.Store conn) (state S.Store (connection_in station))
         (λ _. ⊥)) }
@@ -243,8 +242,8 @@ fn find_over<S: Alter>(
     ensures unwritten_at_err { IfErr result
         (λ e. Survives (state S.Store conn) (state S.Store e.0) (λ _. ⊥)) }
 
-    // At any fault but the store's no transaction is open, and the connection, if it is open, shows
-    // what it showed.
+    // After any fault except the store's, no transaction is open, and an open connection shows what
+    // it showed.
     ensures unmoved { (connection_view S.Store conn).in_transaction ≡ false
         → IfErr result (λ e. HasCleanDisk (state S.Store e.0) → e.1 ≢ AttachFault.Store
         → IsUndone (state S.Store conn) (state S.Store e.0)) }
@@ -265,9 +264,8 @@ fn find_over<S: Alter>(
     }
 }
 
-/// A station over the tables that a store has already. Each table is read whole, by one statement,
-/// and they are tested in the order of `TableName`: the station goes on from the state that they
-/// mean. Nothing is written.
+/// Opens the station in a store. Each table is read in full by one statement, and the tables are
+/// audited in the order of `TableName`. Nothing is written.
 pub fn attach<S: Alter>(
     alloc: Global,
     conn: Connection<S>,

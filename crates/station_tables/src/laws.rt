@@ -1,4 +1,4 @@
-//! What holds of the lives of a file.
+//! Laws about the lives of a file.
 ghost use Rattle.std.specs.Prelude.{◌≡◌, ◌↔◌, ℕ, List, Bool, true, Result};
 ghost use Rattle.sqlite.specs.Held.{Held, state};
 ghost use Rattle.sqlite.specs.State.{HasCleanDisk};
@@ -16,10 +16,10 @@ use sqlite::Alter;
 use station_core::Keeper;
 use station_core::laws::{retry_law, step_law};
 
-/// From any lawful state, such as that of a new station, of a file that is opened or of one that
-/// was migrated, through any number of lives, each of which begins with the state that its opening
-/// found: the last opening finds the state after all inputs that were answered and at most one more
-/// for each life that ended by a fault of the store.
+/// Starting from any lawful state (a new station, an opened file or an upgraded one), after any
+/// number of lives, each of which begins with the state that its opening found, the last opening
+/// finds the state after all answered inputs and at most one more for each life that ended with a
+/// fault of the store.
 pub fn lives_law()
     ensures lawful { (first : State) (lives : List Life) (found : State) → IsLawfulState first
         → AllByRecursion (λ (life : Life). AreInputs life.inputs) lives
@@ -31,14 +31,13 @@ pub fn lives_law()
     step_law();
 }
 
-/// A migration leaves the state as it was, so that it stands anywhere between the lives of a file.
+/// An upgrade keeps the state, so it may come anywhere between the lives of a file.
 pub fn migration_law()
     ensures { (s found : State) → IsAfterLife s migration found ↔ (found ≡ s) }
 {}
 
-/// Whatever is called, answered, cut off and repeated on a station that works, each accepted input
-/// acts once: from the state of a new station on, of a file that is opened, or of one that was
-/// migrated.
+/// Whatever is called, answered, cut off and repeated on a working station, each accepted input
+/// acts once, starting from a new station, an opened file or an upgraded one.
 pub fn calls_law()
     ensures { (start : State) (calls : List Call) (new : Desk)
         → DoAll (record { state = start; works = true }) calls new
@@ -47,8 +46,8 @@ pub fn calls_law()
     retry_law();
 }
 
-/// What a program leaves to the next one: a station that is opened over what a crash may leave of
-/// one that gave its connection back goes on from a state that a reopening of that one may find.
+/// The next program goes on: a station opened over a crash state of one that returned its
+/// connection has a state that reopening the first one may find.
 pub fn next_call_law<S: Alter>()
     ensures { (last : Kept S S.Store) (conn other : Held S)
         (opened : Result (Kept S S.Store) (Held S × AttachFault))

@@ -1,4 +1,4 @@
-//! A file of version 1 becomes one of version 2.
+//! Upgrades of files from version 1 to version 2.
 ghost use Rattle.std.specs.Prelude.{◌≡◌, ◌≢◌, ◌⊎◌, true, false, Err, IsTrue, IfOk, IfErr};
 ghost use Rattle.table_load.specs.Reading.{read_as};
 ghost use Rattle.table_load.specs.declared.station.FileVersion.TheVariants.{First};
@@ -27,7 +27,6 @@ use table_audits::TableName;
 use table_load::FileVersion;
 use table_upgrade::upgrade_tables;
 
-/// The table of a file of version 1 in which the rows of a table stand.
 fn old_name(name: TableName) -> TableName
     ensures { result ≡ old_name name }
 {
@@ -37,7 +36,7 @@ fn old_name(name: TableName) -> TableName
     }
 }
 
-/// The fault that says why a database is no station's of version 1.
+/// Returns the fault for a database that isn't a station's of version 1.
 fn old_fault(unfit: Unfit) -> AttachFault
     ensures refuses { (db : Database) → IsUnfit (read_as First db) unfit
         → RefusesAs First db result }
@@ -50,8 +49,8 @@ fn old_fault(unfit: Unfit) -> AttachFault
     }
 }
 
-/// The law that an open connection at rest shows the tables of version 1 where its trees are those
-/// that a station of that version wrote.
+/// An open connection at rest shows the tables of version 1 if a station of that version wrote its
+/// trees.
 fn shows_old_own<S: Alter>(conn: &Connection<S>)
     ensures { IsOldOwn (state S.Store conn.now).now.trees → IsTrue (state S.Store conn.now).is_open
         → (state S.Store conn.now).now ≡ (state S.Store conn.now).committed → LiesInOrder S.Store
@@ -84,7 +83,7 @@ fn upgrade<S: Alter>(mut conn: Connection<S>) -> Result<Connection<S>, (Connecti
     }
 }
 
-/// Upgrades a file that was judged as one of version 1, or tells why it can't be.
+/// Upgrades a file that was audited as version 1, or returns the reason why it can't.
 fn settle<S: Alter>(
     conn: Connection<S>,
     judged: Result<FoundState, Unfit>,
@@ -116,7 +115,7 @@ fn settle<S: Alter>(
     }
 }
 
-/// The tables of version 2 in the place of those of version 1, clause by clause.
+/// Upgrades a file, with its contract clause by clause.
 fn upgrade_over<S: Alter>(
     alloc: Global,
     mut conn: Connection<S>,
@@ -124,22 +123,21 @@ fn upgrade_over<S: Alter>(
     ensures inside { (connection_view S.Store conn).in_transaction ≡ true
         → result ≡ Err (conn, AttachFault.Store) }
 
-    // A disk that is clean then was clean.
+    // If the disk is clean afterwards, it was clean before.
     ensures clean { IfOk result (λ new. HasCleanDisk (state S.Store new)
         → HasCleanDisk (state S.Store conn)) }
 
-    // The file was a station's of version 1, and all of it was lawful.
+    // The file was a station's of version 1, and all its tables were lawful.
     ensures was { IfOk result (λ new. HasCleanDisk (state S.Store new) → (s : State)
         × IsOldStateIn (state S.Store conn).now s) }
 
-    // Where a station of version 1 wrote the tables, they are of version 2 now, with the state that
-    // they had.
+    // If a station of version 1 wrote the tables, they are of version 2 now, with the same state.
     ensures moved { IfOk result (λ new. HasCleanDisk (state S.Store new)
         → IsOldOwn (state S.Store conn).now.trees
         → LiesInOrder S.Store → HasMigrated (state S.Store conn).now (state S.Store new)) }
 
-    // A fault names what is so. Where the tables are a station's of version 1 and lawful, the store
-    // failed or memory was out.
+    // A fault is true of the tables. If they are a station's of version 1 and lawful, the store
+    // failed or memory ran out.
     ensures refused { IfErr result (λ e. HasCleanDisk (state S.Store e.0)
         → RefusesAs First (state S.Store conn).now e.1) }
     ensures fit { IfErr result (λ e. HasCleanDisk (state S.Store e.0) → (s : State)
@@ -147,14 +145,13 @@ fn upgrade_over<S: Alter>(
         → IsBreakdown e.1) }
     ensures never { IfErr result (λ e. e.1 ≢ AttachFault.Occupied) }
 
-    // A crash leaves what it left before, or the tables of version 2 with the state that those of
-    // version 1 had.
+    // The crash states are those from before, or the tables of version 2 with the same state.
     ensures leaves { IfErr result (λ e. HasCleanDisk (state S.Store e.0)
         → IsOldOwn (state S.Store conn).now.trees
         → LiesInOrder S.Store → (db : Trees) → (state S.Store e.0).may_leave db
         → (state S.Store conn).may_leave db ⊎ IsMigrated (state S.Store conn).now db) }
 
-    // At a fault no transaction is open, and the connection, if it is open, shows the last commit.
+    // After a fault no transaction is open, and an open connection shows the last commit.
     ensures undone { (connection_view S.Store conn).in_transaction ≡ false
         → IfErr result (λ e. HasCleanDisk (state S.Store e.0)
         → IsOldOwn (state S.Store conn).now.trees → LiesInOrder S.Store
@@ -163,7 +160,7 @@ fn upgrade_over<S: Alter>(
         → IfErr result (λ e. HasCleanDisk (state S.Store e.0) → e.1 ≢ AttachFault.Store
         → IsUndone (state S.Store conn) (state S.Store e.0)) }
 
-    // Any other fault than the store's changes nothing.
+    // Any fault except the store's changes nothing.
     ensures spares { IfErr result (λ e. e.1 ≢ AttachFault.Store
         → Survives (state S.Store conn) (state S.Store e.0) (λ _. ⊥)) }
 {
@@ -183,17 +180,21 @@ fn upgrade_over<S: Alter>(
     }
 }
 
-/// Makes a file of version 1 one of version 2, in one transaction: `waybill2` gets the waybills,
-/// none of them with a day, `waybill` is emptied, and the version is raised. Before it, each table
-/// is read whole and audited as a file of version 1.
+/// Upgrades a file from version 1 to version 2 in one transaction: `waybill2` gets the waybills,
+/// without their days, `waybill` is emptied, and the version is raised. Before that, each table is
+/// read in full and audited as version 1.
 ///
-/// Returns [`AttachFault::NoStation`], [`AttachFault::Version`] for every version but 1,
-/// [`AttachFault::Unlawful`] with the first table that is missing or isn't lawful,
-/// [`AttachFault::Memory`] where memory ran out in the audit, and [`AttachFault::Store`] where the
-/// store failed or a transaction was open, and no other fault. The connection comes back. After any
-/// fault but `Store` the file is as it was; a crash, and a `Store`, leave it as it was or of
-/// version 2, with one state: then `migrate` is called again, and answers `Version(2)` where it was
-/// done.
+/// # Errors
+///
+/// The connection is returned with each fault. After any fault except `Store` the file is
+/// unchanged. A crash or a `Store` leaves it unchanged or upgraded, with the same state: call
+/// `migrate` again, which returns `Version(2)` if the upgrade was done.
+///
+/// - [`AttachFault::NoStation`]: the file has no station.
+/// - [`AttachFault::Version`]: the version isn't 1.
+/// - [`AttachFault::Unlawful`]: the first table that is missing or unlawful.
+/// - [`AttachFault::Memory`]: memory ran out in the audit.
+/// - [`AttachFault::Store`]: the store failed, or a transaction was open.
 pub fn migrate<S: Alter>(
     alloc: Global,
     conn: Connection<S>,

@@ -22,7 +22,7 @@ use station_engine::StoredStation;
 use station_rows::CreateFault;
 use std::alloc::Global;
 
-/// The tables of a new station, clause by clause.
+/// Creates the tables of a new station, with its contract clause by clause.
 fn make_over<S: Alter>(
     alloc: Global,
     conn: Connection<S>,
@@ -35,10 +35,10 @@ fn make_over<S: Alter>(
     ensures sound { IfOk result (λ station. ⟦<Station<S> as Keeper>⟧.is_sound station
         → (connection_view S.Store conn).IsSound) }
 
-    // It keeps the opening state, and a crash leaves that alone.
+    // The station keeps the opening state, the only crash state.
     ensures keeps { IfOk result (λ station. ⟦<Station<S> as Keeper>⟧.keeps station (opening here)) }
 
-    // Occupied exactly where one of the names is taken, and then nothing changed.
+    // It returns Occupied exactly if one of the names is taken, and then nothing changed.
     ensures inside { (connection_view S.Store conn).in_transaction ≡ true
         → result ≡ Err (conn, AttachFault.Store) }
     ensures occupied { (connection_view S.Store conn).in_transaction ≡ false
@@ -48,15 +48,14 @@ fn make_over<S: Alter>(
         → takes_name (state S.Store conn).now.schema ≡ true) }
     ensures faults { IfErr result (λ e. (e.1 ≡ AttachFault.Occupied) ⊎ (e.1 ≡ AttachFault.Store)) }
 
-    // A crash leaves what it left before the call, or where the store was empty the opening
-    // station.
+    // The crash states are those from before or, if the store was empty, the opening station.
     ensures leaves { IfErr result (λ e. IsVacant S.Store conn
         → (connection_view S.Store e.0).IsSound → (found : Option State)
         → Finds (connection_view S.Store e.0) found → Finds (connection_view S.Store conn) found
         ⊎ (IsVacant S.Store conn × (found ≡ Some (opening here)))) }
 
-    // Beside other tables it leaves what it left before, or one database more, and a failure leaves
-    // the last commit.
+    // With other tables they are those from before or one more database, and a failure leaves the
+    // last commit.
     ensures step { IfErr result (λ e. ¬ IsVacant S.Store conn
         → IsOneStep (state S.Store conn) (state S.Store e.0)) }
     ensures step_at_ok { IfOk result (λ station. ¬ IsVacant S.Store conn
@@ -66,8 +65,8 @@ fn make_over<S: Alter>(
         → (connection_view S.Store e.0).is_open ≡ true
         → IsUnchanged (connection_view S.Store conn) (connection_view S.Store e.0)) }
 
-    // The same over the database, so that an opening knows the tables: as before, or a new
-    // station's file.
+    // The same for the database, so that an opening knows the tables: as before, or a new station's
+    // file.
     ensures survives { IfErr result
         (λ e. connection.Survives (state S.Store conn) (state S.Store e.0)
         (λ db. IsVacant S.Store conn → IsFileOf db (opening here))) }
@@ -79,14 +78,13 @@ fn make_over<S: Alter>(
     }
 }
 
-/// Makes the tables of a station at an airport with nothing in it, in one transaction, in a store
-/// where none of their names is taken.
+/// Creates the tables of an empty station at an airport, in one transaction, in a store in which
+/// none of their names is taken.
 ///
-/// Returns [`AttachFault::Occupied`] where a table, an index or a view has one of these names,
-/// whatever the case of its letters, and [`AttachFault::Store`] where a transaction is open or the
-/// store fails, and no other fault. The connection comes back with it. Other tables stay beside the
-/// new ones; of what a station beside others keeps nothing is claimed, as where such tables are
-/// opened.
+/// Returns [`AttachFault::Occupied`] if a table, an index or a view has one of these names, in
+/// upper or lower case, and [`AttachFault::Store`] if a transaction is open or the store fails. The
+/// connection is returned with the fault. Other tables are kept, but there is no guarantee about
+/// their contents, neither here nor when such tables are opened.
 pub fn create<S: Alter>(
     alloc: Global,
     conn: Connection<S>,

@@ -18,7 +18,7 @@ use station_core::{ActFault, Answer, Input, Keeper};
 use station_days::Moment;
 use std::alloc::Global;
 
-/// One input, where a refusal is an answer.
+/// Passes one input to the station, and returns a refusal as an answer.
 fn answer_on<S: Alter>(
     station: &mut Station<S>,
     input: &Input<'_>,
@@ -54,7 +54,7 @@ fn answer_on<S: Alter>(
     }
 }
 
-/// The fault of an opening that an input's fault ends.
+/// Returns the fault of an opening, from that of its input.
 fn ended_by(fault: &ActFault) -> AttachFault
     ensures told { IsBreakdown result }
     ensures never { result ≢ AttachFault.Occupied }
@@ -66,7 +66,7 @@ fn ended_by(fault: &ActFault) -> AttachFault
     }
 }
 
-/// One input on a station that was opened. The connection comes back where it fails.
+/// Passes one input to the opened station. If it fails, the connection is returned.
 fn repeat_on<S: Alter>(
     mut station: Station<S>,
     input: &Input<'_>,
@@ -108,9 +108,9 @@ fn repeat_on<S: Alter>(
     }
 }
 
-/// Opens the station of a database and gives it an input that may have been interrupted, or
-/// answered with the answer lost. A new input is done; one that was accepted before gets its one
-/// reply, and changes nothing.
+/// Opens the station of a database and passes it an input that may have been interrupted, or whose
+/// answer was lost. A new input acts. One that was accepted before gets the same reply, and changes
+/// nothing.
 pub fn attach_and_repeat<S: Alter>(
     alloc: Global,
     conn: Connection<S>,
@@ -123,19 +123,19 @@ pub fn attach_and_repeat<S: Alter>(
     ensures sound { IfOk result (λ r. ⟦<Station<S> as Keeper>⟧.is_sound r.0
         → (connection_view S.Store conn).IsSound) }
 
-    // The answer and the state are those of a step on the state that the tables mean, and a crash
-    // leaves that state alone.
+    // The answer and the state are those of a step from the tables' state, and that state is the
+    // only crash state.
     ensures repeated { IfOk result (λ r. ⟦<Station<S> as Keeper>⟧.is_sound r.0
         → HasRepeated (state S.Store conn).now input.now at r.1 (⟦<Station<S> as Keeper>⟧.keeps r.0)
         (⟦<Station<S> as Keeper>⟧.may_find r.0)) }
 
-    // The premise holds where a station wrote the tables and the disk returned them.
+    // The premise holds if a station wrote the tables and the disk returned them.
     ensures own { IfOk result (λ r. HasCleanDisk (state S.Store (connection_in r.0))
         → IsOwn (state S.Store conn).now.trees → LiesInOrder S.Store
         → ⟦<Station<S> as Keeper>⟧.is_sound r.0) }
 
-    // A fault names what is so. Where the tables are a station's and lawful, the store failed or
-    // memory was out.
+    // A fault is true of the tables. If they are a station's and lawful, the store failed or memory
+    // ran out.
     ensures refused { IfErr result (λ e. HasCleanDisk (state S.Store e.0)
         → Refuses (state S.Store conn).now e.1) }
     ensures fit { IfErr result (λ e. HasCleanDisk (state S.Store e.0) → (s : State)
@@ -146,22 +146,22 @@ pub fn attach_and_repeat<S: Alter>(
         → (s : State) → IsTypedState (state S.Store conn).now s → IsLawfulState s
         → IsBreakdown e.1) }
 
-    // A crash then leaves what it left before the call, or, where a station wrote the tables, the
-    // state that they mean or the one after it.
+    // Then the crash states are those from before or, if a station wrote the tables, their state or
+    // the one after the input.
     ensures leaves { IfErr result (λ e. HasCleanDisk (state S.Store e.0)
         → IsOwn (state S.Store conn).now.trees → LiesInOrder S.Store
         → (found : Option State) → Finds (connection_view S.Store e.0) found
         → IsBeforeOrAfterIn (connection_view S.Store conn) (state S.Store conn).now input.now at
         found) }
 
-    // Where memory was out, the input was not done: what it left before, or the state that the
-    // tables mean.
+    // If memory ran out, the input didn't act: the crash states are those from before, or the
+    // tables' state.
     ensures memory { IfErr result (λ e. e.1 ≡ AttachFault.Memory → HasCleanDisk (state S.Store e.0)
         → IsOwn (state S.Store conn).now.trees → LiesInOrder S.Store → (found : Option State)
         → Finds (connection_view S.Store e.0) found
         → IsBeforeIn (connection_view S.Store conn) (state S.Store conn).now found) }
 
-    // Tables that aren't a station's are left as they were.
+    // Tables that aren't a station's are unchanged.
     ensures spares { IfErr result (λ e. HasCleanDisk (state S.Store e.0)
         → ((s : State) → ¬ IsStateIn (state S.Store conn).now s)
         → (found : Option State) → Finds (connection_view S.Store e.0) found
@@ -170,8 +170,8 @@ pub fn attach_and_repeat<S: Alter>(
         → ((s : State) → ¬ IsStateIn (state S.Store conn).now s)
         → Survives (state S.Store conn) (state S.Store e.0) (λ _. ⊥)) }
 
-    // A fault that names what is wrong with the tables comes before the input: nothing is written,
-    // no transaction is open, and the connection, if it is open, shows what it showed.
+    // A fault about the tables comes before the input: nothing is written, no transaction is open,
+    // and an open connection shows what it showed.
     ensures unwritten_at_err { IfErr result (λ e. ¬ IsBreakdown e.1
         → Survives (state S.Store conn) (state S.Store e.0) (λ _. ⊥)) }
     ensures unmoved { (connection_view S.Store conn).in_transaction ≡ false

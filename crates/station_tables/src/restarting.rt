@@ -17,7 +17,7 @@ use station_core::{ActFault, AllAnswers, Input, Keeper, act_all};
 use station_days::Moment;
 use std::alloc::Global;
 
-/// A station that was given inputs, and what was opened after it.
+/// A station that was given inputs, and another opening after it.
 #[derive(Drop)]
 pub struct Restart<S: Alter> {
     /// The answers, and the fault that ended them.
@@ -28,11 +28,10 @@ pub struct Restart<S: Alter> {
     pub opened: Result<Station<S>, (Connection<S>, AttachFault)>,
 }
 
-/// Gives inputs to a station, and then opens another connection.
+/// Passes inputs to a station, and then opens another connection.
 ///
-/// This is what a crash comes to: where the other connection has what a crash of the first one may
-/// leave at that moment, a station that is opened over it goes on after every input that was
-/// answered and at most the one that was interrupted.
+/// This describes a crash: if the other connection has a crash state of the first one, the station
+/// opened over it has all inputs that were answered, and perhaps the one that was interrupted.
 pub fn act_and_restart<S: Alter>(
     alloc: Global,
     mut station: Station<S>,
@@ -48,14 +47,12 @@ pub fn act_and_restart<S: Alter>(
         (state S.Store other).now
         (⟦<Station<S> as Keeper>⟧.is_broken again) (⟦<Station<S> as Keeper>⟧.keeps again)) }
 
-    // A fault doesn't change what the premise says beside the disk: the one that stopped has it
-    // exactly as long as its disk has returned what was written.
+    // The stopped station stays sound exactly as long as its disk stays clean.
     ensures still { ⟦<Station<S> as Keeper>⟧.is_sound station
         → HasCleanDisk (state S.Store (connection_in result.stopped))
         → ⟦<Station<S> as Keeper>⟧.is_sound result.stopped }
 
-    // All inputs were answered, each as a step answers it, or a fault of the store or of memory
-    // ended them.
+    // All inputs were answered like a step, or a fault of the store or of memory ended them.
     ensures all { result.given.fault ≡ None
         → length result.given.answers.items ≡ length inputs.now }
     ensures answers { (s : State) → ⟦<Station<S> as Keeper>⟧.keeps station s
@@ -70,7 +67,8 @@ pub fn act_and_restart<S: Alter>(
     ensures breaks { ⟦<Station<S> as Keeper>⟧.is_broken station ≡ false
         → IsBrokenAtEnd result.given.fault (⟦<Station<S> as Keeper>⟧.is_broken result.stopped) }
 
-    // Unless the store failed, the one that stopped keeps the state after what it answered.
+    // Unless the store failed, the stopped station keeps the state after the inputs that it
+    // answered.
     ensures state { (s : State) → ⟦<Station<S> as Keeper>⟧.keeps station s
         → ⟦<Station<S> as Keeper>⟧.is_broken station ≡ false
         → ⟦<Station<S> as Keeper>⟧.is_sound result.stopped
@@ -78,21 +76,20 @@ pub fn act_and_restart<S: Alter>(
         → ⟦<Station<S> as Keeper>⟧.keeps result.stopped
         (after_all s (take (length result.given.answers.items) inputs.now)) }
 
-    // One that has to be opened again answers nothing, and stays as it is.
+    // A broken station answers nothing, and stays as it is.
     ensures reopen { ⟦<Station<S> as Keeper>⟧.is_broken station ≡ true
         → (result.given.answers.items ≡ []) × (result.stopped ≡ station) }
     ensures reopen_fault { ⟦<Station<S> as Keeper>⟧.is_broken station ≡ true → (e : ActFault)
         → result.given.fault ≡ Some e → IsMemoryOrReopen e }
 
-    // What a crash leaves is no reason to refuse it: a fault says that the store failed, or that
-    // memory was out.
+    // No crash state is refused: a fault means that the store failed, or that memory ran out.
     ensures opens { (s : State) → ⟦<Station<S> as Keeper>⟧.keeps station s
         → ⟦<Station<S> as Keeper>⟧.is_broken station ≡ false
         → ⟦<Station<S> as Keeper>⟧.is_sound result.stopped
         → (state S.Store (connection_in result.stopped)).may_leave (state S.Store other).now.trees
         → IfErr result.opened (λ e. HasCleanDisk (state S.Store e.0) → IsBreakdown e.1) }
 
-    // It goes on: its premise holds as long as its own disk has returned what was written.
+    // The opened station is sound as long as its own disk stays clean.
     ensures sound { ⟦<Station<S> as Keeper>⟧.is_sound result.stopped
         → (state S.Store (connection_in result.stopped)).may_leave (state S.Store other).now.trees
         → IfOk result.opened (λ again. HasCleanDisk (state S.Store (connection_in again))
@@ -113,10 +110,10 @@ pub fn act_and_restart<S: Alter>(
     }
 }
 
-/// A connection that a station gave back, and what was opened after it.
+/// A connection that a station returned, and another opening after it.
 #[derive(Drop)]
 pub struct Reopening<S: Alter> {
-    /// The connection that was given back.
+    /// The connection that was returned.
     pub left: Connection<S>,
     /// The station that was opened.
     pub opened: Result<Station<S>, (Connection<S>, AttachFault)>,
@@ -124,9 +121,8 @@ pub struct Reopening<S: Alter> {
 
 /// Ends a station, and then opens another connection.
 ///
-/// This is what a program leaves to the next one: where the other connection has what a crash of
-/// the one that was given back may leave, a station that is opened over it goes on from the state
-/// that the first one kept.
+/// This describes the next program: if the other connection has a crash state of the returned one,
+/// the station opened over it has the state that the first one kept.
 pub fn release_and_restart<S: Alter>(
     alloc: Global,
     station: Station<S>,
@@ -150,7 +146,7 @@ pub fn release_and_restart<S: Alter>(
         → IfOk result.opened (λ again. HasCleanDisk (state S.Store (connection_in again))
         → ⟦<Station<S> as Keeper>⟧.is_sound again) }
 
-    // What is given back is as `release` leaves it, and opening writes nothing.
+    // The connection is returned as by `release`, and opening writes nothing.
     ensures left { Survives (state S.Store (connection_in station)) (state S.Store result.left)
         (λ _. ⊥) }
     ensures shown { (s : State) → ⟦<Station<S> as Keeper>⟧.keeps station s

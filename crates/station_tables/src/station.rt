@@ -28,26 +28,24 @@ use table_state::TableState;
 
 /// A station over the tables of a `sqlite` connection. It takes every input.
 ///
-/// An accepted input is one transaction; a refused or repeated one writes nothing. `act` fails with
-/// `Memory` before the first call of the database, and nothing has changed then; a failing call, or
-/// memory refused after the first one, is `Store`: the file then holds the state before the input
-/// or the one after it, and `act` and the readers answer `Reopen` from then on. A reader's `Store`
-/// changes nothing.
+/// An accepted input is one transaction. A refused or repeated one writes nothing. `act` returns
+/// `Memory` before its first call of the database, when nothing has changed. If a call fails, or
+/// memory runs out later, it returns `Store`: the file then has the state before the input or after
+/// it, and `act` and the readers return `Reopen` from then on. A reader's `Store` changes nothing.
 #[derive(Drop)]
 pub struct Station<S: Alter> {
     stored: StoredStation<TableState<Rows<S>>>,
 }
 
 impl<S: Alter> Station<S> {
-    /// A station over what keeps its state in tables.
+    /// Returns a station over a keeper in tables.
     pub(crate) fn over(stored: StoredStation<TableState<Rows<S>>>) -> Station<S>
         ensures { result ≡ record { stored = stored } }
     {
         Station { stored }
     }
 
-    /// One input, at a moment, as a `Keeper` takes it. Its premise holds afterwards as before, but
-    /// for a disk that failed.
+    /// Acts on one input at a moment, as a `Keeper` does. Only a disk that fails ends its premise.
     pub(crate) fn act_on(&mut self, input: &Input<'_>, at: Moment) -> Result<Reply, ActFault>
         ensures reopen { ⟦<Station<S> as Keeper>⟧.is_broken self.old ≡ true
             → (result ≡ Err ActFault.Reopen)
@@ -77,13 +75,13 @@ impl<S: Alter> Station<S> {
         self.stored.act_on(input, at)
     }
 
-    /// The connection, clause by clause.
+    /// Returns the connection, with its contract clause by clause.
     fn give_back(self) -> Connection<S>
         ensures clean { HasCleanDisk (state S.Store result)
             → HasCleanDisk (state S.Store (connection_in self)) }
 
-        // What a crash may leave is as before, over the database: trees that a station declared, if
-        // it had declared them.
+        // The crash states are those from before, for the database: a station's own trees, if they
+        // were.
         ensures survives { connection.Survives (state S.Store (connection_in self))
             (state S.Store result) (λ _. ⊥) }
         ensures own { HasCleanDisk (state S.Store result)
@@ -95,8 +93,8 @@ impl<S: Alter> Station<S> {
         ensures sound { (rows_view S.Store result (are_declared self.stored.store.store)).IsSound
             → ⟦<Station<S> as Keeper>⟧.is_sound self }
 
-        // If it is open, it is outside a transaction, and its tables mean the state that the
-        // station kept.
+        // If the connection is open, it is outside a transaction, and its tables mean the station's
+        // state.
         ensures shown { (s : State) → ⟦<Station<S> as Keeper>⟧.keeps self s
             → IfGivenBack (rows_view S.Store result (are_declared self.stored.store.store)) s }
     {
@@ -104,7 +102,7 @@ impl<S: Alter> Station<S> {
         stored.into_store().release()
     }
 
-    /// Gives the connection back, whatever state it is in.
+    /// Returns the connection, whatever its state.
     pub fn release(self) -> Connection<S>
         ensures { HasReleased ⟦<Station<S> as Keeper>⟧.keeps ⟦<Station<S> as Keeper>⟧.is_sound
             ⟦<Station<S> as Keeper>⟧.may_find self result }

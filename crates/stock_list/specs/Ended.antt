@@ -1,4 +1,4 @@
--- What a row leaves behind it, whether it was answered or not.
+-- The outcome of a row, whether it was answered or not.
 use Rattle.std.specs.Prelude.{◌≡◌, ◌⊎◌, ℕ, ◌+◌, Bool, true, false, if◌then◌else◌, Result, Ok, Err, Option, Some, None, List, [], ◌∷◌, ◌++◌, length, take}
 use Rattle.csv.specs.declared.error.ErrorKind.{ErrorKind}
 use Rattle.csv.specs.declared.error.ErrorKind.TheVariants as kind
@@ -12,31 +12,30 @@ use Rattle.stock_list.specs.declared.answer.RunFault.{RunFault}
 use Rattle.stock_list.specs.declared.answer.RunFault.TheVariants as fault
 use Rattle.stock_list.specs.Lines.{Row, row_line, row_good, row_after, lines_from, rows_good, rows_after, stock_rows}
 
--- a keeper that returns Reopen has had a store that failed
+-- a keeper that returns Reopen has a store that failed
 abbrev pub run_fault : ActFault → RunFault
 run_fault act.Memory = fault.Memory
 run_fault _ = fault.Store
 
--- the writer didn't fail, and took a byte at each call
+-- the writer didn't fail, and never wrote 0 bytes
 pub record IsUntroubled (old new : Given) : Type 0 where
   pub failures : new.failures ≡ old.failures
   pub idle : new.idle ≡ old.idle
 
--- a fault that doesn't name the writer comes where the writer didn't fail
+-- a fault other than the writer's is returned only if the writer didn't fail
 abbrev pub IsWriteOrUntroubled : RunFault → Given → Given → Type 0
 IsWriteOrUntroubled e old new = (e ≡ fault.Write) ⊎ IsUntroubled old new
 
--- a fault that names the writer comes where a call of it failed, or took nothing
+-- the writer's fault is returned only if a call of it failed, or wrote 0 bytes
 abbrev pub WriteHasCause : {X : Type 0} → Result X RunFault → Given → Given → Type 0
 WriteHasCause result old new = result ≡ Err fault.Write → HasCause old new
 
--- Whether the station has to be opened again after a fault: where its store failed, and then only.
+-- The station must be opened again after a fault exactly if its store failed.
 abbrev pub IsShutAfter : RunFault → Bool → Type 0
 IsShutAfter fault.Store broken = broken ≡ true
 IsShutAfter _ broken = broken ≡ false
 
--- what is kept where a run has ended: the state that its station keeps, and what a reopening may
--- find
+-- the state kept after a run, and the states that reopening may find
 pub record Kept : Type 1 where
   pub keeps : State → Type 0
   pub may_find : Option State → Type 0
@@ -44,14 +43,14 @@ pub record Kept : Type 1 where
 abbrev pub kept : (State → Type 0) → (Option State → Type 0) → Kept
 kept keeps may_find = record { keeps = keeps; may_find = may_find }
 
--- its line was written, and the state is the one after it, at this moment
+-- the line was written, and the state is the one after the row, at this moment
 pub record IsAnswered (number : ℕ) (s : State) (row : Row) (at : LocalMinute) (good : Bool) (before after : List ℕ) (keeps : State → Type 0) : Type 0 where
   pub line : after ≡ before ++ row_line number s row at
   pub good_is : good ≡ row_good s row at
   pub state : keeps (row_after s row at)
 
--- The row has acted, and a beginning of its line was written: the writer failed or took no byte. Or
--- memory for the line ran out, and nothing of it was.
+-- The row acted, and a prefix of its line was written: the writer failed or wrote 0 bytes. Or
+-- memory ran out for the line, and nothing was written.
 pub record HasActed (number : ℕ) (s : State) (row : Row) (at : LocalMinute) (e : RunFault) (before after : List ℕ)
     (keeps : State → Type 0) : Type 0 where
   pub why : (e ≡ fault.Write) ⊎ ((e ≡ fault.Memory) × (after ≡ before))
@@ -59,8 +58,8 @@ pub record HasActed (number : ℕ) (s : State) (row : Row) (at : LocalMinute) (e
   pub line : after ≡ before ++ take sent (row_line number s row at)
   pub state : keeps (row_after s row at)
 
--- The row hasn't acted, since memory ran out, or where the store failed nobody knows; and nothing
--- was written.
+-- The row didn't act, as memory ran out, or may have acted if the store failed; and nothing was
+-- written.
 pub record HasNotActed (s : State) (row : Row) (at : LocalMinute) (e : RunFault) (before after : List ℕ)
     (left : Kept) : Type 0 where
   pub why : (e ≡ fault.Memory) ⊎ (e ≡ fault.Store)
@@ -69,17 +68,17 @@ pub record HasNotActed (s : State) (row : Row) (at : LocalMinute) (e : RunFault)
   pub states : (found : Option State) → left.may_find found → (found ≡ Some s)
       ⊎ ((e ≡ fault.Store) × (found ≡ Some (row_after s row at)))
 
--- the row stopped the run, whether it has acted or not
+-- the row stopped the run, whether it acted or not
 abbrev pub IsStopped : ℕ → State → Row → LocalMinute → RunFault → List ℕ → List ℕ → Kept → Type 0
 IsStopped number s row at e before after left =
     HasActed number s row at e before after left.keeps ⊎ HasNotActed s row at e before after left
 
--- why a run ends where the reader fails, or memory for a row runs out
+-- the fault of a run whose reader fails, or for which memory runs out
 abbrev pub reader_fault : ErrorKind → RunFault
 reader_fault (kind.Io e) = fault.Read
 reader_fault _ = fault.Memory
 
--- how a run is told, once it is known whether the reader has failed
+-- the corrected result of a run, once it is known whether the reader failed
 abbrev pub told_by : Result Bool RunFault → Bool → Result Bool RunFault
 told_by (Ok good) failed = if failed then Err fault.Read else Ok good
 told_by (Err fault.Read) failed = if failed then Err fault.Read else Err fault.Memory
@@ -94,7 +93,7 @@ pub record HasRun (s : State) (rows : List Row) (at : LocalMinute) (good : Bool)
   pub good_is : good ≡ rows_good s rows at
   pub state : keeps (rows_after s rows at)
 
--- The run ended by a fault after these rows: no row came after them, or the next one stopped it.
+-- The run stopped after these rows: no further row could be read, or the next one stopped it.
 abbrev pub HasStopped : State → List Row → Option Row → LocalMinute → RunFault → List ℕ → List ℕ → Kept
     → Type 0
 HasStopped s rows None at e before after left =
@@ -102,11 +101,9 @@ HasStopped s rows None at e before after left =
 HasStopped s rows (Some row) at e before after left =
     IsStopped (length rows + 1) (rows_after s rows at) row at e (before ++ lines_from 1 s rows at) after left
 
--- the rows that were read
 abbrev pub rows_read : List Row → Option Row → List Row
 rows_read rows None = rows
 rows_read rows (Some row) = rows ++ row ∷ []
 
--- they are the first rows of a text
 abbrev pub AreFirst : List Row → List ℕ → Type 0
 AreFirst rows bytes = (more : List Row) × (stock_rows bytes ≡ rows ++ more)

@@ -1,4 +1,4 @@
--- A stock list as a run of the station: the inputs that its rows ask, and their answers.
+-- A stock list as a run of the station: the orders of its rows, and their answers.
 use Rattle.std.specs.Prelude.{ℕ, ◌+◌, Bool, is_some, Option, Some, None, List, [], ◌∷◌, ◌++◌}
 use Rattle.std.specs.List.{list_all}
 use Rattle.station_days.specs.Date.{LocalMinute}
@@ -8,7 +8,7 @@ use Rattle.station_core.specs.declared.input.Input.{Input}
 use Rattle.stock_list.specs.Lines.{Row, answer_line, bad_line, input_of}
 use Rattle.stock_list.specs.Row.{row_asks}
 
--- the inputs of the rows that ask for an order, each at the list's moment, in their order
+-- the orders of the rows as inputs, each at the list's moment, in order
 abbrev pub asked_inputs : Option (List ℕ × Order) → LocalMinute → List (Input × LocalMinute)
 asked_inputs None at = []
 asked_inputs (Some asked) at = (input_of asked, at) ∷ []
@@ -17,14 +17,14 @@ abbrev pub inputs_of : List Row → LocalMinute → List (Input × LocalMinute)
 inputs_of [] at = []
 inputs_of (row ∷ rows) at = asked_inputs (row_asks row) at ++ inputs_of rows at
 
--- The lines of rows from the answers to their inputs: each row that asks for an order takes the
--- next answer.
+-- The lines of rows, from the answers to their orders: each row with an order takes the next
+-- answer.
 abbrev pub answered_lines : ℕ → List (Option (List ℕ × Order)) → List Answer → List ℕ
 answered_lines number [] answers = []
 answered_lines number (None ∷ more) answers = bad_line number ++ answered_lines (number + 1) more answers
 answered_lines number (Some asked ∷ more) [] = []
 answered_lines number (Some asked ∷ more) (answer ∷ answers) = answer_line asked.0 answer ++ answered_lines (number + 1) more answers
 
--- whether every row asks for an order
+-- true if every row has an order
 abbrev pub all_ask : List Row → Bool
 all_ask rows = list_all (λ (row : Row). is_some (row_asks row)) rows

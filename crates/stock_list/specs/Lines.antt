@@ -1,4 +1,4 @@
--- What a stock list is answered, line by line.
+-- The answers to a stock list, line by line.
 use Rattle.std.specs.Prelude.{ℕ, ◌+◌, decimal, Bool, true, false, ◌&&◌, Option, Some, None, List, [], ◌∷◌, ◌++◌, codes}
 use Rattle.csv.specs.Reading.{default_config, records, strip_bom}
 use Rattle.station_days.specs.Date.{LocalMinute}
@@ -20,15 +20,14 @@ abbrev pub answer_text : Answer → List ℕ
 answer_text (Done reply) = reply_text reply
 answer_text (Refused refusal) = refusal_text refusal
 
--- the key, a blank, the answer, and the line's end
+-- the key, a space, the answer, and the line's end
 abbrev pub answer_line : List ℕ → Answer → List ℕ
 answer_line key answer = key ++ 32 ∷ answer_text answer ++ 10 ∷ []
 
--- a row of another shape
 abbrev pub bad_line : ℕ → List ℕ
 bad_line number = codes "row " ++ decimal number ++ codes " bad\n"
 
--- the input that a row asks, by its key and its order
+-- the input of a row, from its key and its order
 abbrev pub input_of : List ℕ × Order → Input
 input_of asked = Keyed asked.0 (Stock asked.1)
 
@@ -54,7 +53,7 @@ row_good s row at = asked_good s (row_asks row) at
 abbrev pub row_after : State → Row → LocalMinute → State
 row_after s row at = asked_after s (row_asks row) at
 
--- many rows, all at one moment, of which the first has this number
+-- several rows, all at one moment; the first has this number
 abbrev pub lines_from : ℕ → State → List Row → LocalMinute → List ℕ
 lines_from number s [] at = []
 lines_from number s (row ∷ rows) at = row_line number s row at ++ lines_from (number + 1) (row_after s row at) rows at

@@ -11,7 +11,7 @@ use Rattle.agent_stock.specs.declared.stock.Order.{Order}
 use Rattle.agent_stock.specs.declared.stock.Order.TheVariants.{TakeIn, Issue, GiveBack, Void}
 use Rattle.station_core.specs.Key.{is_key}
 
--- the number that digits write, from so many to so many of them
+-- a number of `least` to `most` digits
 abbrev pub digits_of : ℕ → ℕ → List ℕ → Option ℕ
 digits_of least most text = if nat_le least (length text) && nat_le (length text) most && list_all is_digit text then Some (decimal_value text) else None
 
@@ -26,7 +26,7 @@ with_agent agent order = if is_agent_code agent then Some order else None
 abbrev pub without_agent : List ℕ → Order → Option Order
 without_agent agent order = if length agent == 0 then Some order else None
 
--- an agent goes with issue and return, and with them alone
+-- only issue and return have an agent
 abbrev pub order_of : List ℕ → Run → List ℕ → Option Order
 order_of verb run agent =
     if bytes_eq verb (codes "take-in") then without_agent agent (TakeIn run)
@@ -39,7 +39,7 @@ abbrev pub asked_by : List ℕ → List ℕ → List ℕ → List ℕ → List �
 asked_by key verb prefix serial count agent =
     if is_key key then option_and_then (λ run. option_map (λ order. (key, order)) (order_of verb run agent)) (run_of prefix serial count) else None
 
--- the key and the order of a row, where it has the shape of one
+-- the key and the order of a row, if it is well formed
 abbrev pub row_asks : List (List ℕ) → Option (List ℕ × Order)
 row_asks (key ∷ verb ∷ prefix ∷ serial ∷ count ∷ agent ∷ []) = asked_by key verb prefix serial count agent
 row_asks _ = None

@@ -1,4 +1,4 @@
--- A stock list on a station that has to be opened again: nothing is asked of it.
+-- A stock list on a broken station, which isn't called.
 use Rattle.std.specs.Prelude.{◌≡◌, ◌⊎◌, ℕ, ◌+◌, Bool, true, false, Option, Some, None, Result, Ok, Err, IfSome}
 use Rattle.std.specs.Prelude.{List, [], ◌∷◌, ◌++◌, length, take}
 use Rattle.agent_stock.specs.declared.stock.Order.{Order}
@@ -9,13 +9,12 @@ use Rattle.stock_list.specs.Ended.{IsReadersFault, rows_read, AreFirst}
 use Rattle.stock_list.specs.Lines.{Row, bad_line, stock_rows}
 use Rattle.stock_list.specs.Row.{row_asks}
 
--- a beginning of the line of a row that asks nothing: the writer failed, or memory for the line ran
--- out
+-- a prefix of a malformed row's line: the writer failed, or memory ran out for the line
 abbrev pub IsPartOfBad : ℕ → RunFault → List ℕ → List ℕ → Type 0
 IsPartOfBad number e before after = ((e ≡ fault.Write) ⊎ (e ≡ fault.Memory)) × ((sent : ℕ) × (after ≡ before ++ take sent (bad_line number)))
 
--- One row, by what it asks. One that asks nothing has its line; any other is answered Store, and
--- nothing of it is written.
+-- One row. If it is malformed it has its line; any other is answered Store, and nothing of it is
+-- written.
 abbrev pub IsAnsweredShut : ℕ → Option (List ℕ × Order) → Given → Given → Result Bool RunFault
     → Type 0
 IsAnsweredShut number None old new (Ok good) = (good ≡ false) × (new.bytes ≡ old.bytes ++ bad_line number)
@@ -23,38 +22,37 @@ IsAnsweredShut number None old new (Err e) = IsPartOfBad number e old.bytes new.
 IsAnsweredShut number (Some asked) old new (Ok good) = ⊥
 IsAnsweredShut number (Some asked) old new (Err e) = (e ≡ fault.Store) × (new ≡ old)
 
--- rows that ask nothing
+-- rows without orders
 abbrev pub AskNothing : List Row → Type 0
 AskNothing [] = Unit {0}
 AskNothing (row ∷ rows) = (row_asks row ≡ None) × AskNothing rows
 
--- their lines, of which the first has this number
 abbrev pub bad_lines : ℕ → List Row → List ℕ
 bad_lines number [] = []
 bad_lines number (row ∷ rows) = bad_line number ++ bad_lines (number + 1) rows
 
--- none of them is accepted
+-- they are good only if there are none
 abbrev pub are_none : List Row → Bool
 are_none [] = true
 are_none (row ∷ rows) = false
 
--- the rows before the end of a run asked nothing, and have their lines
+-- the rows before the end of a run had no orders, and have their lines
 pub record HaveBadLines (rows : List Row) (before after : List ℕ) : Type 0 where
   pub ask : AskNothing rows
   pub lines : after ≡ before ++ bad_lines 1 rows
 
--- what the run's last row left, by what it asks
+-- the output for the run's last row
 abbrev pub IsStoppedShut : ℕ → Option (List ℕ × Order) → RunFault → List ℕ → List ℕ → Type 0
 IsStoppedShut number None e before after = IsPartOfBad number e before after
 IsStoppedShut number (Some asked) e before after = (e ≡ fault.Store) × (after ≡ before)
 
--- The run ended by a fault after these rows: no row came after them, or the next one stopped it.
+-- The run stopped after these rows: no further row could be read, or the next one stopped it.
 abbrev pub HasStoppedShut : List Row → Option Row → RunFault → List ℕ → List ℕ → Type 0
 HasStoppedShut rows None e before after = IsReadersFault e × (after ≡ before ++ bad_lines 1 rows)
 HasStoppedShut rows (Some row) e before after = IsStoppedShut (length rows + 1) (row_asks row) e (before ++ bad_lines 1 rows) after
 
--- A run has ended. At Ok no row asked anything, and each has its line; at Err the same of the rows
--- before the last that was read. `left` is the list, where it is known.
+-- The end of a run. At Ok no row had an order, and each has its line; at Err the same holds for the
+-- rows before the last that was read. `left` is the list, if it is known.
 abbrev pub HasRunShut : Option (List ℕ) → List ℕ → List ℕ → Result Bool RunFault → Type 0
 HasRunShut left before after (Ok good) =
     (rows : List Row) × (IfSome left (λ bytes. rows ≡ stock_rows bytes) × ((good ≡ are_none rows) × HaveBadLines rows before after))

@@ -20,31 +20,29 @@ use station_core::{
 use station_days::Moment;
 use std::alloc::{AllocError, Global};
 
-/// Why a run of rows ended before its end.
+/// The reason why a run of rows stopped early.
 #[derive(Clone, Copy, Debug, PartialEq, Eq)]
 pub enum RunFault {
     /// The reader failed.
     Read,
-    /// The writer failed, or took nothing.
+    /// The writer failed, or wrote 0 bytes.
     Write,
     /// Memory ran out.
     Memory,
-    /// The store failed, in this row or before.
+    /// The store failed, in this row or earlier.
     Store,
 }
 
-/// Where a row stands in its list.
+/// The position of a row in its list.
 #[derive(Clone, Copy, Debug, PartialEq, Eq)]
 pub struct RowPlace {
-    /// Its number among the records, from 1.
+    /// The number of the record, from 1.
     pub number: u64,
-    /// The line on which it begins, from 1.
+    /// The line on which the record begins, from 1.
     pub line: u64,
 }
 
-/// An answer as it is printed: `ok 10`, or `refused 102 020-12345723`.
-///
-/// Returns [`AllocError`] when out of memory.
+/// Returns an answer as it is printed: `ok 10`, or `refused 102 020-12345723`.
 pub fn answer_text(alloc: Global, answer: &Answer) -> Result<String, AllocError>
     ensures { IfOk result (λ text. string_bytes text ≡ answer_text answer.now) }
 {
@@ -54,7 +52,6 @@ pub fn answer_text(alloc: Global, answer: &Answer) -> Result<String, AllocError>
     }
 }
 
-/// The line of an answer.
 fn answer_line(alloc: Global, key: &Key, answer: &Answer) -> Result<String, AllocError>
     ensures { IfOk result (λ line. string_bytes line ≡ answer_line key.now answer.now) }
 {
@@ -62,7 +59,6 @@ fn answer_line(alloc: Global, key: &Key, answer: &Answer) -> Result<String, Allo
     format!(in alloc; "{key} {text}\n")
 }
 
-/// The line of a row of another shape.
 fn bad_line(alloc: Global, number: u64) -> Result<String, AllocError>
     ensures { IfOk result (λ line. string_bytes line ≡ bad_line number) }
 {
@@ -71,7 +67,7 @@ fn bad_line(alloc: Global, number: u64) -> Result<String, AllocError>
 
 /// Writes a line.
 ///
-/// Returns [`RunFault::Write`] where the writer fails or takes no byte.
+/// Returns [`RunFault::Write`] if the writer fails or writes 0 bytes.
 pub fn send_line<W: ByteOut>(writer: &mut W, line: &str) -> Result<(), RunFault>
     ensures all { OnOk result
         ((W.taken writer.new).bytes ≡ (W.taken writer.old).bytes ++ line.now) }
@@ -87,7 +83,8 @@ pub fn send_line<W: ByteOut>(writer: &mut W, line: &str) -> Result<(), RunFault>
     }
 }
 
-/// Why a run ends where a keeper doesn't answer: `Memory` where memory ran out, else `Store`.
+/// Returns the fault of a run whose keeper doesn't answer: `Memory` if memory ran out, otherwise
+/// `Store`.
 pub fn keeper_fault(fault: ActFault) -> RunFault
     ensures { result ≡ run_fault fault }
 {
@@ -97,18 +94,18 @@ pub fn keeper_fault(fault: ActFault) -> RunFault
     }
 }
 
-/// Writes why a row asks nothing, as far as the writer takes it. Where memory runs out nothing is
-/// written.
+/// Writes the reason why a row is malformed, as far as the writer takes it. If memory runs out,
+/// nothing is written.
 fn tell_row<E: ByteOut>(alloc: Global, errors: &mut E, row: &ByteRecord, line: u64)
     ensures { HasReason row_head (E.taken errors.old).bytes (E.taken errors.new).bytes }
 {
     tell_reason(errors, row_reason(alloc, row, line));
 }
 
-/// Writes the line of a row that asks nothing, and why it asks nothing.
+/// Writes the line of a malformed row, and the reason.
 ///
-/// Returns [`RunFault::Write`] where the writer fails, and [`RunFault::Memory`] when out of memory:
-/// a beginning of the line was written, or nothing.
+/// Returns [`RunFault::Write`] if the writer fails, and [`RunFault::Memory`] if memory runs out. A
+/// prefix of the line is written, perhaps empty.
 pub fn answer_bad_row<W: ByteOut, E: ByteOut>(
     alloc: Global,
     writer: &mut W,
@@ -131,15 +128,15 @@ pub fn answer_bad_row<W: ByteOut, E: ByteOut>(
     let Ok(line) = bad_line(alloc, place.number) else {
         return Err(RunFault::Memory);
     };
-    // The line goes out before its reason does.
+    // The line is written before its reason.
     writer.expect_more(false);
     send_line(writer, &line)?;
     tell_row(alloc, errors, row, place.line);
     Ok(false)
 }
 
-/// Answers a row, after what it asks was done, at a moment. `Ok` says whether it was accepted. One
-/// that asks nothing has its reason on `errors`, behind its line.
+/// Acts on a row's order at a moment, and writes the answer. `Ok` says whether it was accepted. The
+/// reason for a malformed row is written to `errors`, after its line.
 pub fn answer_row<K: Keeper, W: ByteOut, E: ByteOut>(
     alloc: Global,
     keeper: &mut K,
@@ -170,7 +167,7 @@ pub fn answer_row<K: Keeper, W: ByteOut, E: ByteOut>(
     ensures reasons { HasToldRow E.taken result (row_asks (fields_of row.now)) errors.old
         errors.new }
 
-    // A station that has to be opened again stays as it is, and no row is asked of it.
+    // A broken station stays as it is, and isn't called.
     ensures same { StaysIfBroken (K.is_broken keeper.old) keeper.old keeper.new }
     ensures reopen { K.is_broken keeper.old ≡ true
         → IsAnsweredShut place.number (row_asks (fields_of row.now)) (W.taken writer.old)

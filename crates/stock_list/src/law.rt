@@ -1,4 +1,4 @@
-//! What a stock list does to its station.
+//! A law about stock lists.
 ghost use Rattle.std.specs.Prelude.{◌≡◌, ◌&&◌, ℕ, List, map};
 ghost use Rattle.std.specs.List.{list_all};
 ghost use Rattle.station_days.specs.Date.{LocalMinute};
@@ -8,9 +8,9 @@ ghost use Rattle.stock_list.specs.Law.{inputs_of, answered_lines, all_ask};
 ghost use Rattle.stock_list.specs.Lines.{Row, lines_from, rows_good, rows_after};
 ghost use Rattle.stock_list.specs.Row.{row_asks};
 
-/// A stock list is a run of the station over the inputs that its rows ask: it leaves the state
-/// after them all, its lines are their answers, and it is accepted where every row asks for an
-/// order and every answer accepts one.
+/// A stock list is a run of the station over the orders of its rows: it leaves the state after them
+/// all, its lines are their answers, and it is good if every row has an order and every answer
+/// accepts it.
 pub fn list_law()
     ensures state { (s : State) (rows : List Row) (at : LocalMinute)
         → rows_after s rows at ≡ after_all s (inputs_of rows at) }

@@ -1,4 +1,4 @@
-//! A stock list: rows of CSV that ask for orders on the stock, each answered by a line.
+//! Stock lists: CSV rows of orders on the stock, each answered with a line.
 #![tactic(auto)]
 
 mod answer;

@@ -1,4 +1,4 @@
-//! A list that is read line by line, so that it is known on which line a record begins.
+//! Reading a list line by line, so that the line of each record is known.
 ghost use Rattle.std.specs.Prelude.{◌≡◌, ◌<◌, IfOk};
 ghost use Rattle.std.specs.Io.Buffered.{reader_remaining};
 
@@ -8,25 +8,25 @@ use std::cell::Cell;
 use std::io;
 use std::io::{BufReader, Read};
 
-/// How far a list was read.
+/// The progress of reading a list.
 #[derive(Drop)]
 pub struct LineCount {
-    /// How many lines were read to their end.
+    /// The number of lines read to their end.
     ended: Cell<u64>,
-    /// The line of the last byte, from 1; the one behind it where the list has ended.
+    /// The line of the last byte, from 1; the next line at the end of the list.
     line: Cell<u64>,
-    /// Whether another row is at hand.
+    /// True if another row is at hand.
     more: Cell<bool>,
 }
 
-/// How many ends of lines the fields of a record have.
+/// Returns the number of line ends in the fields of a record.
 fn ends_within(row: &ByteRecord) -> u64 {
     let ends = row.as_slice().iter().filter(|b| **b == b'\n').count();
     ends as u64
 }
 
 impl LineCount {
-    /// Nothing was read yet.
+    /// Starts before the first read.
     pub fn new() -> LineCount {
         LineCount {
             ended: Cell::new(0),
@@ -35,8 +35,8 @@ impl LineCount {
         }
     }
 
-    /// Counts a read, of which only the last byte may end a line; one of no byte is the end of the
-    /// list.
+    /// Counts a read, in which only the last byte may end a line. A read of 0 bytes is the end of
+    /// the list.
     fn pass(&self, part: &[u8]) {
         let next = self.ended.get().saturating_add(1);
         self.line.set(next);
@@ -45,30 +45,30 @@ impl LineCount {
         }
     }
 
-    /// Notes what was read ahead.
+    /// Records whether a row was read ahead.
     fn note_ahead(&self, ahead: &[u8]) {
         self.more.set(begins_with_row(ahead));
     }
 
-    /// Whether another row is at hand: reading it takes no read of the list's own reader.
+    /// Returns whether another row is at hand: reading it needs no read of the list's own reader.
     pub fn has_more(&self) -> bool {
         self.more.get()
     }
 
-    /// The line on which the record begins that was read last.
+    /// Returns the line on which the last record begins.
     pub fn first_line(&self, row: &ByteRecord) -> u64 {
         self.line.get().saturating_sub(ends_within(row))
     }
 }
 
-/// A reader whose reads end where a line does.
+/// A reader whose reads end at the end of a line.
 #[derive(Drop)]
 pub struct LineByLine<'a, R> {
     reader: BufReader<R>,
     count: &'a LineCount,
 }
 
-/// How many bytes there are up to the end of the first line, that included; one at least.
+/// Returns the length of the first line with its end, at least 1.
 fn line_len(ahead: &[u8]) -> usize
     ensures { 0 < result }
 {
@@ -78,8 +78,8 @@ fn line_len(ahead: &[u8]) -> usize
     }
 }
 
-/// Whether a text begins with a whole line that is a row by itself: it isn't blank, and each quote
-/// in it has its match.
+/// Returns whether a text begins with a whole line that is a row by itself: it isn't empty, and its
+/// quotes are paired.
 fn begins_with_row(ahead: &[u8]) -> bool {
     let Some(end) = ahead.iter().position(|b| *b == b'\n') else {
         return false;
@@ -92,7 +92,7 @@ fn begins_with_row(ahead: &[u8]) -> bool {
 impl<R: Read> Read for LineByLine<'_, R> {
     ghost remaining = { λ l. reader_remaining R.remaining l.reader };
 
-    /// One read. It ends with the line.
+    /// Reads once, at most to the end of the line.
     fn read(&mut self, buf: &mut [u8]) -> io::Result<usize> {
         let most = line_len(self.reader.buffer()).min(buf.len());
         let n = self.reader.read(&mut buf[..most])?;
@@ -102,9 +102,7 @@ impl<R: Read> Read for LineByLine<'_, R> {
     }
 }
 
-/// A list, to be read line by line.
-///
-/// Returns [`AllocError`] when out of memory.
+/// Wraps a list, to read it line by line.
 pub fn line_by_line<'a, R: Read + Drop>(
     alloc: Global,
     reader: R,

@@ -7,7 +7,6 @@ use awb_number::{Awb, decimal};
 use csv::ByteRecord;
 use station_core::Key;
 
-/// The number that so many digits write.
 fn digits(text: &[u8], least: usize, most: usize) -> Option<u32>
     requires { most ≤ 9 }
     ensures value { result ≡ digits_of least most text.now }
@@ -20,7 +19,7 @@ fn digits(text: &[u8], least: usize, most: usize) -> Option<u32>
     decimal(text)
 }
 
-/// The count that one to seven digits write.
+/// Reads a count of one to seven digits.
 fn read_count(text: &[u8]) -> Option<RunCount>
     ensures { result ≡ digits_of 1 7 text.now }
 {
@@ -28,7 +27,6 @@ fn read_count(text: &[u8]) -> Option<RunCount>
     RunCount::new(number)
 }
 
-/// The run of a prefix of three digits, a serial of seven and a count of one to seven.
 fn run(prefix: &[u8], serial: &[u8], count: &[u8]) -> Option<Run>
     ensures { result ≡ run_of prefix.now serial.now count.now }
 {
@@ -39,7 +37,7 @@ fn run(prefix: &[u8], serial: &[u8], count: &[u8]) -> Option<Run>
     Some(Run { first, count })
 }
 
-/// The order of a verb on a run: an agent goes with issue and return, and with them alone.
+/// Returns the order of a verb on a run. Only issue and return have an agent.
 fn order(verb: &[u8], run: Run, agent: &[u8]) -> Option<Order>
     ensures { result ≡ order_of verb.now run agent.now }
 {
@@ -70,7 +68,7 @@ fn order(verb: &[u8], run: Run, agent: &[u8]) -> Option<Order>
     }
 }
 
-/// What six fields ask: key, verb, prefix, serial, count and agent.
+/// Returns the key and the order in six fields: key, verb, prefix, serial, count and agent.
 fn asked(
     key: &[u8],
     verb: &[u8],
@@ -87,7 +85,6 @@ fn asked(
     Some((key, order))
 }
 
-/// A field of a row that has it.
 fn field(row: &ByteRecord, place: usize) -> &[u8]
     requires { place < length (fields_of row.now) }
     ensures { field_at (fields_of row.now) place ≡ Some result.now }
@@ -98,7 +95,7 @@ fn field(row: &ByteRecord, place: usize) -> &[u8]
     }
 }
 
-/// The key and the order of a row of a stock list, where it has the shape of one.
+/// Returns the key and the order of a row, if it is well formed.
 pub fn read_row(row: &ByteRecord) -> Option<(Key, Order)>
     ensures { result ≡ row_asks (fields_of row.now) }
 {

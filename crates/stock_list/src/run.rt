@@ -18,7 +18,7 @@ use station_days::Moment;
 use std::alloc::Global;
 use std::io::Read;
 
-/// Why a run ends where no row was read: the reader failed, or memory ran out.
+/// Returns the fault of a run that couldn't read a row: the reader failed, or memory ran out.
 pub fn list_fault(e: Error) -> RunFault
     ensures { result ≡ reader_fault (error_kind e) }
 {
@@ -28,8 +28,8 @@ pub fn list_fault(e: Error) -> RunFault
     }
 }
 
-/// Answers a row of a list. If another row is at hand, what is written of this one needn't go out
-/// before that one is read.
+/// Answers a row of a list. If another row is at hand, the answer may be buffered until that row is
+/// read.
 fn answer_listed<K: Keeper, W: ByteOut, E: ByteOut>(
     alloc: Global,
     keeper: &mut K,
@@ -70,7 +70,7 @@ fn answer_listed<K: Keeper, W: ByteOut, E: ByteOut>(
     answer_row(alloc, keeper, writer, errors, place, row, at)
 }
 
-/// Answers the rows that a reader gives up to its end, or up to an error.
+/// Answers the rows of a reader up to its end or an error.
 fn run_rows<K: Keeper, R: Read + Drop, W: ByteOut, E: ByteOut>(
     alloc: Global,
     keeper: &mut K,
@@ -129,12 +129,12 @@ fn run_rows<K: Keeper, R: Read + Drop, W: ByteOut, E: ByteOut>(
     Ok(good)
 }
 
-/// How the run of a buffered reader is reported, once it is known whether the reader has failed. A
-/// buffer can take a reader's failure for the end of the input, or end for want of memory.
+/// Corrects the result of a run over a buffered reader, once it is known whether the reader failed.
+/// A buffer can take a reader's failure for the end of the input, or end because memory runs out.
 ///
-/// Returns [`RunFault::Read`] if the reader has failed and the run came to its end or stopped by
-/// `Read`, and [`RunFault::Memory`] if the run stopped by `Read` and the reader hasn't failed. Any
-/// other result is returned as it is.
+/// Returns [`RunFault::Read`] if the reader failed and the run reached its end or stopped with
+/// `Read`, and [`RunFault::Memory`] if the run stopped with `Read` and the reader didn't fail. Any
+/// other result is unchanged.
 pub fn told_by(ended: Result<bool, RunFault>, failed: bool) -> Result<bool, RunFault>
     ensures { result ≡ told_by ended failed }
 {
@@ -157,8 +157,9 @@ pub fn told_by(ended: Result<bool, RunFault>, failed: bool) -> Result<bool, RunF
     }
 }
 
-/// Answers the rows of a stock list, each after what it asks was done, all at one moment. `Ok` says
-/// whether all were accepted. One that asks nothing has its reason on `errors`, behind its line.
+/// Acts on the rows of a stock list one after another, all at one moment, and writes the answers.
+/// `Ok` says whether all were accepted. The reason for a malformed row is written to `errors`,
+/// after its line.
 pub fn run_stock<K: Keeper, R: Watched + Read, W: ByteOut, E: ByteOut>(
     alloc: Global,
     keeper: &mut K,
@@ -172,8 +173,8 @@ pub fn run_stock<K: Keeper, R: Watched + Read, W: ByteOut, E: ByteOut>(
     ensures breaks { K.is_broken keeper.old ≡ false
         → IfErr result (λ e. IsShutAfter e (K.is_broken keeper.new)) }
 
-    // Every row that was read, and of a known reader that is every row of its text, has its line,
-    // in their order, and the state is the one after them all.
+    // Every row that was read has its line, in order, and the state is the one after them all. For
+    // a known reader these are all rows of its text.
     ensures ran { (s : State) → K.keeps keeper.old s → K.is_broken keeper.old ≡ false
         → K.is_sound keeper.new
         → IfOk result (λ good. (rows : List Row)
@@ -181,9 +182,9 @@ pub fn run_stock<K: Keeper, R: Watched + Read, W: ByteOut, E: ByteOut>(
         × HasRun s rows at good (W.taken writer.old).bytes (W.taken writer.new).bytes
         (K.keeps keeper.new)) }
 
-    // At a fault each row before the last that was read has its line. The last one acted, and a
-    // beginning of its line was written, or it did not, or the store failed within it, and nothing
-    // of its line was written.
+    // After a fault, each row before the last has its line. The last one acted, and a prefix of its
+    // line was written; or it didn't act, or the store failed in it, and nothing of its line was
+    // written.
     ensures stopped { (s : State) → K.keeps keeper.old s → K.is_broken keeper.old ≡ false
         → K.is_sound keeper.new
         → IfErr result (λ e. (rows : List Row)
@@ -191,8 +192,8 @@ pub fn run_stock<K: Keeper, R: Watched + Read, W: ByteOut, E: ByteOut>(
         × HasStopped s rows next at e (W.taken writer.old).bytes (W.taken writer.new).bytes
         (kept (K.keeps keeper.new) (K.may_find keeper.new))))) }
 
-    // `Read` comes only where the reader has failed, and a list that was read to its end only where
-    // it has not.
+    // `Read` is returned only if the reader failed, and the end of the list is reached only if it
+    // didn't.
     ensures read_cause { result ≡ Err RunFault.Read → 0 < (R.given reader.new).failures }
     ensures no_failure { OnOk result ((R.given reader.new).failures ≡ 0) }
     ensures write_cause { WriteHasCause result (W.taken writer.old) (W.taken writer.new) }
@@ -200,14 +201,13 @@ pub fn run_stock<K: Keeper, R: Watched + Read, W: ByteOut, E: ByteOut>(
         (W.taken writer.new)) }
     ensures untroubled { OnOk result (IsUntroubled (W.taken writer.old) (W.taken writer.new)) }
 
-    // Each row that asks nothing has its reason on `errors`, or a beginning of it, and nothing else
-    // goes there. Where all was accepted nothing does.
+    // Each malformed row has its reason on `errors`, or a prefix of it. Nothing else is written
+    // there, and nothing if all were accepted.
     ensures quiet { result ≡ Ok true → errors.new ≡ errors.old }
     ensures reasons { HasToldRows (R.remaining reader.old) (E.taken errors.old).bytes
         (E.taken errors.new).bytes result }
 
-    // A station that has to be opened again stays as it is. The first row that asks anything of it
-    // ends the run.
+    // A broken station stays as it is. The first row with an order ends the run.
     ensures same { StaysIfBroken (K.is_broken keeper.old) keeper.old keeper.new }
     ensures reopen { K.is_broken keeper.old ≡ true
         → HasRunShut (R.remaining reader.old) (W.taken writer.old).bytes (W.taken writer.new).bytes

@@ -1,11 +1,11 @@
-//! Readers that know whether they have failed.
+//! Readers that remember whether they failed.
 ghost use Rattle.std.specs.Prelude.{◌≡◌, ◌↔◌, ◌<◌, true};
 
 use station_core::ByteIn;
 
-/// A reader that can be asked whether a read of it has failed.
+/// A reader that remembers whether a read failed.
 pub trait Watched: ByteIn {
-    /// Whether a read has failed.
+    /// Returns whether a read failed.
     fn has_failed(&self) -> bool
         ensures { (result ≡ true) ↔ (0 < (Self.given self.now).failures) };
 }

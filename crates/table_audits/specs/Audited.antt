@@ -1,4 +1,4 @@
--- What is lawful of the rows of `moves` beside the waybills and the flights, apart from balances.
+-- Lawfulness of the rows of `moves` with the waybills and the flights, apart from balances.
 use Rattle.std.specs.Prelude.{pos, Bool, ◌&&◌, ◌↔◌, None, IsTrue, List, [], map}
 use Rattle.std.specs.Option.{unwrap_or}
 use Rattle.std.specs.List.{AllByRecursion, list_all, list_any}
@@ -17,26 +17,26 @@ use Rattle.table_audits.specs.Rows.{has_waybill}
 abbrev pub nowhere : FlightDate
 nowhere = record { flight = record { carrier = []; number = 0; suffix = None }; day = 0 }
 
--- the flight that a row of `flight` names
+-- the flight in a row of `flight`
 abbrev pub flight_in : FlightKey × Flight → FlightDate
 flight_in row = unwrap_or (flight_date_of row.0.0 row.0.1) nowhere
 
--- the flights that rows of `flight` name, in their order
+-- the flights in rows of `flight`, in order
 abbrev pub flights_of : List (FlightKey × Flight) → List FlightDate
 flights_of rows = map flight_in rows
 
--- each row is within range, numbered from 1, and a lawful move by itself
+-- each row is in range, numbered from 1, and a lawful move by itself
 pub record AreMoveRows (t : Tables) : Type 0 where
   pub rows : IsTrue (list_all is_move_row t.moves)
   pub numbers : AreNumbered move_id t.moves
   pub moves : AllByRecursion (IsLawfulMove (cargo_in t)) (cargo_in t).book
 
--- flights are closed exactly where they departed, and nothing is built on them after that
+-- exactly the departed flights are closed, and nothing is built on them after their departure
 pub record AreDepartures (t : Tables) : Type 0 where
   pub closed : (flight : FlightDate)
       → IsTrue (is_closed ((cargo_in t).flights flight)) ↔ IsTrue (list_any (departs_with flight) (cargo_in t).book)
   pub departed : (flight : FlightDate) → StaysDeparted flight (cargo_in t).book
 
--- between a pair of places that is allowed, and of a declared waybill
+-- between an allowed pair of places, and of a declared waybill
 abbrev pub is_fit_move : List Waybill → cargo.Move → Bool
 is_fit_move waybills m = is_pair m.from m.to && has_waybill waybills (pos m.awb)

@@ -1,4 +1,4 @@
--- Whether the balances of a station are lawful, and the tests of a book's sums that decide it.
+-- Lawful balances of a station, and the tests of a book's sums for them.
 use Rattle.std.specs.Prelude.{◌≡◌, ◌≤◌, ℕ, ℤ, pos, neg_ℤ, int_lt, int_le, ◌==◌, Bool, false, not, ◌&&◌, ◌||◌, if◌then◌else◌, IsTrue, Option, Some, None, List, length, slice_get}
 use Rattle.std.specs.List.{filter}
 use Rattle.std.specs.Ordering.{int_eq}
@@ -21,8 +21,8 @@ use Rattle.table_audits.specs.declared.sums.BuildPlace.{BuildPlace}
 use Rattle.table_audits.specs.declared.sums.BookSums.{BookSums}
 use Rattle.imp_fields.specs.Flight.{most_waybills}
 
--- no place of the station gave more than it got, no more went back than was taken over, what came
--- is within bounds, a closed flight is empty, and at most 500 waybills are built on one
+-- no place of the station gave more than it got, no more was returned than received, what came is
+-- within bounds, closed flights are empty, and each flight has at most 500 waybills
 pub record AreBalances (t : Tables) : Type 0 where
   pub stocked : (w : ℕ) (p : Place) → is_outside p ≡ false → IsStocked (cargo_in t).book w p
   pub covered : (w : ℕ) → IsCovered (cargo_in t).book w
@@ -33,17 +33,17 @@ pub record AreBalances (t : Tables) : Type 0 where
 
 -- ---- at a place of the station
 
--- whether something is left: a piece at least, and a tenth a piece
+-- true if something is left: at least one piece, and at least a tenth a piece
 abbrev pub is_left : Running → Bool
 is_left r = int_le (pos 1) r.pieces && int_le r.pieces r.tenths
 
 -- ---- at a place outside
 
--- whether no more came back than went
+-- true if no more came back than went
 abbrev pub is_covered : Running → Bool
 is_covered r = int_le r.pieces (pos 0) && int_le r.tenths (pos 0)
 
--- how much more went than came
+-- by how much more went than came
 abbrev pub overdrawn : ℤ → ℕ
 overdrawn z = natural (neg_ℤ z)
 
@@ -54,12 +54,12 @@ drawn_by (Some t) = amount (overdrawn t.pieces) (overdrawn t.tenths)
 abbrev pub drawn_at : BookSums → ℤ → ℤ → Amount
 drawn_at sums awb place = drawn_by (get count_place_cmp sums.counts (record { awb = awb; place = place }))
 
--- whether what came of a waybill by hand and as surplus is within bounds
+-- true if what came of a waybill by hand and as surplus is within bounds
 abbrev pub is_within : BookSums → ℤ → Bool
 is_within sums awb = fits (plus (drawn_at sums awb (pos 0)) (drawn_at sums awb (pos 1)))
 
--- whether a sum at a place that isn't built is lawful: the codes below 2 are outside, and 0 is
--- where pieces go back to
+-- true if a sum at a place that isn't built is lawful: codes below 2 are outside, and 0 is the one
+-- to which pieces are returned
 abbrev pub is_lawful_count : BookSums → CountPlace × Tally → Bool
 is_lawful_count sums e =
     if int_lt e.0.place (pos 2)
@@ -68,15 +68,15 @@ is_lawful_count sums e =
 
 -- ---- on a flight
 
--- whether cargo may be on the flight of a row
+-- true if the flight of a row can have cargo
 abbrev pub is_open : Option (FlightKey × Flight) → Bool
 is_open None = false
 is_open (Some row) = not (is_set row.1.closed)
 
--- the sums on a flight, by the flight's place in a list
+-- the sums on a flight, by the flight's index in a list
 abbrev pub on_flight : ℕ → List (BuildPlace × Tally) → List (BuildPlace × Tally)
 on_flight i es = filter (λ (e : BuildPlace × Tally). e.0.flight == i) es
 
--- whether a sum on a flight is lawful, by the rows of `flight`
+-- true if a sum on a flight is lawful, by the rows of `flight`
 abbrev pub is_lawful_build : List (FlightKey × Flight) → BuildPlace × Tally → Bool
 is_lawful_build rows e = is_left (meant e.1) && is_open (slice_get rows e.0.flight)

@@ -1,4 +1,4 @@
--- Which flights have departed, by their places in a list of flights.
+-- Departed flights, by their index in a list of flights.
 use Rattle.std.specs.Prelude.{◌≡◌, pos, Bool, true, false, if◌then◌else◌, List, map, slice_get, slice_set}
 use Rattle.std.specs.Option.{unwrap_or}
 use Rattle.std.specs.Ordering.{int_eq}
@@ -9,15 +9,13 @@ use Rattle.shipment_machine.specs.Lawful.{departs_with, StaysDeparted}
 use Rattle.table_audits.specs.declared.sums.Spot.{Spot}
 use Rattle.table_audits.specs.declared.sums.Spot.TheVariants.{Plain, OnFlight}
 
--- whether a move departs with a flight
 abbrev pub departs_in : List Move → FlightDate → Bool
 departs_in book flight = list_any (departs_with flight) book
 
--- of each flight, whether a move departs with it
 abbrev pub marks_of : List FlightDate → List Move → List Bool
 marks_of flights book = map (departs_in book) flights
 
--- whether a place is on a flight that is marked
+-- true if a place is on a marked flight
 abbrev pub is_marked : List Bool → Spot → Bool
 is_marked marks (Plain code) = false
 is_marked marks (OnFlight i) = unwrap_or (slice_get marks i) false
@@ -27,7 +25,7 @@ abbrev pub marked : List Bool → Spot → Spot → List Bool
 marked marks (OnFlight i) (Plain code) = if int_eq code (pos 4) then slice_set marks i true else marks
 marked marks from to = marks
 
--- the marks of a book in which nothing is built on a flight that has departed
+-- the marks of a book in which nothing is built on a departed flight
 pub record IsDeparted (flights : List FlightDate) (book : List Move) (marks : List Bool) : Type 0 where
   pub marks_are : marks ≡ marks_of flights book
   pub stays : (flight : FlightDate) → StaysDeparted flight book

@@ -1,5 +1,4 @@
--- What is lawful of each table of a station: its own values, and what they owe to the tables before
--- it.
+-- Lawfulness of each table of a station: of its own values, and with the tables before it.
 use Rattle.std.specs.Prelude.{◌≡◌, ◌≤◌, ℕ, [], false, ◌↔◌, IsTrue, IsSome, IfSome, Some, length}
 use Rattle.std.specs.List.{AllByRecursion, list_all, list_any}
 use Rattle.std.specs.Str.{bytes_eq}
@@ -29,28 +28,27 @@ use Rattle.table_audits.specs.declared.name.TableName.{TableName}
 use Rattle.table_audits.specs.declared.name.TableName.TheVariants as table
 use Rattle.imp_fields.specs.Flight.{most_waybills}
 
--- what the tables say of cargo
 abbrev pub cargo_in : Tables → Cargo
 cargo_in t = (meaning_of t).cargo
 
--- each waybill is within range, and weighs at least a tenth a piece
+-- each waybill is in range, and weighs at least a tenth a piece
 pub record AreWaybills (t : Tables) : Type 0 where
   pub rows : IsTrue (list_all is_waybill_row t.waybills)
   pub amounts : (w : ℕ) → IfSome ((cargo_in t).declared w) (λ d. IsLawfulAmount d.pieces d.tenths)
 
--- each row is within range and no number is in two, and a used number is declared
+-- each row is in range, no number is in two rows, and used numbers are declared
 pub record AreStocks (t : Tables) : Type 0 where
   pub rows : AreStockRows t.stock
   pub used : (w : ℕ) → (cargo_in t).holders w ≡ Some Used → IsSome ((cargo_in t).declared w)
 
--- each flight is within range, and isn't to be unloaded here
+-- each flight is in range, and not unloaded here
 pub record AreFlights (t : Tables) : Type 0 where
   pub rows : IsTrue (list_all is_flight_row (entries t.flights))
   pub outbound : (flight : FlightDate)
       → IfSome ((cargo_in t).flights flight) (λ o. bytes_eq o.unload (cargo_in t).here ≡ false)
 
--- The book: moves numbered from 1, each lawful by itself, balances that no more left than came, no
--- more gone back than taken over, and flights that are closed exactly where they departed.
+-- The book: moves numbered from 1, each lawful by itself, no negative balances, no more returned
+-- than received, and exactly the departed flights closed.
 pub record AreMoves (t : Tables) : Type 0 where
   pub rows : IsTrue (list_all is_move_row t.moves)
   pub numbers : AreNumbered move_id t.moves
@@ -65,42 +63,42 @@ pub record AreMoves (t : Tables) : Type 0 where
       → (built (cargo_in t).book w flight).pieces ≡ 0
   pub room : (flight : FlightDate) → length (waybills_on (cargo_in t).book flight) ≤ most_waybills
 
--- what is expected is within range, weighs at least a tenth a piece, and is of a declared waybill
+-- each expectation is in range, weighs at least a tenth a piece, and is of a declared waybill
 pub record AreExpected (t : Tables) : Type 0 where
   pub rows : IsTrue (list_all is_expected_row (entries t.expected))
   pub expectations : (flight : FlightDate) (w : ℕ)
       → IfSome ((cargo_in t).expected flight w) (λ e. IsLawfulAmount e.pieces e.tenths
       × IsSome ((cargo_in t).declared w))
 
--- each part is within range, and its telegram is a text
+-- each part is in range, and its telegram is a text
 pub record AreParts (t : Tables) : Type 0 where
   pub rows : IsTrue (list_all is_part_row (entries t.parts))
 
--- lines numbered from 1, that print, of declared waybills
+-- printable lines of declared waybills, numbered from 1
 pub record AreTrailLines (t : Tables) : Type 0 where
   pub rows : IsTrue (list_all is_trail_row t.trail)
   pub numbers : AreNumbered trail_id t.trail
   pub lines : AllByRecursion (λ row. IsSome ((cargo_in t).declared row.0)
       × IsTrue (is_line row.1)) (cargo_in t).trail
 
--- messages that are texts, numbered from 1, of which the confirmed ones are some of the first
+-- messages that are texts, numbered from 1, and a number of the last confirmed message that exists
+-- or is 0
 pub record AreMessages (t : Tables) : Type 0 where
   pub rows : IsTrue (list_all is_message_row t.outbox)
   pub numbers : AreNumbered message_id t.outbox
   pub mark : (cargo_in t).confirmed ≤ length (cargo_in t).outbox
 
--- under each key stands the text of a command
 pub record AreKeptKeys (t : Tables) : Type 0 where
   pub rows : IsTrue (list_all is_kept_row (entries t.kept))
   pub requests : AreRequests t.kept
 
--- the telegram of each part is among those that were accepted
+-- the telegram of each part is among the accepted ones
 pub record AreKeptTexts (t : Tables) : Type 0 where
   pub rows : IsTrue (list_all is_kept_text_row (entries t.kept_texts))
   pub parts : (part : Part)
       → IfSome ((cargo_in t).parts part) (λ text. IsSome ((meaning_of t).kept_texts text))
 
--- whether a table is lawful: its own values, against those of the tables before it
+-- a table is lawful: in its own values, and with the tables before it
 abbrev pub IsLawfulTable : TableName → Tables → Type 0
 IsLawfulTable table.Station t = IsTrue (is_station t.stations)
 IsLawfulTable table.Waybill t = t.old_waybills ≡ []

@@ -5,6 +5,5 @@ use Rattle.sqlite.specs.Tree.{IsAscending}
 use Rattle.station_schema.specs.Tables.{Waybill, waybill_id}
 use Rattle.table_load.specs.Held.{by_number}
 
--- the waybills are in the order of their numbers
 abbrev pub RisesByNumber : List Waybill → Type 0
 RisesByNumber = IsAscending (λ a b. by_number waybill_id a b ≡ Less)

@@ -1,4 +1,4 @@
--- What a row of `moves` is posted as.
+-- The posting of a row of `moves`.
 use Rattle.std.specs.Prelude.{◌≡◌, pos, true, Option, Some, None, List}
 use Rattle.std.specs.List.{list_all}
 use Rattle.std.specs.FinMap.{entries}
@@ -16,18 +16,17 @@ use Rattle.table_audits.specs.declared.sums.Posting.{Posting}
 use Rattle.table_audits.specs.Sums.{IsSpot, IsPosting}
 use Rattle.table_audits.specs.Audited.{flights_of}
 
--- the tables beside the rows: waybills in the order of their numbers, and flights within range
+-- the other tables: waybills in the order of their numbers, and flights in range
 pub record AreBeside (t : table.Tables) (waybills : List table.Waybill) (flights : List (table.FlightKey × table.Flight)) : Type 0 where
   pub up : RisesByNumber waybills
   pub waybills_are : t.waybills ≡ waybills
   pub within : list_all is_flight_row (entries t.flights) ≡ true
   pub flights_are : entries t.flights ≡ flights
 
--- the flights that a table lists
 abbrev pub listed_in : table.Tables → List FlightDate
 listed_in t = flights_of (entries t.flights)
 
--- a place as it is posted, which is noted where it is built
+-- a place for posting; if it is built, its flight is noted
 pub record IsSpotOf (t : table.Tables) (place : Place) (spot : Spot) : Type 0 where
   pub spot_is : IsSpot (listed_in t) spot place
   pub noted : IsNoted (cargo_in t) place
@@ -36,16 +35,15 @@ abbrev pub IsSpotFound : table.Tables → Place → Option Spot → Type 0
 IsSpotFound t place None = IsNoted (cargo_in t) place → ⊥
 IsSpotFound t place (Some spot) = IsSpotOf t place spot
 
--- a move as a posting, from one place to another
+-- the posting of a move between two places
 abbrev pub posting_in : Move → Spot → Spot → Posting
 posting_in m from to = record { awb = pos m.awb; from = from; to = to; amount = record { pieces = pos m.pieces; tenths = pos m.tenths } }
 
--- a row within range, and a lawful move by itself
+-- a row in range, and a lawful move by itself
 pub record IsGoodRow (t : table.Tables) (row : table.Move) : Type 0 where
   pub within : is_move_row row ≡ true
   pub lawful : IsLawfulMove (cargo_in t) (move_by row)
 
--- a row as it is posted
 pub record IsPosted (t : table.Tables) (row : table.Move) (posting : Posting) : Type 0 where
   pub good : IsGoodRow t row
   pub posted : IsPosting (listed_in t) posting (move_by row)

@@ -1,4 +1,4 @@
--- What the moves of a book come to, for each waybill at each place.
+-- The sums of a book's moves, for each waybill at each place.
 use Rattle.std.specs.Prelude.{◌≡◌, ◌≢◌, ℕ, ℤ, pos, true, false, map, if◌then◌else◌, ◌+ℤ◌, Option, Some, None, List, slice_get}
 use Rattle.std.specs.Option.{option_map}
 use Rattle.std.specs.Ordering.{int_cmp, nat_cmp, ordering_then}
@@ -26,23 +26,22 @@ use Rattle.table_audits.specs.declared.sums.Posting.{Posting}
 
 -- ---- tallies
 
--- what a tally stands for
 abbrev pub meant : Tally → Running
 meant t = record { pieces = t.pieces; tenths = t.tenths }
 
--- there is no tally where both are 0
+-- a tally of zero isn't stored
 abbrev pub unless_zero : Tally → Option Tally
 unless_zero t = if is_nothing (meant t) then None else Some t
 
 abbrev pub plus_tally : Tally → Tally → Tally
 plus_tally a b = record { pieces = a.pieces +ℤ b.pieces; tenths = a.tenths +ℤ b.tenths }
 
--- an amount more
+-- adds an amount to a tally, if there is one
 abbrev pub come_to : Option Tally → Tally → Tally
 come_to None by = by
 come_to (Some t) by = plus_tally t by
 
--- the rows that it would be
+-- the rows of a tally
 abbrev pub count_of : Tally → Count
 count_of t = record { pieces = t.pieces; tenths = t.tenths }
 
@@ -51,7 +50,6 @@ build_of t = record { pieces = t.pieces; tenths = t.tenths }
 
 -- ---- sums
 
--- the row of a sum
 abbrev pub count_entry : CountPlace × Tally → CountKey × Count
 count_entry e = ((e.0.awb, e.0.place), count_of e.1)
 
@@ -65,16 +63,15 @@ build_place_cmp a b = ordering_then (nat_cmp a.flight b.flight) (int_cmp a.awb b
 abbrev pub count_told : BookSums → CountKey → Option Count
 count_told sums (awb, place) = option_map count_of (get count_place_cmp sums.counts (record { awb = awb; place = place }))
 
--- the sum of a waybill on a flight, by the flight's place in a list
+-- the sum of a waybill on a flight, by the flight's index in a list
 abbrev pub build_told : BookSums → ℕ → ℤ → Option Build
 build_told sums flight awb = option_map build_of (get build_place_cmp sums.builds (record { flight = flight; awb = awb }))
 
--- what there is to say
+-- the row of `build` that is due
 abbrev pub build_due : Sums → ℤ → Option FlightDate → Option Build
 build_due s (pos w) (Some f) = option_map build_row (unless_nothing (s w (Built f)))
 build_due s _ _ = None
 
--- each flight stands once in a list
 abbrev pub AreDistinct : List FlightDate → Type 0
 AreDistinct flights = (i j : ℕ) (f : FlightDate) → slice_get flights i ≡ Some f → slice_get flights j ≡ Some f → i ≡ j
 
@@ -87,12 +84,11 @@ pub record AreSums (flights : List FlightDate) (sums : BookSums) (s : Sums) : Ty
 
 -- ---- moves
 
--- a place by its code, or the flight by its place in a list
+-- a place by its code, or a flight by its index in a list
 abbrev pub IsSpot : List FlightDate → Spot → Place → Type 0
 IsSpot flights (Plain code) p = (is_built p ≡ false) × (code ≡ pos (place_code p))
 IsSpot flights (OnFlight i) p = (f : FlightDate) × (p ≡ Built f) × (slice_get flights i ≡ Some f)
 
--- a move as it is posted
 pub record IsPosting (flights : List FlightDate) (posting : Posting) (m : Move) : Type 0 where
   pub awb_is : posting.awb ≡ pos m.awb
   pub from_is : IsSpot flights posting.from m.from
@@ -110,7 +106,7 @@ build_at row awb t = ((row.0.0, (row.0.1, awb)), build_of t)
 abbrev pub build_entry : List (FlightKey × Flight) → BuildPlace × Tally → Option (BuildKey × Build)
 build_entry rows e = option_map (λ (row : FlightKey × Flight). build_at row e.0.awb e.1) (slice_get rows e.0.flight)
 
--- the flights of rows of `flight`, in the order of their keys
+-- the flights in rows of `flight`, in the order of their keys
 pub record AreFlightsOf (flights : List FlightDate) (rows : List (FlightKey × Flight)) : Type 0 where
   pub keys : map flight_key flights ≡ map (λ (row : FlightKey × Flight). row.0) rows
   pub each : AllByRecursion (λ (f : FlightDate). is_designator f.flight ≡ true) flights

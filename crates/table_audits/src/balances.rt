@@ -18,19 +18,18 @@ use imp_fields::{MOST_PIECES, MOST_TENTHS};
 use shipment_machine::MOST_WAYBILLS;
 use table_load::FlightEntry;
 
-/// The most pieces of a waybill, and the most tenths of a kilogram.
+/// The largest numbers of pieces and of tenths of a kilogram of a waybill.
 const PIECES: u64 = MOST_PIECES as u64;
 
 const TENTHS: u64 = MOST_TENTHS as u64;
 
-/// Pieces and tenths of a kilogram that came from a place outside.
+/// Pieces and tenths of a kilogram from a place outside.
 #[derive(Clone, Copy)]
 struct Drawn {
     pieces: u64,
     tenths: u64,
 }
 
-/// How much more went than came.
 fn overdrawn(balance: &i64) -> u64
     ensures { result ≡ overdrawn balance.now }
 {
@@ -40,7 +39,7 @@ fn overdrawn(balance: &i64) -> u64
     0
 }
 
-/// What came from a place outside.
+/// Returns what came from a place outside.
 fn drawn_at(sums: &BookSums, place: &CountPlace) -> Drawn
     ensures pieces { result.pieces ≡ (drawn_by
         (get count_place_cmp sums.now.counts place.now)).pieces }
@@ -59,7 +58,7 @@ fn drawn_at(sums: &BookSums, place: &CountPlace) -> Drawn
     }
 }
 
-/// Whether two numbers are together at most this much.
+/// Returns whether the sum of two numbers is at most `most`.
 fn are_at_most(one: u64, other: u64, most: u64) -> bool
     ensures { result ≡ nat_le (one + other) most }
 {
@@ -69,8 +68,8 @@ fn are_at_most(one: u64, other: u64, most: u64) -> bool
     other <= most - one
 }
 
-/// Whether what came of the waybill by hand and as surplus is within 9,999 pieces and 999,999
-/// tenths.
+/// Returns whether what came of the waybill by hand and as surplus is at most 9,999 pieces and
+/// 999,999 tenths.
 fn is_within(sums: &BookSums, place: &CountPlace) -> bool
     ensures { result ≡ is_within sums.now place.now.awb }
 {
@@ -92,21 +91,19 @@ fn is_within(sums: &BookSums, place: &CountPlace) -> bool
         && are_at_most(hand.tenths, surplus.tenths, TENTHS)
 }
 
-/// Whether a piece at least is left, and a tenth a piece.
 fn is_left(tally: &Tally) -> bool
     ensures { result ≡ is_left (meant tally.now) }
 {
     tally.pieces >= 1 && tally.pieces <= tally.tenths
 }
 
-/// Whether no more came back than went.
 fn is_covered(tally: &Tally) -> bool
     ensures { result ≡ is_covered (meant tally.now) }
 {
     tally.pieces <= 0 && tally.tenths <= 0
 }
 
-/// Whether a sum at a place that isn't built is lawful.
+/// Returns whether a sum at a place that isn't built is lawful.
 fn is_lawful_count(sums: &BookSums, place: &CountPlace, tally: &Tally) -> bool
     ensures { result ≡ is_lawful_count sums.now (place.now, tally.now) }
 {
@@ -116,7 +113,6 @@ fn is_lawful_count(sums: &BookSums, place: &CountPlace, tally: &Tally) -> bool
     is_left(tally)
 }
 
-/// Whether each sum at a place that isn't built is lawful.
 fn are_counts_lawful(sums: &BookSums) -> bool
     ensures each { result ≡ list_all (is_lawful_count sums.now) sums.now.counts.entries }
     ensures ordered { IsOrdered count_place_cmp sums.now.counts }
@@ -129,7 +125,6 @@ fn are_counts_lawful(sums: &BookSums) -> bool
     true
 }
 
-/// Whether cargo may be on the flight at this place of the list.
 fn is_open(flights: &[FlightEntry], at: usize) -> bool
     ensures { result ≡ is_open (slice_get (map flight_entry flights.now) at) }
 {
@@ -139,14 +134,13 @@ fn is_open(flights: &[FlightEntry], at: usize) -> bool
     }
 }
 
-/// Whether a sum on a flight is lawful: something is left, and the flight isn't closed.
+/// Returns whether a sum on a flight is lawful: something is left, and the flight isn't closed.
 fn is_lawful_build(flights: &[FlightEntry], place: &BuildPlace, tally: &Tally) -> bool
     ensures { result ≡ is_lawful_build (map flight_entry flights.now) (place.now, tally.now) }
 {
     is_left(tally) && is_open(flights, place.flight)
 }
 
-/// Whether each sum on a flight is lawful.
 fn are_builds_lawful(sums: &BookSums, flights: &[FlightEntry]) -> bool
     ensures each { result ≡ list_all (is_lawful_build (map flight_entry flights.now))
         sums.now.builds.entries }
@@ -160,7 +154,7 @@ fn are_builds_lawful(sums: &BookSums, flights: &[FlightEntry]) -> bool
     true
 }
 
-/// Whether at most 500 waybills are on each flight. The sums of a flight stand next to one another.
+/// Returns whether each flight has at most 500 waybills. The sums of a flight are adjacent.
 fn is_room_kept(sums: &BookSums) -> bool
     ensures { IsTrue result
         ↔ ((i : ℕ) → length (on_flight i sums.now.builds.entries) ≤ most_waybills) }
@@ -181,9 +175,9 @@ fn is_room_kept(sums: &BookSums) -> bool
     true
 }
 
-/// Whether the balances of a station are lawful: no place of the station gave more than it got, at
-/// most 9,999 pieces and 999,999 tenths of a waybill came, nothing is on a closed flight, and at
-/// most 500 waybills are on a flight. The flights are those of the table `flight`, whole.
+/// Returns whether the balances of a station are lawful: no place of the station gave more than it
+/// got, at most 9,999 pieces and 999,999 tenths came of a waybill, closed flights are empty, and
+/// each flight has at most 500 waybills. `flights` is the whole table `flight`.
 pub fn are_balances_lawful(sums: &BookSums, flights: &[FlightEntry]) -> bool
     ensures exact { (t : Tables) (listed : List FlightDate)
         → IsTrue (list_all is_flight_row (entries t.flights))

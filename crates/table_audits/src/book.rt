@@ -22,7 +22,7 @@ use station_rows::{MoveRow, WaybillRow};
 use std::alloc::{AllocError, Global};
 use table_load::{FlightEntry, RowFold};
 
-/// What the moves are judged beside: all waybills, in the order of their numbers, and all flights,
+/// The tables for auditing the moves: all waybills in the order of their numbers, and all flights
 /// in the order of their keys.
 #[derive(Drop)]
 pub struct BookBeside {
@@ -30,29 +30,29 @@ pub struct BookBeside {
     pub flights: Vec<FlightEntry>,
 }
 
-/// The book of a station that was judged.
+/// An audited movement book.
 #[derive(Drop)]
 pub struct Book {
-    /// What its moves come to.
+    /// The sums of its moves.
     pub sums: BookSums,
-    /// How many moves it has.
+    /// The number of its moves.
     pub moves: u32,
 }
 
-/// The moves of a book that are taken one after another.
+/// The audit of moves that are added one after another.
 #[derive(Drop)]
 pub struct BookAudit {
-    /// Whether they are numbered from 1, each is lawful by itself, and none builds on a flight that
-    /// has departed. What follows is that of the moves where it is so.
+    /// True if they are numbered from 1, each is lawful by itself, and none builds on a flight that
+    /// has departed. The other fields describe the moves only if it is true.
     pub(crate) are_good: bool,
     pub(crate) count: u32,
     pub(crate) sums: BookSums,
-    /// Of each flight, whether a move departs with it.
+    /// For each flight, true if a move departs with it.
     pub(crate) departed: Vec<bool>,
 }
 
 impl BookAudit {
-    /// No moves, beside so many flights.
+    /// Starts without moves, for a number of flights.
     pub fn new(alloc: Global, flights: usize) -> Result<BookAudit, AllocError>
         ensures { (beside : BookBeside) → length beside.flights.items ≡ flights
             → IfOk result (λ audit. AreMovesTaken beside audit []) }
@@ -66,7 +66,7 @@ impl BookAudit {
         })
     }
 
-    /// The next row as it is posted. `None`: it isn't good after the moves so far.
+    /// Returns the posting of the next row, or `None` if the row isn't good after the moves so far.
     fn next_posting(&self, beside: &BookBeside, row: &MoveRow) -> Option<Posting>
         ensures { (t : Tables) (moves : List Row) → AreRead t beside.now
             → IsBookOf t moves self.now → IsNextOr t moves (move_meant row.now) result }
@@ -98,8 +98,8 @@ impl BookAudit {
         Ok(())
     }
 
-    /// The book of the moves that were taken, where they are lawful beside these flights, which are
-    /// within range. `None`: they aren't.
+    /// Returns the audited book, or `None` if the moves aren't lawful with these flights, which are
+    /// in range.
     pub fn judged(self, flights: &[FlightEntry]) -> Option<Book>
         ensures exact { (t : Tables) → IsBookAs t t.moves self self.are_good
             → IsTrue (list_all is_flight_row (entries t.flights))

@@ -14,7 +14,7 @@ use crate::tally::Tally;
 use station_rows::BuildRow;
 use table_load::FlightEntry;
 
-/// Whether a row says this of a waybill on a flight.
+/// Returns whether a row has this tally of a waybill on a flight.
 fn says(row: &BuildRow, on: &FlightEntry, awb: i64, tally: &Tally) -> bool
     ensures { IsTrue result ↔ (build_meant row.now ≡ build_at (flight_entry on.now) awb tally.now) }
 {
@@ -24,7 +24,7 @@ fn says(row: &BuildRow, on: &FlightEntry, awb: i64, tally: &Tally) -> bool
     row.pieces == tally.pieces && row.tenths == tally.tenths
 }
 
-/// Whether a row says this of this flight.
+/// Returns whether a row has this tally, by the index of its flight.
 fn is_row(row: &BuildRow, place: &BuildPlace, tally: &Tally, flights: &[FlightEntry]) -> bool
     ensures { IsTrue result ↔
         (Some (build_meant row.now) ≡ build_entry (map flight_entry flights.now)
@@ -36,7 +36,7 @@ fn is_row(row: &BuildRow, place: &BuildPlace, tally: &Tally, flights: &[FlightEn
     }
 }
 
-/// Whether the rows of `build` are the sums, each in the order of its key.
+/// Returns whether the rows of `build` are the sums, both in the order of their keys.
 fn are_same(sums: &BookSums, flights: &[FlightEntry], rows: &[BuildRow]) -> bool
     ensures same { IsTrue result ↔
         (map (λ row. Some (build_meant row)) rows.now ≡ map
@@ -55,9 +55,9 @@ fn are_same(sums: &BookSums, flights: &[FlightEntry], rows: &[BuildRow]) -> bool
     ahead.next().is_none()
 }
 
-/// Whether the rows of `build` are what a book comes to: each waybill has a row for each flight on
-/// which it has pieces or tenths, and there is no other row. The flights are those of the table
-/// `flight`, whole.
+/// Returns whether the rows of `build` match the sums of a book: a waybill has a row for each
+/// flight on which it has pieces or tenths, and there are no other rows. `flights` is the whole
+/// table `flight`.
 pub fn are_builds(sums: &BookSums, flights: &[FlightEntry], rows: &[BuildRow]) -> bool
     ensures exact { (t : Tables) (listed : List FlightDate) (book : List Move)
         → AreFlightsOf listed (map flight_entry flights.now)

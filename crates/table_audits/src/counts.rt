@@ -12,7 +12,7 @@ use crate::sums::{BookSums, CountPlace};
 use crate::tally::Tally;
 use station_rows::CountRow;
 
-/// Whether a row says this of this place.
+/// Returns whether a row has this tally of a place.
 fn is_row(row: &CountRow, place: &CountPlace, tally: &Tally) -> bool
     ensures { IsTrue result ↔ (count_meant row.now ≡ count_entry (place.now, tally.now)) }
 {
@@ -22,7 +22,7 @@ fn is_row(row: &CountRow, place: &CountPlace, tally: &Tally) -> bool
         && row.tenths == tally.tenths
 }
 
-/// Whether the rows of `counts` are the sums, each in the order of its key.
+/// Returns whether the rows of `counts` are the sums, both in the order of their keys.
 fn are_same(sums: &BookSums, rows: &[CountRow]) -> bool
     ensures same { IsTrue result ↔
         (map count_meant rows.now ≡ map count_entry sums.now.counts.entries) }
@@ -40,8 +40,8 @@ fn are_same(sums: &BookSums, rows: &[CountRow]) -> bool
     ahead.next().is_none()
 }
 
-/// Whether the rows of `counts` are what a book comes to: each waybill has a row for each place
-/// where it has pieces or tenths, and there is no other row.
+/// Returns whether the rows of `counts` match the sums of a book: a waybill has a row for each
+/// place at which it has pieces or tenths, and there are no other rows.
 pub fn are_counts(sums: &BookSums, rows: &[CountRow]) -> bool
     ensures exact { (t : Tables) (flights : List FlightDate) (book : List Move)
         → AreSums flights sums.now (running book) → entries t.counts ≡ map count_meant rows.now

@@ -16,10 +16,9 @@ use crate::sums::{Posting, Spot};
 use std::alloc::{AllocError, Global};
 use table_load::FlightEntry;
 
-/// The code of the place of pieces that departed.
+/// The code of the place of departed pieces.
 const DEPARTED: i64 = 4;
 
-/// Whether a place is on a flight that is marked.
 pub(crate) fn is_marked(marks: &[bool], spot: &Spot) -> bool
     ensures { result ≡ is_marked marks.now spot.now }
 {
@@ -44,14 +43,14 @@ pub(crate) fn mark(marks: &mut Vec<bool>, movement: &Posting)
     }
 }
 
-/// No marks, for so many flights.
+/// Returns the marks of `count` flights, none of them set.
 pub(crate) fn no_marks(alloc: Global, count: usize) -> Result<Vec<bool>, AllocError>
     ensures { IfOk result (λ marks. marks.items ≡ replicate count false) }
 {
     vec![in alloc; false; count]
 }
 
-/// Whether the marks are those of the flights that are closed.
+/// Returns whether the marks are those of the closed flights.
 fn are_closed(flights: &[FlightEntry], marks: &[bool]) -> bool
     ensures { IsTrue result ↔
         (map (λ row. is_set (flight_entry row).1.closed) flights.now ≡ map (λ mark. mark)
@@ -69,9 +68,9 @@ fn are_closed(flights: &[FlightEntry], marks: &[bool]) -> bool
     ahead.next().is_none()
 }
 
-/// Whether flights are closed exactly where they departed. These are the marks of the moves of the
-/// book, each lawful by itself, of which none builds on a flight that has departed; and the rows of
-/// `flight`, which are within range, stand in the order of their keys.
+/// Returns whether exactly the departed flights are closed. `departed` marks the flights in the
+/// moves of the book, each lawful by itself, of which none builds on a departed flight. The rows of
+/// `flight` are in range and in the order of their keys.
 pub(crate) fn are_departures_lawful(departed: &[bool], flights: &[FlightEntry]) -> bool
     ensures exact { (t : Tables) → IsTrue (list_all is_flight_row (entries t.flights))
         → entries t.flights ≡ map flight_entry flights.now

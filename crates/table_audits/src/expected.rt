@@ -17,7 +17,7 @@ use station_core::Expectation;
 use station_rows::{ExpectedRow, WaybillRow};
 use table_load::ExpectedEntry;
 
-/// What a row says, where it is within range.
+/// Returns the expectation of a row that is in range.
 fn listed(row: &ExpectedEntry) -> Option<Expectation>
     ensures exact { is_some result ≡ is_expected_row (expected_entry row.now) }
     ensures value { IfSome result (λ one. Some one ≡ expectation_by (expected_entry row.now)) }
@@ -30,14 +30,15 @@ fn listed(row: &ExpectedEntry) -> Option<Expectation>
     expectation_of(&row.flight, row.day, row.awb, &columns)
 }
 
-/// Whether the weight is at least a tenth a piece.
+/// Returns whether the weight is at least a tenth a piece.
 fn is_enough(expected: &Expected) -> bool
     ensures { result ≡ nat_le expected.now.pieces expected.now.tenths }
 {
     expected.pieces.number() <= expected.tenths.number()
 }
 
-/// Whether the row is within range, its weight at least a tenth a piece, and its waybill declared.
+/// Returns whether the row is in range, its weight at least a tenth a piece, and its waybill
+/// declared.
 fn is_lawful(row: &ExpectedEntry, waybills: &[WaybillRow]) -> bool
     ensures { RisesByNumber (map waybill_meant waybills.now)
         → result ≡ is_lawful_expected (map waybill_meant waybills.now) (expected_entry row.now) }
@@ -51,7 +52,6 @@ fn is_lawful(row: &ExpectedEntry, waybills: &[WaybillRow]) -> bool
     is_declared(waybills, awb_key(&one.awb))
 }
 
-/// Whether each row is.
 fn are_lawful(rows: &[ExpectedEntry], waybills: &[WaybillRow]) -> bool
     ensures { RisesByNumber (map waybill_meant waybills.now)
         → result ≡ list_all (is_lawful_expected (map waybill_meant waybills.now))
@@ -60,7 +60,7 @@ fn are_lawful(rows: &[ExpectedEntry], waybills: &[WaybillRow]) -> bool
     rows.iter().all(|row| is_lawful(row, waybills))
 }
 
-/// Whether these rows of `expected`, in the order of their keys, are lawful beside these of
+/// Returns whether the rows of `expected`, in the order of their keys, are lawful with the rows of
 /// `waybill`, in the order of their numbers.
 pub fn are_expected_lawful(rows: &[ExpectedEntry], waybills: &[WaybillRow]) -> bool
     ensures exact { (t : Tables) → RisesByNumber (map waybill_meant waybills.now)

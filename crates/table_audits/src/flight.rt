@@ -15,7 +15,7 @@ use row_codec::noted_of;
 use station_core::NotedFlight;
 use table_load::FlightEntry;
 
-/// What a row notes, where it is within range.
+/// Returns the flight of a row that is in range.
 fn noted(row: &FlightEntry) -> Option<NotedFlight>
     ensures exact { is_some result ≡ is_flight_row (flight_entry row.now) }
     ensures value { IfSome result (λ one. Some one ≡ noted_by (flight_entry row.now)) }
@@ -23,7 +23,7 @@ fn noted(row: &FlightEntry) -> Option<NotedFlight>
     noted_of(&row.flight, row.day, &row.unload, row.closed)
 }
 
-/// Whether a flight with this airport of unloading is unloaded elsewhere.
+/// Returns whether an airport of unloading isn't this station's.
 fn is_elsewhere(unload: &Airport, here: &str) -> bool
     ensures { result ≡ not (bytes_eq unload.now here.now) }
 {
@@ -31,7 +31,7 @@ fn is_elsewhere(unload: &Airport, here: &str) -> bool
     &letters[..] != here.as_bytes()
 }
 
-/// Whether the row is within range, and the flight unloaded elsewhere.
+/// Returns whether the row is in range, and the flight unloaded elsewhere.
 fn is_lawful(row: &FlightEntry, here: &str) -> bool
     ensures { result ≡ is_lawful_flight here.now (flight_entry row.now) }
 {
@@ -41,15 +41,14 @@ fn is_lawful(row: &FlightEntry, here: &str) -> bool
     is_elsewhere(&one.outbound.unload, here)
 }
 
-/// Whether each row is.
 fn are_lawful(rows: &[FlightEntry], here: &str) -> bool
     ensures { result ≡ list_all (is_lawful_flight here.now) (map flight_entry rows.now) }
 {
     rows.iter().all(|row| is_lawful(row, here))
 }
 
-/// Whether these rows of `flight`, in the order of their keys, are lawful at a station at this
-/// airport.
+/// Returns whether the rows of `flight`, in the order of their keys, are lawful for a station at
+/// this airport.
 pub fn are_flights_lawful(rows: &[FlightEntry], here: &str) -> bool
     ensures exact { (t : Tables) → airport_in t.stations ≡ here.now
         → entries t.flights ≡ map flight_entry rows.now

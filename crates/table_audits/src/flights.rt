@@ -7,8 +7,8 @@ ghost use Rattle.row_codec.specs.Flights.{is_flight_row};
 ghost use Rattle.table_audits.specs.Sums.{AreDistinct, AreFlightsOf};
 ghost use Rattle.table_audits.specs.Audited.{flights_of};
 
-/// The law that rows of `flight` within range name flights in the order of their keys, and that
-/// flights so named stand once each.
+/// Rows of `flight` that are in range name flights in the order of their keys, and such flights
+/// occur once each.
 pub fn flights_listed()
     ensures listed { (m : FinMap flight_cmp Flight) → IsTrue (list_all is_flight_row (entries m))
         → AreFlightsOf (flights_of (entries m)) (entries m) }

@@ -16,21 +16,20 @@ use sqlite::Error;
 use station_core::Key;
 use table_load::{KeptKeyEntry, RowFold};
 
-/// Whether the row's key and count are within range.
+/// Returns whether the row's key and count are in range.
 fn is_counted(row: &KeptKeyEntry) -> bool
     ensures { result ≡ is_key (string_bytes row.now.id) && is_count row.now.count }
 {
     Key::read(row.id.as_bytes()).is_some() && count_of(row.count).is_some()
 }
 
-/// Whether the row is within range. Its command is a text by its type.
+/// Returns whether the row is in range. Its command is a text by its type.
 fn is_in_range(row: &KeptKeyEntry) -> bool
     ensures { result ≡ is_kept_row (kept_key_entry row.now) }
 {
     is_counted(row)
 }
 
-/// Whether it is the text of a command.
 fn is_request(text: &str) -> bool
     ensures request { IsTrue result → IsRequest text.now }
     ensures other { IsRequest text.now → IsTrue result }
@@ -38,22 +37,22 @@ fn is_request(text: &str) -> bool
     read_command_text(text.as_bytes()).is_some()
 }
 
-/// Whether the row is within range, and its text that of a command.
+/// Returns whether the row is in range, with the text of a command.
 fn is_lawful(row: &KeptKeyEntry) -> bool
     ensures { IsTrue result ↔ IsLawfulKept (kept_key_entry row.now) }
 {
     is_in_range(row) && is_request(&row.command)
 }
 
-/// Rows of `kept_key` that are taken one after another.
+/// The audit of `kept_key`, whose rows are added one after another.
 #[derive(Drop)]
 pub struct KeptKeys {
-    /// Whether each of them is lawful.
+    /// True if each of them is lawful.
     pub(crate) are_lawful: bool,
 }
 
 impl KeptKeys {
-    /// No rows.
+    /// Starts without rows.
     pub fn new() -> KeptKeys
         ensures { AreKeysTaken result [] }
     {
@@ -78,7 +77,7 @@ impl RowFold<KeptKeyEntry> for KeptKeys {
     }
 }
 
-/// Whether the rows of `kept_key` that were taken are lawful.
+/// Returns whether the added rows of `kept_key` are lawful.
 pub fn are_kept_keys_lawful(keys: &KeptKeys) -> bool
     ensures exact { (t : Tables) (rows : List KeptKeyEntry) → AreKeysTaken keys.now rows
         → entries t.kept ≡ map kept_key_entry rows

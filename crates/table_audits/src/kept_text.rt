@@ -12,14 +12,13 @@ use crate::lookups::is_kept;
 use row_codec::count_of;
 use table_load::{KeptTextEntry, PartEntry};
 
-/// Whether each row is within range.
 fn are_in_range(rows: &[KeptTextEntry]) -> bool
     ensures { result ≡ list_all is_kept_text_row (map kept_text_entry rows.now) }
 {
     rows.iter().all(|row| count_of(row.count).is_some())
 }
 
-/// Whether the telegram of each part is among the texts.
+/// Returns whether the telegram of each part is among the texts.
 fn are_kept(parts: &[PartEntry], texts: &[KeptTextEntry]) -> bool
     ensures { (rows : FinMap kept_text_cmp ℤ) → entries rows ≡ map kept_text_entry texts.now
         → result ≡ list_all (has_text rows) (map part_entry parts.now) }
@@ -27,8 +26,8 @@ fn are_kept(parts: &[PartEntry], texts: &[KeptTextEntry]) -> bool
     parts.iter().all(|part| is_kept(texts, &part.body))
 }
 
-/// Whether these rows of `kept_text` are lawful beside these of `part`, which are lawful. Both are
-/// in the order of their keys.
+/// Returns whether the rows of `kept_text` are lawful with the rows of `part`, which are lawful.
+/// Both are in the order of their keys.
 pub fn are_kept_texts_lawful(rows: &[KeptTextEntry], parts: &[PartEntry]) -> bool
     ensures exact { (t : Tables) → IsLawfulTable table.Part t
         → entries t.parts ≡ map part_entry parts.now

@@ -1,5 +1,5 @@
-//! The audits of a station's tables, one a table: whether its rows mean a lawful part of a state.
-//! What is lawful of each is defined here, and all of them together mean a lawful state.
+//! The audits of a station's tables, one for each table: whether its rows mean a lawful part of a
+//! state. Lawfulness is defined here for each table, and all of them together mean a lawful state.
 #![tactic(auto)]
 
 mod balances;

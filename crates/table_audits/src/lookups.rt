@@ -13,7 +13,7 @@ use station_rows::WaybillRow;
 use std::cmp::Ordering;
 use table_load::{FlightEntry, KeptTextEntry};
 
-/// Where the row of a number is, or where it would be.
+/// Returns the index of a number's row, or of its place.
 fn place_of(waybills: &[WaybillRow], awb: &i64) -> Result<usize, usize>
     ensures { RisesByNumber (map waybill_meant waybills.now)
         → is_ok result ≡ has_key waybill_id (map waybill_meant waybills.now) awb.now }
@@ -21,8 +21,8 @@ fn place_of(waybills: &[WaybillRow], awb: &i64) -> Result<usize, usize>
     waybills.binary_search_by_key(awb, |row| row.awb)
 }
 
-/// Whether there is a row of the waybill with this number. The rows are all of `waybill`, in the
-/// order of their numbers.
+/// Returns whether the waybill has a row. `waybills` is the whole table `waybill`, in the order of
+/// the numbers.
 #[tactic(auto, using(crate::proofs::DeclaredLaws::declared_from, crate::proofs::DeclaredLaws::declared_back))]
 pub fn is_declared(waybills: &[WaybillRow], awb: i64) -> bool
     ensures row { RisesByNumber (map waybill_meant waybills.now)
@@ -33,7 +33,7 @@ pub fn is_declared(waybills: &[WaybillRow], awb: i64) -> bool
     place_of(waybills, &awb).is_ok()
 }
 
-/// How a row of `flight` is ordered against a flight and a day.
+/// Compares a row of `flight` with a flight and a day.
 fn compare_flight(row: &FlightEntry, flight: &str, day: &i64) -> Ordering
     ensures { result ≡ flight_cmp (flight_entry row.now).0 (flight.now, day.now) }
 {
@@ -44,7 +44,7 @@ fn compare_flight(row: &FlightEntry, flight: &str, day: &i64) -> Ordering
     }
 }
 
-/// Where the row of a flight and a day is, or where it would be.
+/// Returns the index of a flight's row on a day, or of its place.
 pub fn flight_place(flights: &[FlightEntry], flight: &str, day: &i64) -> Result<usize, usize>
     ensures bound { IsSearchInRange result (length flights.now) }
     ensures place { IsBinarySearchResult
@@ -53,7 +53,7 @@ pub fn flight_place(flights: &[FlightEntry], flight: &str, day: &i64) -> Result<
     flights.binary_search_by(|row| compare_flight(row, flight, day))
 }
 
-/// Where the row of a text is, or where it would be.
+/// Returns the index of a text's row, or of its place.
 fn text_place(texts: &[KeptTextEntry], text: &str) -> Result<usize, usize>
     ensures bound { IsSearchInRange result (length texts.now) }
     ensures place { IsBinarySearchResult (λ row. kept_text_cmp (kept_text_entry row).0 text.now)
@@ -62,7 +62,8 @@ fn text_place(texts: &[KeptTextEntry], text: &str) -> Result<usize, usize>
     texts.binary_search_by(|row| row.body.as_str().cmp(text))
 }
 
-/// Whether a text was accepted. The rows are all of `kept_text`, in the order of their keys.
+/// Returns whether a text was accepted. `texts` is the whole table `kept_text`, in the order of its
+/// keys.
 pub fn is_kept(texts: &[KeptTextEntry], text: &str) -> bool
     ensures { (rows : FinMap kept_text_cmp ℤ) → entries rows ≡ map kept_text_entry texts.now
         → result ≡ contains_key rows text.now }

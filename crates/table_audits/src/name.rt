@@ -3,16 +3,15 @@ ghost use Rattle.table_audits.specs.Names.{name_text};
 
 use std::fmt;
 
-/// The tables of a station, in the order in which they are audited: each is tested against those
-/// before it.
+/// The tables of a station, in the order of their audits: each is tested against those before it.
 #[derive(Clone, Copy, Debug, PartialEq, Eq)]
 pub enum TableName {
-    /// The station's one row: its airport, the version of the file, the last message that was
-    /// confirmed.
+    /// The station's one row: its airport, the version of the file, and the number of the last
+    /// confirmed message.
     Station,
-    /// What was declared of each air waybill in files of version 1: it is empty.
+    /// The declarations in files of version 1, otherwise empty.
     Waybill,
-    /// What is declared of each air waybill, and since when.
+    /// The declaration of each air waybill, with its day.
     Waybill2,
     /// The stock of air waybill numbers, by runs.
     Stock,
@@ -20,7 +19,7 @@ pub enum TableName {
     Flight,
     /// The movement book.
     Moves,
-    /// What inbound flights are to bring.
+    /// The expectations on inbound flights.
     Expected,
     /// The parts of the manifests that were read.
     Part,
@@ -28,13 +27,13 @@ pub enum TableName {
     Trail,
     /// The messages sent.
     Outbox,
-    /// What was accepted under each key.
+    /// The commands accepted under each key.
     KeptKey,
     /// The telegrams that were accepted.
     KeptText,
     /// The running counts of each waybill, by place.
     Counts,
-    /// What is built on each flight.
+    /// The amounts built on each flight.
     Build,
 }
 

@@ -3,14 +3,14 @@ ghost use Rattle.table_audits.specs.Taken.{AreSound, AreSoundOr, AreCounted};
 
 use sqlite::{Error, ErrorCode};
 
-/// Whether a number is that of the row after so many, counted from 1.
+/// Returns whether a number follows `count` rows numbered from 1.
 pub(crate) fn is_next(number: i64, count: u32) -> bool
     ensures { IsTrue result ↔ (number ≡ pos (count + 1)) }
 {
     number == i64::from(count) + 1
 }
 
-/// One row more. On error there are more than 4,294,967,295.
+/// Adds one row. It fails above 4,294,967,295.
 pub(crate) fn one_more(count: u32) -> Result<u32, Error>
     ensures { IfOk result (λ more. more ≡ count + 1) }
 {
@@ -20,8 +20,8 @@ pub(crate) fn one_more(count: u32) -> Result<u32, Error>
     }
 }
 
-/// How many rows there are with the next one. `None`: it has another number, or isn't lawful. On
-/// error there are more than 4,294,967,295.
+/// Returns the number of rows with the next one, or `None` if that has a wrong number or isn't
+/// lawful. It fails above 4,294,967,295.
 fn counted(count: u32, number: i64, is_lawful: bool) -> Result<Option<u32>, Error>
     ensures { (rows : List (ℤ × Bool)) → AreSound rows → count ≡ length rows
         → IfOk result (AreSoundOr (rows ++ (number, is_lawful) ∷ [])) }
@@ -35,23 +35,22 @@ fn counted(count: u32, number: i64, is_lawful: bool) -> Result<Option<u32>, Erro
     Ok(Some(one_more(count)?))
 }
 
-/// Rows that are taken one after another: whether they are numbered from 1 and lawful, and how many
-/// they are.
+/// The audit of rows that are numbered from 1 and added one after another.
 #[derive(Drop)]
 pub struct NumberedRows {
-    /// How many they are. `None`: one of them has another number, or isn't lawful.
+    /// The number of rows, or `None` if one of them has a wrong number or isn't lawful.
     pub(crate) count: Option<u32>,
 }
 
 impl NumberedRows {
-    /// No rows.
+    /// Starts without rows.
     pub fn new() -> NumberedRows
         ensures { AreCounted result [] }
     {
         NumberedRows { count: Some(0) }
     }
 
-    /// Takes the next row. On error there are more than 4,294,967,295.
+    /// Adds the next row. It fails above 4,294,967,295.
     pub(crate) fn add(&mut self, number: i64, is_lawful: bool) -> Result<(), Error>
         ensures { (rows : List (ℤ × Bool)) → AreCounted self.old rows
             → OnOk result (AreCounted self.new (rows ++ (number, is_lawful) ∷ [])) }

@@ -6,7 +6,7 @@ ghost use Rattle.table_audits.specs.declared.name.TableName.TheVariants as table
 
 use table_load::OldWaybillEntry;
 
-/// Whether these rows of `waybill` are lawful: there are none.
+/// Returns whether the rows of `waybill` are lawful: there are none.
 pub fn are_old_waybills_lawful(rows: &[OldWaybillEntry]) -> bool
     ensures exact { (t : Tables) → t.old_waybills ≡ map old_waybill_entry rows.now
         → (IsTrue result ↔ IsLawfulTable table.Waybill t) }

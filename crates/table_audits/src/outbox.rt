@@ -11,7 +11,7 @@ use sqlite::Error;
 use station_rows::MessageRow;
 use table_load::RowFold;
 
-/// Rows of `outbox` are taken in the order of their numbers. Each is a text by its type.
+/// The rows of `outbox` are added in the order of their numbers. Each is a text by its type.
 impl RowFold<MessageRow> for NumberedRows {
     ghost use Rattle.table_audits.specs.Taken.{AreMessagesTaken};
 
@@ -25,7 +25,6 @@ impl RowFold<MessageRow> for NumberedRows {
     }
 }
 
-/// How many messages there are, if so many were confirmed of them.
 fn if_confirmed(count: Option<u32>, confirmed: u32) -> Option<u32>
     ensures { result ≡ if_confirmed confirmed count }
 {
@@ -35,8 +34,8 @@ fn if_confirmed(count: Option<u32>, confirmed: u32) -> Option<u32>
     }
 }
 
-/// How many messages there are, where the rows of `outbox` that were taken are lawful and so many
-/// messages were confirmed.
+/// Returns the number of messages, if the added rows of `outbox` are lawful with this number of the
+/// last confirmed message.
 pub fn lawful_messages(messages: &NumberedRows, confirmed: u32) -> Option<u32>
     ensures exact { (t : Tables) (rows : List MessageRow) → AreMessagesTaken messages.now rows
         → confirmed_in t.stations ≡ confirmed → t.outbox ≡ map message_meant rows

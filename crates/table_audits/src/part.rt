@@ -10,28 +10,26 @@ ghost use Rattle.row_codec.specs.Manifests.{is_part_key, is_part_row};
 use row_codec::part_by;
 use table_load::PartEntry;
 
-/// Whether the row's key is that of a part.
 fn has_part(row: &PartEntry) -> bool
     ensures { result ≡ is_part_key (part_entry row.now).0 }
 {
     part_by(&row.flight, row.day, &row.airport, row.seq).is_some()
 }
 
-/// Whether the row is within range. Its telegram is a text by its type.
+/// Returns whether the row is in range. Its telegram is a text by its type.
 fn is_lawful(row: &PartEntry) -> bool
     ensures { result ≡ is_part_row (part_entry row.now) }
 {
     has_part(row)
 }
 
-/// Whether each row is.
 fn are_lawful(rows: &[PartEntry]) -> bool
     ensures { result ≡ list_all is_part_row (map part_entry rows.now) }
 {
     rows.iter().all(|row| is_lawful(row))
 }
 
-/// Whether these rows of `part`, in the order of their keys, are lawful.
+/// Returns whether the rows of `part`, in the order of their keys, are lawful.
 pub fn are_parts_lawful(rows: &[PartEntry]) -> bool
     ensures exact { (t : Tables) → entries t.parts ≡ map part_entry rows.now
         → (IsTrue result ↔ IsLawfulTable table.Part t) }

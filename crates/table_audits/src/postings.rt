@@ -13,7 +13,6 @@ use shipment_machine::Move;
 use station_rows::{MoveRow, WaybillRow};
 use table_load::FlightEntry;
 
-/// A move as a posting, from one place to another.
 fn posted(movement: &Move, from: Spot, to: Spot) -> Posting
     ensures { result ≡ posting_in movement.now from to }
 {
@@ -28,7 +27,7 @@ fn posted(movement: &Move, from: Spot, to: Spot) -> Posting
     }
 }
 
-/// A row as it is posted. `None`: it isn't within range, or not a lawful move.
+/// Returns the posting of a row, or `None` if it is out of range or not a lawful move.
 pub(crate) fn posting_of(
     row: &MoveRow,
     waybills: &[WaybillRow],

@@ -7,7 +7,7 @@ use crate::tally::{NoRoom, Tally};
 use std::alloc::Global;
 use std::collections::BTreeMap;
 
-/// What stands under a key with an amount more.
+/// Returns the amount stored under a key, plus another amount.
 fn come_to<K: Ord + Drop>(tallies: &BTreeMap<K, Tally>, key: &K, by: Tally) -> Result<Tally, NoRoom>
     ensures { IfOk result (λ sum. sum ≡ come_to (get K.cmp tallies.now key.now) by) }
 {
@@ -20,7 +20,7 @@ fn come_to<K: Ord + Drop>(tallies: &BTreeMap<K, Tally>, key: &K, by: Tally) -> R
     }
 }
 
-/// Adds an amount under a key. Nothing stands under a key whose amounts come to nothing.
+/// Adds an amount under a key. An amount of zero isn't stored.
 pub(crate) fn post<K: Ord + Drop>(
     tallies: &mut BTreeMap<K, Tally>,
     key: K,

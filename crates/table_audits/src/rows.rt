@@ -9,7 +9,7 @@ use row_codec::awb_key;
 use shipment_machine::{Move, Place};
 use station_rows::WaybillRow;
 
-/// Whether pieces may move between these places.
+/// Returns whether pieces may move between these places.
 fn is_pair(from: &Place, to: &Place) -> bool
     ensures { result ≡ is_pair from.now to.now }
 {
@@ -25,7 +25,6 @@ fn is_pair(from: &Place, to: &Place) -> bool
     }
 }
 
-/// Whether the move is between a pair of places that is allowed, and of a declared waybill.
 pub(crate) fn is_fit(movement: &Move, waybills: &[WaybillRow]) -> bool
     ensures { RisesByNumber (map waybill_meant waybills.now)
         → result ≡ is_fit_move (map waybill_meant waybills.now) movement.now }

@@ -16,14 +16,13 @@ use shipment_machine::Place;
 use station_rows::MoveRow;
 use table_load::FlightEntry;
 
-/// Whether a place is built.
 fn is_built(place: &Place) -> bool
     ensures { result ≡ is_built place.now }
 {
     matches!(place, Place::Built(_))
 }
 
-/// The flight of a move's row, by the place of its row in the table.
+/// Returns the flight of a move's row, by the index of its row in the table.
 fn flight_spot(row: &MoveRow, flights: &[FlightEntry]) -> Option<Spot>
     ensures { (t : Tables) (ws : List Waybill) (place : Place)
         → AreBeside t ws (map flight_entry flights.now)
@@ -38,8 +37,7 @@ fn flight_spot(row: &MoveRow, flights: &[FlightEntry]) -> Option<Spot>
     }
 }
 
-/// A place of the move in a row, as it is posted. `None`: the flight on which it is built has no
-/// row.
+/// Returns a place of a row's move for posting, or `None` if its flight has no row.
 pub(crate) fn spot_of(place: &Place, row: &MoveRow, flights: &[FlightEntry]) -> Option<Spot>
     ensures { (t : Tables) (ws : List Waybill) → AreBeside t ws (map flight_entry flights.now)
         → are_flight_columns (move_meant row.now).flight row.now.fday ≡ true

@@ -7,8 +7,8 @@ ghost use Rattle.table_audits.specs.declared.name.TableName.TheVariants as table
 use imp_fields::Airport;
 use row_codec::count_of;
 
-/// Whether the one row of `station`, with this airport and this number of the last message that was
-/// confirmed, is lawful.
+/// Returns whether the row of `station` with this airport and this number of the last confirmed
+/// message is lawful.
 pub fn is_station_lawful(airport: &str, confirmed: i64) -> bool
     ensures exact { (t : Tables) → t.stations ≡ new_row airport.now confirmed ∷ []
         → (IsTrue result ↔ IsLawfulTable table.Station t) }

@@ -16,7 +16,8 @@ use agent_stock::{Holder, StockRun};
 use row_codec::{awb_key, run_by};
 use station_rows::{StockRow, WaybillRow};
 
-/// Whether each number from the first to the last is declared. It asks up to the first that isn't.
+/// Returns whether each number from the first to the last is declared. It stops at the first that
+/// isn't.
 fn are_declared(waybills: &[WaybillRow], first: i64, last: i64) -> bool
     ensures { RisesByNumber (map waybill_meant waybills.now)
         → (IsTrue result ↔ AreDeclared (map waybill_meant waybills.now) first last) }
@@ -29,14 +30,13 @@ fn are_declared(waybills: &[WaybillRow], first: i64, last: i64) -> bool
     true
 }
 
-/// Whether the numbers of a run are used.
 fn is_used(run: &StockRun) -> bool
     ensures { IsTrue result ↔ (run.now.holder ≡ Used) }
 {
     matches!(run.holder, Holder::Used)
 }
 
-/// The last number of a run that has one, prefix and serial in one.
+/// Returns the last number of a run, with its prefix.
 fn last_of(run: &StockRun) -> i64
     requires { 1 ≤ run.now.count }
     ensures { result ≡ pos (run.now.first + run.now.count - 1) }
@@ -44,7 +44,6 @@ fn last_of(run: &StockRun) -> i64
     awb_key(&run.first) + i64::from(run.count - 1)
 }
 
-/// Whether the row is within range, and each of its numbers declared where they are used.
 fn is_lawful(row: &StockRow, waybills: &[WaybillRow]) -> bool
     ensures { RisesByNumber (map waybill_meant waybills.now)
         → (IsTrue result ↔ IsLawfulStock (map waybill_meant waybills.now) (stock_meant row.now)) }
@@ -55,7 +54,6 @@ fn is_lawful(row: &StockRow, waybills: &[WaybillRow]) -> bool
     !is_used(&run) || are_declared(waybills, awb_key(&run.first), last_of(&run))
 }
 
-/// Whether each row is.
 fn are_lawful(rows: &[StockRow], waybills: &[WaybillRow]) -> bool
     ensures { RisesByNumber (map waybill_meant waybills.now)
         → (IsTrue result ↔ AllByRecursion (IsLawfulStock (map waybill_meant waybills.now))
@@ -64,22 +62,21 @@ fn are_lawful(rows: &[StockRow], waybills: &[WaybillRow]) -> bool
     rows.iter().all(|row| is_lawful(row, waybills))
 }
 
-/// Whether a row begins behind the one before it.
+/// Returns whether a row begins after the one before it ends.
 fn is_behind(row: &StockRow, next: &StockRow) -> bool
     ensures { result ≡ is_behind (stock_meant row.now) (stock_meant next.now) }
 {
     row.prefix < next.prefix || (row.prefix == next.prefix && row.high < next.low)
 }
 
-/// Whether each row does.
 fn are_apart(rows: &[StockRow]) -> bool
     ensures { result ≡ are_apart (map stock_meant rows.now) }
 {
     rows.is_sorted_by(|row, next| is_behind(row, next))
 }
 
-/// Whether these rows of `stock`, in the order of their keys, are lawful beside these of `waybill`,
-/// in the order of their numbers.
+/// Returns whether the rows of `stock`, in the order of their keys, are lawful with the rows of
+/// `waybill`, in the order of their numbers.
 pub fn are_stock_lawful(rows: &[StockRow], waybills: &[WaybillRow]) -> bool
     ensures exact { (t : Tables) → RisesByNumber (map waybill_meant waybills.now)
         → t.waybills ≡ map waybill_meant waybills.now → entries t.stock ≡ map stock_meant rows.now

@@ -20,23 +20,23 @@ pub(crate) struct CountPlace {
     pub(crate) place: i64,
 }
 
-/// A flight, by its place in a list of flights, and a waybill that is built on it.
+/// A flight, by its index in a list of flights, and a waybill built on it.
 #[derive(Clone, Copy, Debug, PartialEq, Eq, PartialOrd, Ord)]
 pub(crate) struct BuildPlace {
     pub(crate) flight: usize,
     pub(crate) awb: i64,
 }
 
-/// Where pieces come from or go to.
+/// A place from which or to which pieces move.
 #[derive(Clone, Copy, Debug, PartialEq, Eq)]
 pub(crate) enum Spot {
     /// A place that isn't built, by its code.
     Plain(i64),
-    /// Built for a flight, by the flight's place in a list of flights.
+    /// Built for a flight, by the flight's index in a list of flights.
     OnFlight(usize),
 }
 
-/// A move as it is posted.
+/// A move for posting.
 #[derive(Clone, Copy, Debug, PartialEq, Eq)]
 pub(crate) struct Posting {
     /// The waybill's number.
@@ -46,7 +46,7 @@ pub(crate) struct Posting {
     pub(crate) amount: Tally,
 }
 
-/// What the moves of a book come to, for each waybill at each place.
+/// The sums of a book's moves, for each waybill at each place.
 #[derive(Drop)]
 pub struct BookSums {
     pub(crate) counts: BTreeMap<CountPlace, Tally>,
@@ -54,7 +54,6 @@ pub struct BookSums {
 }
 
 impl BookSums {
-    /// The sums of no moves.
     #[tactic(auto, using(crate::proofs::Posted::no_sums))]
     pub(crate) fn new(alloc: Global) -> BookSums
         ensures { (flights : List FlightDate) → AreSums flights result (running []) }
@@ -65,7 +64,7 @@ impl BookSums {
         }
     }
 
-    /// Adds an amount to what a waybill has at a place that isn't built.
+    /// Adds an amount to a waybill's sum at a place that isn't built.
     fn post_count(&mut self, key: CountPlace, by: Tally) -> Result<(), NoRoom>
         ensures { (flights : List FlightDate) (s : Sums) → AreSums flights self.old s
             → (a : ℕ) (p : Place) → key.awb ≡ pos a → key.place ≡ pos (place_code p)
@@ -75,7 +74,7 @@ impl BookSums {
         post(&mut self.counts, key, by)
     }
 
-    /// Adds an amount to what is built of a waybill on a flight.
+    /// Adds an amount to a waybill's sum on a flight.
     fn post_build(&mut self, key: BuildPlace, by: Tally) -> Result<(), NoRoom>
         ensures { (flights : List FlightDate) (s : Sums) → AreDistinct flights
             → AreSums flights self.old s → (a : ℕ) (f : FlightDate) → key.awb ≡ pos a
@@ -85,7 +84,7 @@ impl BookSums {
         post(&mut self.builds, key, by)
     }
 
-    /// Adds an amount to what a waybill has at a place.
+    /// Adds an amount to a waybill's sum at a place.
     fn post_at(&mut self, awb: i64, spot: &Spot, by: Tally) -> Result<(), NoRoom>
         ensures { (flights : List FlightDate) (s : Sums) → AreDistinct flights
             → AreSums flights self.old s → (a : ℕ) (p : Place) → awb ≡ pos a
@@ -98,8 +97,7 @@ impl BookSums {
         }
     }
 
-    /// Takes what a move moves from the place that it leaves, and brings it to the place that it
-    /// comes to.
+    /// Posts a move: takes its amount from one place, and adds it to the other.
     #[tactic(auto, using(crate::proofs::Posted::moved))]
     pub(crate) fn add(&mut self, movement: &Posting) -> Result<(), NoRoom>
         ensures { (flights : List FlightDate) (book : List Move) (m : Move) → AreDistinct flights

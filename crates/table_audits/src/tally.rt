@@ -2,12 +2,12 @@ ghost use Rattle.std.specs.Prelude.{◌≡◌, neg_ℤ, IfSome};
 ghost use Rattle.row_codec.specs.Counts.{is_nothing};
 ghost use Rattle.table_audits.specs.Sums.{meant, plus_tally};
 
-/// There is no room for a book's sums: out of memory, or a sum doesn't fit 64 bits, which takes
-/// more than 10^12 moves.
+/// Memory ran out for a book's sums, or a sum doesn't fit into 64 bits, which takes more than 10^12
+/// moves.
 #[derive(Clone, Copy, Debug, PartialEq, Eq)]
 pub(crate) struct NoRoom;
 
-/// Pieces and tenths of a kilogram that came to a place, less those that left it.
+/// The pieces and tenths of a kilogram that came to a place, less those that left it.
 #[derive(Clone, Copy, Debug, PartialEq, Eq)]
 pub(crate) struct Tally {
     pub(crate) pieces: i64,
@@ -15,7 +15,7 @@ pub(crate) struct Tally {
 }
 
 impl Tally {
-    /// Two amounts together. `None`: a sum doesn't fit 64 bits.
+    /// Returns the sum of two amounts, or `None` if it doesn't fit into 64 bits.
     pub(crate) fn plus(&self, other: &Tally) -> Option<Tally>
         ensures { IfSome result (λ sum. sum ≡ plus_tally self.now other.now) }
     {
@@ -25,7 +25,7 @@ impl Tally {
         })
     }
 
-    /// As much the other way. `None`: it doesn't fit 64 bits.
+    /// Returns the negated amount, or `None` if it doesn't fit into 64 bits.
     pub(crate) fn negated(&self) -> Option<Tally>
         ensures { IfSome result (λ back. back ≡ record
             { pieces = neg_ℤ self.now.pieces; tenths = neg_ℤ self.now.tenths }) }
@@ -36,7 +36,7 @@ impl Tally {
         })
     }
 
-    /// Whether it comes to nothing.
+    /// Returns whether both numbers are 0.
     pub(crate) fn is_nothing(&self) -> bool
         ensures { result ≡ is_nothing (meant self.now) }
     {

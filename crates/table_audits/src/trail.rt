@@ -14,7 +14,6 @@ use sqlite::Error;
 use station_rows::{TrailRow, WaybillRow};
 use table_load::RowFold;
 
-/// Whether the row is within range, and its waybill declared.
 fn is_lawful(row: &TrailRow, waybills: &[WaybillRow]) -> bool
     ensures { RisesByNumber (map waybill_meant waybills.now)
         → result ≡ is_lawful_line (map waybill_meant waybills.now) (trail_meant row.now) }
@@ -25,8 +24,8 @@ fn is_lawful(row: &TrailRow, waybills: &[WaybillRow]) -> bool
     }
 }
 
-/// Rows of `trail`, in the order of their numbers, are taken beside those of `waybill2`, in the
-/// order of their numbers.
+/// The rows of `trail` are added in the order of their numbers, with the rows of `waybill2` in the
+/// order of theirs.
 impl RowFold<TrailRow> for NumberedRows {
     ghost use Rattle.std.specs.Prelude.{map};
     ghost use Rattle.table_rows.specs.Meant.{waybill_meant};
@@ -43,8 +42,8 @@ impl RowFold<TrailRow> for NumberedRows {
     }
 }
 
-/// How many lines there are, where the rows of `trail` that were taken are lawful beside these of
-/// `waybill2`, in the order of their numbers.
+/// Returns the number of lines, if the added rows of `trail` are lawful with the rows of
+/// `waybill2`.
 pub fn lawful_lines(lines: &NumberedRows) -> Option<u32>
     ensures exact { (t : Tables) (waybills : List Waybill) (rows : List TrailRow)
         → AreLinesTaken waybills lines.now rows → RisesByNumber waybills

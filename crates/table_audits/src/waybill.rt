@@ -10,7 +10,7 @@ ghost use Rattle.table_audits.specs.Rows.{is_lawful_waybill};
 use row_codec::waybill_by;
 use station_rows::WaybillRow;
 
-/// Whether the row is within range, and its weight at least a tenth a piece.
+/// Returns whether the row is in range, and its weight at least a tenth a piece.
 fn is_lawful(row: &WaybillRow) -> bool
     ensures { result ≡ is_lawful_waybill (waybill_meant row.now) }
 {
@@ -20,14 +20,13 @@ fn is_lawful(row: &WaybillRow) -> bool
     declared.pieces.number() <= declared.tenths.number()
 }
 
-/// Whether each row is.
 fn are_lawful(rows: &[WaybillRow]) -> bool
     ensures { result ≡ list_all is_lawful_waybill (map waybill_meant rows.now) }
 {
     rows.iter().all(|row| is_lawful(row))
 }
 
-/// Whether these rows of `waybill2`, in the order of their numbers, are lawful.
+/// Returns whether the rows of `waybill2`, in the order of their numbers, are lawful.
 pub fn are_waybills_lawful(rows: &[WaybillRow]) -> bool
     ensures exact { (t : Tables) → RisesByNumber (map waybill_meant rows.now)
         → t.waybills ≡ map waybill_meant rows.now

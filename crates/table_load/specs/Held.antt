@@ -1,4 +1,4 @@
--- What it is that a database holds a table of a station with these entries, whatever its schema is.
+-- A table of a station in a database of any schema, and its entries.
 use Rattle.std.specs.Prelude.{◌≡◌, ℕ, ℤ, List, [], ◌∷◌, codes, true, string_bytes}
 use Rattle.std.specs.Ordering.{int_cmp}
 use Rattle.std.specs.declared.cmp.Ordering.{Ordering}
@@ -17,7 +17,7 @@ use Rattle.table_load.specs.declared.part.PartEntry.{PartEntry}
 use Rattle.table_load.specs.declared.kept_key.KeptKeyEntry.{KeptKeyEntry}
 use Rattle.table_load.specs.declared.kept_text.KeptTextEntry.{KeptTextEntry}
 
--- Of each table: its name, its columns with the key first, and its entries in the order of their
+-- For each table: its name, its columns with the key first, and its entries in the order of their
 -- keys.
 
 abbrev pub by_key : {K V : Type 0} → (K → K → Ordering) → K × V → K × V → Ordering
@@ -49,7 +49,6 @@ abbrev pub HoldsOldWaybill : Database → List OldWaybill → Type 0
 HoldsOldWaybill db = HoldsTable db old_waybill_name old_waybill_columns old_waybill_shown
     (AreLawful (by_number old_waybill_id) HasOldWaybillTexts)
 
--- what a row stands for
 abbrev pub old_waybill_entry : OldWaybillEntry → OldWaybill
 old_waybill_entry row = record {
   awb = row.awb;
@@ -120,11 +119,9 @@ abbrev pub HoldsFlight : Database → List (FlightKey × Flight) → Type 0
 HoldsFlight db = HoldsTable db flight_name flight_columns flight_row
     (AreLawful (by_key flight_cmp) HasFlightTexts)
 
--- what a row stands for
 abbrev pub flight_entry : FlightEntry → FlightKey × Flight
 flight_entry row = ((string_bytes row.flight, row.day), record { unload = string_bytes row.unload; closed = row.closed })
 
--- an entry from the values of its columns
 abbrev pub flight_back : Row → FlightKey × Flight
 flight_back r = (
   (bytes_of (column r 0), int_of (column r 1)),
@@ -163,14 +160,12 @@ abbrev pub HoldsExpected : Database → List (ExpectedKey × Expected) → Type 
 HoldsExpected db = HoldsTable db expected_name expected_columns expected_row
     (AreLawful (by_key expected_cmp) HasExpectedTexts)
 
--- what a row stands for
 abbrev pub expected_entry : ExpectedEntry → ExpectedKey × Expected
 expected_entry row = (
   (string_bytes row.flight, (row.day, row.awb)),
   record { pieces = row.pieces; tenths = row.tenths; checked = row.checked },
 )
 
--- an entry from the values of its columns
 abbrev pub expected_back : Row → ExpectedKey × Expected
 expected_back r = (
   (bytes_of (column r 0), (int_of (column r 1), int_of (column r 2))),
@@ -192,11 +187,9 @@ abbrev pub HoldsPart : Database → List (PartKey × List ℕ) → Type 0
 HoldsPart db = HoldsTable db part_name part_columns part_row
     (AreLawful (by_key part_cmp) HasPartTexts)
 
--- what a row stands for
 abbrev pub part_entry : PartEntry → PartKey × List ℕ
 part_entry row = ((string_bytes row.flight, (row.day, (string_bytes row.airport, row.seq))), string_bytes row.body)
 
--- an entry from the values of its columns
 abbrev pub part_back : Row → PartKey × List ℕ
 part_back r = ((bytes_of (column r 0), (int_of (column r 1), (bytes_of (column r 2), int_of (column r 3)))), bytes_of (column r 4))
 
@@ -245,11 +238,9 @@ abbrev pub HoldsKeptKey : Database → List (List ℕ × Kept) → Type 0
 HoldsKeptKey db = HoldsTable db kept_key_name kept_key_columns kept_row
     (AreLawful (by_key kept_cmp) HasKeptKeyTexts)
 
--- what a row stands for
 abbrev pub kept_key_entry : KeptKeyEntry → List ℕ × Kept
 kept_key_entry row = (string_bytes row.id, record { command = string_bytes row.command; count = row.count })
 
--- an entry from the values of its columns
 abbrev pub kept_key_back : Row → List ℕ × Kept
 kept_key_back r = (bytes_of (column r 0), record { command = bytes_of (column r 1); count = int_of (column r 2) })
 
@@ -268,11 +259,9 @@ abbrev pub HoldsKeptText : Database → List (List ℕ × ℤ) → Type 0
 HoldsKeptText db = HoldsTable db kept_text_name kept_text_columns kept_text_row
     (AreLawful (by_key kept_text_cmp) HasKeptTextTexts)
 
--- what a row stands for
 abbrev pub kept_text_entry : KeptTextEntry → List ℕ × ℤ
 kept_text_entry row = (string_bytes row.body, row.count)
 
--- an entry from the values of its columns
 abbrev pub kept_text_back : Row → List ℕ × ℤ
 kept_text_back r = (bytes_of (column r 0), int_of (column r 1))
 

@@ -1,5 +1,5 @@
--- The rows of a table of any database, found by the names of the table and of its columns, as SQL
--- finds them.
+-- The rows of a table of any database, found by the names of the table and of its columns, like SQL
+-- does.
 use Rattle.std.specs.Prelude.{◌==◌, ℕ, zero, suc, List, [], ◌∷◌, map, take, slice_get, Option, Some, None, option_map, option_and_then, if◌then◌else◌, false}
 use Rattle.std.specs.List.Sorted.{IsSorted}
 use Rattle.std.specs.declared.cmp.Ordering.{Ordering}
@@ -14,21 +14,20 @@ use Rattle.sqlite.specs.Schema.{Schema}
 use Rattle.sqlite.specs.Effect.{Database}
 use Rattle.sqlite_schema.specs.Names.{table_named, column_named, place_of}
 
--- the table of this name
 abbrev pub table_by_name : Schema → List ℕ → Option Table
 table_by_name schema name = option_and_then (slice_get schema.tables) (table_named schema name)
 
--- where a row has the value of a column: the rowid at 0
+-- the index of a column's value in a row: the rowid is at 0
 abbrev pub place_by_name : Table → List ℕ → Option ℕ
 place_by_name table name =
     option_and_then (λ at. option_and_then (λ c. if collation_code c.collation == 0 then Some (place_of table at) else None) (slice_get table.columns at)) (column_named table name)
 
--- the places of these columns, where the table has each of them, in the collation BINARY
+-- the indexes of these columns, if the table has each of them, with the collation BINARY
 abbrev pub places_by_name : Table → List (List ℕ) → Option (List ℕ)
 places_by_name table [] = Some []
 places_by_name table (name ∷ names) = option_and_then (λ place. option_map (λ places. place ∷ places) (places_by_name table names)) (place_by_name table name)
 
--- what is found under a name
+-- the table found under a name
 pub data Found : Type 0 where
   no_table : Found
   no_column : Found
@@ -46,12 +45,12 @@ found_at trees names (Some table) = found_in trees table (places_by_name table n
 abbrev pub found : Database → List ℕ → List (List ℕ) → Found
 found db name names = found_at db.trees names (table_by_name db.schema name)
 
--- so many columns, each ascending in the order of SQLite's values
+-- `n` columns, each ascending in the order of SQLite's values
 abbrev pub rising_keys : ℕ → List Key
 rising_keys zero = []
 rising_keys (suc n) = record { collation = Binary; descending = false } ∷ rising_keys n
 
--- the order of two rows by so many first columns
+-- the order of two rows by the first `n` columns
 abbrev pub key_order : ℕ → Row → Row → Ordering
 key_order n a b = key_cmp 0 (rising_keys n) (take n a) (take n b)
 

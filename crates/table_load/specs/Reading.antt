@@ -1,4 +1,4 @@
--- A database, and the version as which it is read: what it says of the tables of a station.
+-- A database, the version as which it is read, and the content of its station tables.
 use Rattle.std.specs.Prelude.{◌≡◌, pos, List, [], map}
 use Rattle.sqlite.specs.Effect.{Database}
 use Rattle.station_schema.specs.Tables.{OldWaybill, Waybill, undated}
@@ -29,16 +29,17 @@ pub record Reading : Type 0 where
 abbrev pub read_as : FileVersion → Database → Reading
 read_as version db = record { database = db; version = version }
 
--- what its table `station` says
+-- the content of its table `station`
 abbrev pub station_read : Reading → Verdict
 station_read r = station_of r.version r.database
 
--- its rows of `waybill`. Read as version 1, they are taken for those that the file is to have: none
+-- its rows of `waybill`; read as version 1, there are none, as after an upgrade
 abbrev pub HoldsOldWaybills : FileVersion → Database → List OldWaybill → Type 0
 HoldsOldWaybills First db olds = olds ≡ []
 HoldsOldWaybills Second db olds = HoldsOldWaybill db olds
 
--- its waybills: those of `waybill2`, or in a file of version 1 those of `waybill`, with no day
+-- its waybills: those of `waybill2`, or in a file of version 1 those of `waybill`, without their
+-- day
 abbrev pub HoldsWaybills : FileVersion → Database → List Waybill → Type 0
 HoldsWaybills First db waybills = (olds : List OldWaybill) × HoldsOldWaybill db olds × (waybills ≡ map undated olds)
 HoldsWaybills Second db waybills = HoldsWaybill db waybills

@@ -1,5 +1,4 @@
--- What it is, in the syntax of SQL, that a text selects columns of one table, in the order of the
--- first of them.
+-- SQL texts that select columns of one table, ordered by the first of them.
 use Rattle.std.specs.Prelude.{◌≡◌, ◌<◌, ℕ, List, [], ◌∷◌, length, false, None, Ok}
 use Rattle.sqlite_ast.specs.declared.Expr.{Expr, out-Expr}
 use Rattle.sqlite_ast.specs.declared.Expr.TheOpen.{Expr-F, Shown-F}
@@ -13,7 +12,7 @@ use Rattle.sqlite_ast.specs.declared.Statement.TheVariants as written
 use Rattle.sqlite_syntax.specs.declared.statement.Parsed.{Parsed}
 use Rattle.sqlite_resolve.specs.Compile.{first}
 
--- these columns and no more are shown, without AS
+-- exactly these columns are shown, without AS
 abbrev pub AreShown : List Shown → List (List ℕ) → Type 0
 AreShown [] [] = Unit {0}
 AreShown [] (n ∷ names) = ⊥
@@ -27,7 +26,6 @@ AreSorts [] (n ∷ names) = ⊥
 AreSorts (s ∷ more) [] = ⊥
 AreSorts (s ∷ more) (n ∷ names) = ((out-Expr (out-Sort s).key ≡ Expr-F.Column None n) × ((out-Sort s).nulls_first ≡ None) × ((out-Sort s).descending ≡ false)) × AreSorts more names
 
--- one table, by its name
 pub record IsPlainSource (name : List ℕ) (src : Source) : Type 0 where
   pub origin_is : (out-Source src).origin ≡ origin.Table name
   pub alias_is : (out-Source src).alias ≡ None
@@ -53,7 +51,7 @@ pub record IsPlainSelect (name : List ℕ) (names keys : List (List ℕ)) (sel :
   pub core_is : IsPlainCore name names (out-Select sel).first
   pub order_is : AreSorts (out-Select sel).order keys
 
--- SELECT names FROM name ORDER BY keys: each field is found by `refl`
+-- SELECT names FROM name ORDER BY keys; each field is proved by `refl`
 pub record IsSelect (text name : List ℕ) (names keys : List (List ℕ)) : Type 0 where
   pub p : Parsed
   pub sel : Select

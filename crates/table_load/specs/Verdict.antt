@@ -1,4 +1,4 @@
--- What the table `station` says of a database, whatever its schema is.
+-- The content of the table `station` in a database of any schema.
 use Rattle.std.specs.Prelude.{ℕ, ℤ, pos, List, [], ◌∷◌, codes, Bool, is_some, if◌then◌else◌, ◌&&◌, string_bytes}
 use Rattle.std.specs.Ordering.{int_eq}
 use Rattle.std.specs.Str.{is_utf8}
@@ -20,7 +20,6 @@ station_name = codes "station"
 abbrev pub station_columns : List (List ℕ)
 station_columns = codes "id" ∷ codes "airport" ∷ codes "version" ∷ codes "confirmed" ∷ []
 
--- there is a table of this name
 abbrev pub has_table : Schema → List ℕ → Bool
 has_table schema name = is_some (table_by_name schema name)
 
@@ -28,15 +27,14 @@ pub data Verdict : Type 0 where
   no_station : Verdict
   damaged : Verdict
   other_version : ℤ → Verdict
-  -- the airport, and the number of the last message that was confirmed
+  -- the airport, and the number of the last confirmed message
   one_row : List ℕ → ℤ → Verdict
 
--- the number of a version
 abbrev pub version_number : FileVersion → ℤ
 version_number First = pos 1
 version_number Second = pos 2
 
--- the values, once the version is the one that is asked for
+-- the values, once the version is the expected one
 abbrev pub typed_station : Value → Value → Value → Verdict
 typed_station (Int id) (Text airport) (Int confirmed) = if int_eq id (pos 1) && is_utf8 airport then one_row airport confirmed else damaged
 typed_station _ _ _ = damaged
@@ -54,8 +52,8 @@ found_in_rows wanted [] = no_station
 found_in_rows wanted (row ∷ []) = found_in_row wanted row
 found_in_rows wanted (row ∷ other ∷ more) = damaged
 
--- no table or no row, then a missing column or a second row, then the version, and then the other
--- values
+-- tested in this order: no table or no row, a missing column or a second row, the version, the
+-- other values
 abbrev pub station_found : FileVersion → Found → Verdict
 station_found wanted no_table = no_station
 station_found wanted no_column = damaged
@@ -75,6 +73,5 @@ abbrev pub row_of_version : FileVersion → List ℕ → ℤ → Station
 row_of_version version airport confirmed =
     record { id = pos 1; airport = airport; version = version_number version; confirmed = confirmed }
 
--- as the tables of a station have it
 abbrev pub new_row : List ℕ → ℤ → Station
 new_row = row_of_version Second

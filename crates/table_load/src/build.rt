@@ -72,10 +72,8 @@ impl KeyedTable for BuildTable {
     }
 }
 
-/// All rows of `build` in any database, by `flight`, `day` and then `awb`. Nothing where the table
-/// or a column is missing, a value is of another type or a text that is no UTF-8, or a key stands
-/// twice. The connection is open. On error memory is out or the database could not be read: nothing
-/// was done, or the transaction that was open is undone.
+/// Returns all rows of `build` in any database, ordered by `flight`, `day` and `awb`. For `None`
+/// and errors see [`found_rows`](crate::found_rows).
 #[tactic(auto, using(crate::proofs::Texts::build_is, crate::proofs::Orders::build_agrees))]
 pub fn found_builds<S: Alter>(
     alloc: Global,

@@ -63,10 +63,8 @@ impl KeyedTable for CountsTable {
     }
 }
 
-/// All rows of `counts` in any database, by `awb` and then by `place`. Nothing where the table or a
-/// column is missing, a value is of another type, or a key stands twice. The connection is open. On
-/// error memory is out or the database could not be read: nothing was done, or the transaction that
-/// was open is undone.
+/// Returns all rows of `counts` in any database, ordered by `awb` and `place`. For `None` and
+/// errors see [`found_rows`](crate::found_rows).
 #[tactic(auto, using(crate::proofs::Texts::counts_is, crate::proofs::Orders::counts_agrees))]
 pub fn found_counts<S: Alter>(
     alloc: Global,

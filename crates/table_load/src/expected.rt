@@ -21,7 +21,7 @@ pub struct ExpectedEntry {
     pub pieces: i64,
     /// Their weight in tenths of a kilogram.
     pub tenths: i64,
-    /// 1 where the waybill was checked in from this flight, else 0.
+    /// 1 if the waybill was checked in from this flight, otherwise 0.
     pub checked: i64,
 }
 
@@ -90,10 +90,8 @@ impl KeyedTable for ExpectedTable {
     }
 }
 
-/// All rows of `expected` in any database, by `flight`, `day` and then `awb`. Nothing where the
-/// table or a column is missing, a value is of another type or a text that is no UTF-8, or a key
-/// stands twice. The connection is open. On error memory is out or the database could not be read:
-/// nothing was done, or the transaction that was open is undone.
+/// Returns all rows of `expected` in any database, ordered by `flight`, `day` and `awb`. For `None`
+/// and errors see [`found_rows`](crate::found_rows).
 #[tactic(auto, using(crate::proofs::Texts::expected_is, crate::proofs::Orders::expected_agrees))]
 pub fn found_expected<S: Alter>(
     alloc: Global,

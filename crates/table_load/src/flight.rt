@@ -17,7 +17,7 @@ pub struct FlightEntry {
     pub day: i64,
     /// The airport of unloading.
     pub unload: String,
-    /// 1 where the flight has departed, else 0.
+    /// 1 if the flight has departed, otherwise 0.
     pub closed: i64,
 }
 
@@ -78,10 +78,8 @@ impl KeyedTable for FlightTable {
     }
 }
 
-/// All rows of `flight` in any database, by `flight` and then by `day`. Nothing where the table or
-/// a column is missing, a value is of another type or a text that is no UTF-8, or a key stands
-/// twice. The connection is open. On error memory is out or the database could not be read: nothing
-/// was done, or the transaction that was open is undone.
+/// Returns all rows of `flight` in any database, ordered by `flight` and `day`. For `None` and
+/// errors see [`found_rows`](crate::found_rows).
 #[tactic(auto, using(crate::proofs::Texts::flight_is, crate::proofs::Orders::flight_agrees))]
 pub fn found_flights<S: Alter>(
     alloc: Global,

@@ -3,30 +3,30 @@ ghost use Rattle.std.specs.Prelude.{◌≡◌, ◌++◌, ◌∷◌, [], List};
 use sqlite::Error;
 use std::alloc::Global;
 
-/// What is made of the rows of a table, one after another, beside what was read before.
+/// A fold over the rows of a table, with what was read before.
 pub trait RowFold<Row> {
     ghost use Rattle.std.specs.Prelude.{◌++◌, ◌∷◌, [], List, OnOk};
 
-    /// What was read before the table.
+    /// The values read before the table.
     type Beside;
 
-    /// What rows, in their order, make of it.
+    /// The relation of a fold to the rows that it took, in order.
     ghost has: { Self.Beside → Self → List Row → Type 0 };
 
-    /// Takes the next row. On error memory is out, or there is no number for the row.
+    /// Takes the next row. It fails if memory runs out, or the row can't be numbered.
     fn take(&mut self, beside: &Self::Beside, row: Row) -> Result<(), Error>
         ensures { (rows : List Row) → has beside.now self.old rows
             → OnOk result (has beside.now self.new (rows ++ row ∷ [])) };
 }
 
-/// The rows themselves.
+/// The rows, as a fold.
 #[derive(Drop)]
 pub(crate) struct Collected<Row> {
     pub(crate) rows: Vec<Row>,
 }
 
 impl<Row> Collected<Row> {
-    /// No rows.
+    /// Starts without rows.
     pub(crate) fn new(alloc: Global) -> Collected<Row>
         ensures { result.rows.items ≡ [] }
     {

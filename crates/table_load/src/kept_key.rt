@@ -15,7 +15,7 @@ pub struct KeptKeyEntry {
     pub id: String,
     /// The text of the request.
     pub command: String,
-    /// The count that was answered.
+    /// The count in the reply.
     pub count: i64,
 }
 
@@ -64,10 +64,8 @@ impl KeyedTable for KeptKeyTable {
     }
 }
 
-/// What the rows of `kept_key` in any database make of a fold, by `id`. `None` where the table or a
-/// column is missing, a value is of another type or a text that is no UTF-8, or a key stands twice.
-/// The connection is open. On error memory is out, the fold failed, or the database could not be
-/// read: nothing was done, or the transaction that was open is undone.
+/// Folds the rows of `kept_key` in any database, ordered by `id`. For `None` and errors see
+/// [`fold_rows`](crate::fold_rows).
 #[tactic(auto, using(crate::proofs::Texts::kept_key_is, crate::proofs::Orders::kept_key_agrees))]
 pub fn fold_kept_keys<S: Alter, F: RowFold<KeptKeyEntry> + Drop>(
     alloc: Global,

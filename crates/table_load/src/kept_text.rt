@@ -12,7 +12,7 @@ use std::alloc::Global;
 pub struct KeptTextEntry {
     /// The text that was accepted.
     pub body: String,
-    /// The count that was answered.
+    /// The count in the reply.
     pub count: i64,
 }
 
@@ -58,10 +58,8 @@ impl KeyedTable for KeptTextTable {
     }
 }
 
-/// All rows of `kept_text` in any database, by `body`. Nothing where the table or a column is
-/// missing, a value is of another type or a text that is no UTF-8, or a key stands twice. The
-/// connection is open. On error memory is out or the database could not be read: nothing was done,
-/// or the transaction that was open is undone.
+/// Returns all rows of `kept_text` in any database, ordered by `body`. For `None` and errors see
+/// [`found_rows`](crate::found_rows).
 #[tactic(auto, using(crate::proofs::Texts::kept_text_is, crate::proofs::Orders::kept_text_agrees))]
 pub fn found_kept_texts<S: Alter>(
     alloc: Global,

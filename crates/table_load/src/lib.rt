@@ -1,6 +1,6 @@
-//! Tables of any database of `sqlite`, whatever its schema is, and the fourteen tables of a station
-//! among them. Each is found by the names of the table and of its columns, and read by one query,
-//! row by row, in the order of its keys, as typed rows.
+//! Tables of any `sqlite` database, whatever its schema, and the fourteen tables of a station. Each
+//! is found by the names of the table and of its columns, and read by one query, row by row in the
+//! order of its keys, as typed rows.
 #![tactic(auto)]
 
 mod build;

@@ -55,7 +55,7 @@ impl KeyedTable for MovesTable {
     }
 }
 
-/// The row of ten values whose flight is this one, if the others are whole numbers.
+/// Returns the row of ten values with this flight, if the others are whole numbers.
 fn move_on(row: &Row, flight: String) -> Option<MoveRow>
     requires wide { length row.now ≡ 10 }
     requires flies { column row.now 6 ≡ Text (string_bytes flight) }
@@ -77,10 +77,8 @@ fn move_on(row: &Row, flight: String) -> Option<MoveRow>
     })
 }
 
-/// What the rows of `moves` in any database make of a fold, by `number`. `None` where the table or
-/// a column is missing, a value is of another type or a text that is no UTF-8, or a key stands
-/// twice. The connection is open. On error memory is out, the fold failed, or the database could
-/// not be read: nothing was done, or the transaction that was open is undone.
+/// Folds the rows of `moves` in any database, ordered by `number`. For `None` and errors see
+/// [`fold_rows`](crate::fold_rows).
 #[tactic(auto, using(crate::proofs::Texts::moves_is, crate::proofs::Orders::moves_agrees))]
 pub fn fold_moves<S: Alter, F: RowFold<MoveRow> + Drop>(
     alloc: Global,

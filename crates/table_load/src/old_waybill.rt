@@ -15,10 +15,10 @@ pub struct OldWaybillEntry {
     pub origin: String,
     pub destination: String,
     pub pieces: i64,
-    /// Tenths of a kilogram.
+    /// The weight in tenths of a kilogram.
     pub tenths: i64,
     pub goods: String,
-    /// 1 where the consignee was notified, else 0.
+    /// 1 if the consignee was notified, otherwise 0.
     pub notified: i64,
 }
 
@@ -87,10 +87,8 @@ impl KeyedTable for OldWaybillTable {
     }
 }
 
-/// All rows of `waybill` in any database, by `awb`. Nothing where the table or a column is missing,
-/// a value is of another type or a text that is no UTF-8, or a key stands twice. The connection is
-/// open. On error memory is out or the database could not be read: nothing was done, or the
-/// transaction that was open is undone.
+/// Returns all rows of `waybill` in any database, ordered by `awb`. For `None` and errors see
+/// [`found_rows`](crate::found_rows).
 #[tactic(auto, using(crate::proofs::Texts::old_waybill_is, crate::proofs::Orders::old_waybill_agrees))]
 pub fn found_old_waybills<S: Alter>(
     alloc: Global,

@@ -57,10 +57,8 @@ impl KeyedTable for OutboxTable {
     }
 }
 
-/// What the rows of `outbox` in any database make of a fold, by `number`. `None` where the table or
-/// a column is missing, a value is of another type or a text that is no UTF-8, or a key stands
-/// twice. The connection is open. On error memory is out, the fold failed, or the database could
-/// not be read: nothing was done, or the transaction that was open is undone.
+/// Folds the rows of `outbox` in any database, ordered by `number`. For `None` and errors see
+/// [`fold_rows`](crate::fold_rows).
 #[tactic(auto, using(crate::proofs::Texts::outbox_is, crate::proofs::Orders::outbox_agrees))]
 pub fn fold_outbox<S: Alter, F: RowFold<MessageRow> + Drop>(
     alloc: Global,

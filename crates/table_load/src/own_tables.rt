@@ -7,8 +7,8 @@ ghost use Rattle.table_load.specs.Typed.{HoldsTyped, HoldsOld};
 ghost use Rattle.table_load.specs.Verdict.{station_of, row_of_version, one_row};
 ghost use Rattle.table_load.specs.declared.station.FileVersion.TheVariants.{First, Second};
 
-/// In a database with the tables that a station declares, in a file of version 2, the entries that
-/// it holds are those of its typed tables, and these are held where their texts are texts.
+/// In a database with the tables that a station declares, in a file of version 2, the entries are
+/// those of its typed tables, and these are its entries if their texts are texts.
 pub fn held_is_typed()
     ensures station { (db : Database) (airport : List ℕ) (confirmed : ℤ) → IsStation db
         → (tables_of db.trees).stations ≡ row_of_version Second airport confirmed ∷ []
@@ -28,7 +28,7 @@ pub fn held_is_typed()
     ensures build { HoldsTyped HoldsBuild HasBuildTexts (λ t. entries t.builds) }
 {}
 
-/// The same in a file of version 1.
+/// The same for a file of version 1.
 pub fn held_is_old()
     ensures station { (db : Database) (airport : List ℕ) (confirmed : ℤ) → IsOldStation db
         → (old_tables_of db.trees).stations ≡ row_of_version First airport confirmed ∷ []

@@ -15,9 +15,9 @@ pub struct PartEntry {
     pub flight: String,
     /// The day of the flight.
     pub day: i64,
-    /// The airport that the part came from.
+    /// The airport of departure.
     pub airport: String,
-    /// Its number among the parts, from 1.
+    /// The number of the part, from 1.
     pub seq: i64,
     /// The text of the part.
     pub body: String,
@@ -92,10 +92,8 @@ impl KeyedTable for PartTable {
     }
 }
 
-/// All rows of `part` in any database, by `flight`, `day`, `airport` and then `seq`. Nothing where
-/// the table or a column is missing, a value is of another type or a text that is no UTF-8, or a
-/// key stands twice. The connection is open. On error memory is out or the database could not be
-/// read: nothing was done, or the transaction that was open is undone.
+/// Returns all rows of `part` in any database, ordered by `flight`, `day`, `airport` and `seq`. For
+/// `None` and errors see [`found_rows`](crate::found_rows).
 #[tactic(auto, using(crate::proofs::Texts::part_is, crate::proofs::Orders::part_agrees))]
 pub fn found_parts<S: Alter>(
     alloc: Global,

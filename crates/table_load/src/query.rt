@@ -10,7 +10,7 @@ use sqlite::{Alter, Connection, Error, Row};
 use sqlite_schema::schema::{Schema, Table};
 use sqlite_value::keys::Collation;
 
-/// Whether the table has the column, in the collation BINARY.
+/// Returns whether the table has the column, with the collation BINARY.
 fn has_column(table: &Table, name: &str) -> bool
     ensures { result ≡ is_some (place_by_name table.now name.now) }
 {
@@ -23,7 +23,7 @@ fn has_column(table: &Table, name: &str) -> bool
     }
 }
 
-/// Whether the table has each of the columns, in the collation BINARY.
+/// Returns whether the table has each of the columns, with the collation BINARY.
 fn has_columns(table: &Table, names: &[&str]) -> bool
     ensures { result ≡ is_some (places_by_name table.now (map (λ n. n.now) names.now)) }
 {
@@ -35,7 +35,6 @@ fn has_columns(table: &Table, names: &[&str]) -> bool
     true
 }
 
-/// Whether there is a table of this name with these columns.
 pub(crate) fn has_table(schema: &Schema, name: &str, columns: &[&str]) -> bool
     ensures { result ≡ is_whole schema.now name.now (map (λ n. n.now) columns.now) }
 {
@@ -48,9 +47,9 @@ pub(crate) fn has_table(schema: &Schema, name: &str, columns: &[&str]) -> bool
     }
 }
 
-/// The rows of a table as they are in the database, in the order of so many of their first columns,
-/// by the text that selects these columns. Nothing where the table or a column is missing. The
-/// connection is open. On error nothing was done, or the transaction that was open is undone.
+/// Returns the rows of a table unchanged, ordered by the first `keys` of its columns. `text` is the
+/// SELECT of these columns. Returns `None` if the table or a column is missing. After an error an
+/// open transaction may have been rolled back.
 pub fn table_rows<S: Alter>(
     conn: &mut Connection<S>,
     text: &str,

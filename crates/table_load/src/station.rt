@@ -10,17 +10,16 @@ use sqlite::{Alter, Connection, Error, Row};
 use sqlite_schema::schema::Schema;
 use std::alloc::Global;
 
-/// How the tables of a file are laid out.
+/// The layout of a file's tables.
 #[derive(Clone, Copy, Debug)]
 pub enum FileVersion {
-    /// The waybills are in `waybill`, without a day.
+    /// The waybills are in `waybill`, without their day.
     First,
-    /// They are in `waybill2`, with the day on which each was last declared, and `waybill` is
+    /// The waybills are in `waybill2`, with the day of their last declaration, and `waybill` is
     /// empty.
     Second,
 }
 
-/// Whether the version is the one that is asked for.
 fn is_wanted(version: i64, wanted: FileVersion) -> bool
     ensures { result ≡ int_eq version (version_number wanted) }
 {
@@ -30,20 +29,20 @@ fn is_wanted(version: i64, wanted: FileVersion) -> bool
     }
 }
 
-/// What the table `station` says of a database.
+/// The content of the table `station` in a database.
 #[derive(Debug, Drop)]
 pub enum StationFound {
-    /// There is no such table, or it has no row.
+    /// The table is missing or has no row.
     NoStation,
-    /// A column is missing, there are several rows, or the values are no station's.
+    /// A column is missing, there are several rows, or the values aren't a station's.
     Damaged,
-    /// The version is this whole number, which is not the one that is asked for.
+    /// The version is this whole number, not the expected one.
     OtherVersion(i64),
-    /// The airport, and the number of the last message that was confirmed.
+    /// The airport, and the number of the last confirmed message.
     OneRow(String, i64),
 }
 
-/// Whether there is a table of this name.
+/// Returns whether the table `station` exists.
 fn has_station(schema: &Schema) -> bool
     ensures { result ≡ has_table schema.now station_name }
 {
@@ -53,7 +52,7 @@ fn has_station(schema: &Schema) -> bool
     }
 }
 
-/// What a row says. It fails only where memory runs out.
+/// Returns the content of a row. It fails only if memory runs out.
 fn judged_row(alloc: Global, row: &Row, wanted: FileVersion) -> Result<StationFound, Error>
     ensures { IfOk result (λ s. found_meant s ≡ found_in_row wanted row.now) }
 {
@@ -82,7 +81,7 @@ fn judged_row(alloc: Global, row: &Row, wanted: FileVersion) -> Result<StationFo
     }
 }
 
-/// What all rows say. It fails only where memory runs out.
+/// Returns the content of all rows. It fails only if memory runs out.
 fn judged_rows(alloc: Global, rows: &[Row], wanted: FileVersion) -> Result<StationFound, Error>
     ensures { IfOk result (λ s. found_meant s ≡ found_in_rows wanted rows.now) }
 {
@@ -95,10 +94,11 @@ fn judged_rows(alloc: Global, rows: &[Row], wanted: FileVersion) -> Result<Stati
     }
 }
 
-/// What the table `station` says of any database: whether there is a row, then whether it is the
-/// only one and has the columns, then whether it is of this version, and then its values. The
-/// connection is open. On error memory is out or the database could not be read: nothing was done,
-/// or the transaction that was open is undone.
+/// Returns the content of the table `station` in any database. It tests whether there is a row,
+/// then whether it is the only one and has all columns, then its version, and then its values.
+///
+/// Fails if memory runs out or the database can't be read. Then an open transaction may have been
+/// rolled back.
 #[tactic(auto, using(crate::proofs::Texts::station_is))]
 pub fn found_station<S: Alter>(
     alloc: Global,

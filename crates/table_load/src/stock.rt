@@ -67,10 +67,8 @@ impl KeyedTable for StockTable {
     }
 }
 
-/// All rows of `stock` in any database, by `prefix` and then by `low`. Nothing where the table or a
-/// column is missing, a value is of another type or a text that is no UTF-8, or a key stands twice.
-/// The connection is open. On error memory is out or the database could not be read: nothing was
-/// done, or the transaction that was open is undone.
+/// Returns all rows of `stock` in any database, ordered by `prefix` and `low`. For `None` and
+/// errors see [`found_rows`](crate::found_rows).
 #[tactic(auto, using(crate::proofs::Texts::stock_is, crate::proofs::Orders::stock_agrees))]
 pub fn found_stock<S: Alter>(
     alloc: Global,

@@ -15,17 +15,17 @@ use crate::walk::{ended, walked};
 use sqlite::{Alter, Connection, Error, Row};
 use std::alloc::Global;
 
-/// How a table's rows are typed, and the order of their keys.
+/// A table with typed rows and an order of its keys.
 pub trait KeyedTable {
     /// A typed row.
     type Row: Drop;
 
-    /// What a row stands for.
+    /// The entry of a row.
     ghost Entry: { Type 0 };
 
     ghost meant: { Self.Row → Entry };
 
-    /// The values of its columns, key first, and back.
+    /// The values of an entry's columns, key first.
     ghost to_row: { Entry → Values };
 
     ghost from_row: { Values → Entry };
@@ -33,28 +33,28 @@ pub trait KeyedTable {
     /// The order of the keys.
     ghost cmp: { Entry → Entry → Ordering };
 
-    /// Its texts are texts.
+    /// The entry's texts are texts.
     ghost IsLawful: { Entry → Type 0 };
 
-    /// The row that the values are, if they are one. It fails only where memory runs out.
+    /// Returns the row with these values, if they are one. It fails only if memory runs out.
     fn typed(alloc: Global, row: &Row) -> Result<Option<Self::Row>, Error>
         ensures some { IfOk result (λ o. IfSome o (λ r. row.now ≡ to_row (meant r))) }
         ensures lawful { IfOk result (λ o. IfSome o (λ r. IsLawful (meant r))) }
         ensures none { result ≡ Ok None → (e : Entry) → IsLawful e → row.now ≢ to_row e };
 
-    /// Whether the key of the row is below that of the next one.
+    /// Returns whether the key of the row is less than that of the next one.
     fn is_below(row: &Self::Row, next: &Self::Row) -> bool
         ensures { result ≡ is_lt (cmp (meant row.now) (meant next.now)) };
 
     ghost back: { (e : Entry) → from_row (to_row e) ≡ e };
 }
 
-/// What the rows of a table of any database make of a fold, one after another in the order of their
-/// keys, which are so many of its first columns, by the text that selects the columns. `None` where
-/// no typed rows are held: the table or a column is missing, a value is of another type or a text
-/// that is no UTF-8, or a key stands twice. The connection is open. On error memory is out, the
-/// fold failed, or the database could not be read: nothing was done, or the transaction that was
-/// open is undone.
+/// Folds the rows of a table of any database in the order of their keys, the first `keys` columns.
+/// `text` is the SELECT of these columns.
+///
+/// Returns `None` if the table or a column is missing, a value has another type, a text isn't
+/// UTF-8, or a key occurs twice. Fails if memory runs out, the fold fails, or the database can't be
+/// read. Then an open transaction may have been rolled back.
 pub fn fold_rows<S: Alter, T: KeyedTable, F: RowFold<T::Row> + Drop>(
     alloc: Global,
     conn: &mut Connection<S>,
@@ -82,11 +82,12 @@ pub fn fold_rows<S: Alter, T: KeyedTable, F: RowFold<T::Row> + Drop>(
     ended::<T, F>(walk, beside)
 }
 
-/// A table of any database as typed rows in the order of their keys, which are so many of its first
-/// columns, by the text that selects the columns. Nothing where no typed rows are held: the table
-/// or a column is missing, a value is of another type or a text that is no UTF-8, or a key stands
-/// twice. The connection is open. On error memory is out or the database could not be read: nothing
-/// was done, or the transaction that was open is undone.
+/// Returns all rows of a table of any database, typed and in the order of their keys, the first
+/// `keys` columns. `text` is the SELECT of these columns.
+///
+/// Returns `None` if the table or a column is missing, a value has another type, a text isn't
+/// UTF-8, or a key occurs twice. Fails if memory runs out or the database can't be read. Then an
+/// open transaction may have been rolled back.
 pub fn found_rows<S: Alter, T: KeyedTable>(
     alloc: Global,
     conn: &mut Connection<S>,
@@ -111,7 +112,7 @@ pub fn found_rows<S: Alter, T: KeyedTable>(
     }
 }
 
-/// A database holds one list of entries at most.
+/// A table of a database has at most one list of entries.
 pub fn held_once<T: KeyedTable>(keys: usize)
     requires agrees { Agrees keys T.to_row T.cmp }
     ensures once { (db : Database) (name : List ℕ) (columns : List (List ℕ)) (xs ys : List T.Entry)

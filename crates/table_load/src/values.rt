@@ -7,7 +7,7 @@ use sqlite::{Error, Row};
 use sqlite_value::value::ValueRef;
 use std::alloc::Global;
 
-/// The whole number in a column, if it is one.
+/// Returns the whole number in a column, if it has one.
 pub fn number(row: &Row, at: usize) -> Option<i64>
     ensures some { IfSome result (λ n. column row.now at ≡ Int n) }
     ensures none { result ≡ None → at < length row.now → (n : ℤ) → column row.now at ≢ Int n }
@@ -18,7 +18,7 @@ pub fn number(row: &Row, at: usize) -> Option<i64>
     }
 }
 
-/// The text in a column, if it is one and is UTF-8. It fails only where memory runs out.
+/// Returns the text in a column, if it has one in UTF-8. It fails only if memory runs out.
 pub fn words(alloc: Global, row: &Row, at: usize) -> Result<Option<String>, Error>
     ensures some { IfOk result (λ o. IfSome o (λ s. column row.now at ≡ Text (string_bytes s))) }
     ensures text { IfOk result (λ o. IfSome o (λ s. is_utf8 (string_bytes s) ≡ true)) }

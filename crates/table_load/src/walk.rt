@@ -12,17 +12,17 @@ use crate::tables::KeyedTable;
 use sqlite::{Alter, Connection, Error, ErrorCode, Row, Rows};
 use std::alloc::Global;
 
-/// A table of which some rows were given: all of them but the last are folded.
+/// A walk over a table: all rows given so far are folded, except the last.
 #[derive(Drop)]
 pub(crate) struct Walk<X, F> {
     /// The last row.
     last: Option<X>,
-    /// Whether each row is one of the table's type, and each key below the next.
+    /// True if each row has the table's type, and each key is less than the next.
     is_held: bool,
     fold: F,
 }
 
-/// The row that the values are, if they are one. It fails only where memory runs out.
+/// Returns the row with these values, if they are one. It fails only if memory runs out.
 fn typed_row<T: KeyedTable>(alloc: Global, row: &Row) -> Result<Option<T::Row>, Error>
     ensures { IfOk result (IsTyped T.meant T.to_row T.IsLawful row.now) }
 {
@@ -32,7 +32,7 @@ fn typed_row<T: KeyedTable>(alloc: Global, row: &Row) -> Result<Option<T::Row>, 
     }
 }
 
-/// Moves on to the next row and types it. Past the last there is none.
+/// Moves to the next row and types it. There is none after the last.
 fn next_typed<S: Alter, T: KeyedTable>(
     alloc: Global,
     rows: &mut Rows<'_, S>,
@@ -53,7 +53,6 @@ fn next_typed<S: Alter, T: KeyedTable>(
     }
 }
 
-/// Whether the key of the last row, if there is one, is below that of the next.
 fn follows<T: KeyedTable>(last: &Option<T::Row>, next: &T::Row) -> bool
     ensures { result ≡ follows T.meant T.cmp last.now next.now }
 {
@@ -63,7 +62,7 @@ fn follows<T: KeyedTable>(last: &Option<T::Row>, next: &T::Row) -> bool
     }
 }
 
-/// Takes the next row, as it was typed, and folds the one before it.
+/// Takes the next typed row, and folds the one before it.
 fn step<T: KeyedTable, F: RowFold<T::Row>>(
     walk: &mut Walk<T::Row, F>,
     beside: &F::Beside,
@@ -92,7 +91,7 @@ fn step<T: KeyedTable, F: RowFold<T::Row>>(
     }
 }
 
-/// Takes the rows of a query, in the order in which it gives them.
+/// Takes the rows of a query, in its order.
 fn walk_rows<S: Alter, T: KeyedTable, F: RowFold<T::Row>>(
     alloc: Global,
     rows: &mut Rows<'_, S>,
@@ -120,8 +119,8 @@ fn walk_rows<S: Alter, T: KeyedTable, F: RowFold<T::Row>>(
     Err(Error::SqliteFailure(ErrorCode::TooBig))
 }
 
-/// Takes the rows of a query of one table, all of them. On error nothing was done, or the
-/// transaction that was open is undone.
+/// Takes all rows of a query of one table. After an error an open transaction may have been rolled
+/// back.
 pub(crate) fn walked<S: Alter, T: KeyedTable, F: RowFold<T::Row> + Drop>(
     alloc: Global,
     conn: &mut Connection<S>,
@@ -147,7 +146,7 @@ pub(crate) fn walked<S: Alter, T: KeyedTable, F: RowFold<T::Row> + Drop>(
     Ok(walk)
 }
 
-/// What the rows of a table make of the fold, once all were given. `None`: they are no entries.
+/// Returns the fold over all rows, or `None` if they aren't entries.
 pub(crate) fn ended<T: KeyedTable, F: RowFold<T::Row> + Drop>(
     walk: Walk<T::Row, F>,
     beside: &F::Beside,

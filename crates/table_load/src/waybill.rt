@@ -80,10 +80,8 @@ impl KeyedTable for WaybillTable {
     }
 }
 
-/// All rows of `waybill2` in any database, by `awb`. Nothing where the table or a column is
-/// missing, a value is of another type or a text that is no UTF-8, or a key stands twice. The
-/// connection is open. On error memory is out or the database could not be read: nothing was done,
-/// or the transaction that was open is undone.
+/// Returns all rows of `waybill2` in any database, ordered by `awb`. For `None` and errors see
+/// [`found_rows`](crate::found_rows).
 #[tactic(auto, using(crate::proofs::Texts::waybill_is, crate::proofs::Orders::waybill_agrees))]
 pub fn found_waybills<S: Alter>(
     alloc: Global,

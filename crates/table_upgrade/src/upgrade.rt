@@ -11,7 +11,7 @@ use row_laws::{begin, commit, roll_back};
 use sqlite::{Alter, Connection, Error};
 use station_schema::shows_own;
 
-/// Makes `waybill2` beside the tables of a file of version 1, in a transaction.
+/// Makes `waybill2` in a file of version 1, inside a transaction.
 fn create_waybill2<S: Alter>(conn: &mut Connection<S>) -> Result<usize, Error>
     ensures made { HasCleanDisk (state S.Store conn.new) → IsInsideOld (state S.Store conn.old)
         → Adds (state S.Store conn.old) (state S.Store conn.new) result }
@@ -24,7 +24,7 @@ fn create_waybill2<S: Alter>(conn: &mut Connection<S>) -> Result<usize, Error>
     )
 }
 
-/// Adds each row of `waybill` to `waybill2`, with no day.
+/// Copies each row of `waybill` to `waybill2`, without a day.
 fn copy_waybills<S: Alter>(conn: &mut Connection<S>) -> Result<usize, Error>
     ensures made { Alters S.Store conn.old conn.new result copying }
     ensures survives { CommitsNothing S.Store conn.old conn.new }
@@ -51,7 +51,7 @@ fn raise_version<S: Alter>(conn: &mut Connection<S>) -> Result<usize, Error>
     conn.execute("UPDATE station SET version = 2 WHERE id = 1", &[])
 }
 
-/// Fills `waybill2` from `waybill`, removes the rows of `waybill` and sets the version, in a
+/// Fills `waybill2` from `waybill`, removes the rows of `waybill` and sets the version, inside a
 /// transaction.
 fn fill_waybill2<S: Alter>(conn: &mut Connection<S>) -> Result<(), Error>
     ensures made { Alters S.Store conn.old conn.new result filling }
@@ -63,7 +63,7 @@ fn fill_waybill2<S: Alter>(conn: &mut Connection<S>) -> Result<(), Error>
     Ok(())
 }
 
-/// Makes the tables those of version 2, in a transaction.
+/// Upgrades the tables, inside a transaction.
 fn move_waybills<S: Alter>(conn: &mut Connection<S>) -> Result<(), Error>
     ensures made { HasCleanDisk (state S.Store conn.new) → IsInsideOld (state S.Store conn.old)
         → Moves (state S.Store conn.old) (state S.Store conn.new) result }
@@ -75,7 +75,7 @@ fn move_waybills<S: Alter>(conn: &mut Connection<S>) -> Result<(), Error>
     Ok(())
 }
 
-/// Makes the tables those of version 2 and commits them.
+/// Upgrades the tables and commits them.
 fn commit_upgrade<S: Alter>(conn: &mut Connection<S>) -> Result<(), Error>
     ensures made { HasCleanDisk (state S.Store conn.new) → IsInsideOld (state S.Store conn.old)
         → Upgrades (state S.Store conn.old) (state S.Store conn.new) result }
@@ -89,12 +89,12 @@ fn commit_upgrade<S: Alter>(conn: &mut Connection<S>) -> Result<(), Error>
     Ok(())
 }
 
-/// Makes the tables of a file of version 1 those of version 2, in one transaction: `waybill2` has
-/// the waybills, with no day, and `waybill` is empty. On error the connection is back outside a
-/// transaction and, while it is open, at the last commit. It fails where a transaction is open, and
-/// where the store fails.
+/// Upgrades the tables of a file from version 1 to version 2, in one transaction: `waybill2` gets
+/// the waybills, without a day, and `waybill` is emptied. If it fails, the connection is outside a
+/// transaction and, if it is open, at the last commit. It fails if a transaction is open, or the
+/// store fails.
 ///
-/// A crash leaves the tables as they were, or those of version 2.
+/// A crash leaves the tables unchanged or upgraded.
 pub fn upgrade_tables<S: Alter>(conn: &mut Connection<S>) -> Result<(), Error>
     ensures made { HasCleanDisk (state S.Store conn.new) → IsOldStation (state S.Store conn.old).now
         → OnOk result (IsUpgraded (state S.Store conn.old) (state S.Store conn.new)) }

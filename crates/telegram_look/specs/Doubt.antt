@@ -1,4 +1,4 @@
--- Which lines are doubtful.
+-- Doubtful lines.
 use Rattle.std.specs.Prelude.{ℕ, Bool, ◌&&◌, ◌||◌, ◌==◌, not, nat_eq, nat_le, List, length, take, filter, slice_index, slice_range, codes}
 use Rattle.std.specs.List.{list_all, starts_with}
 use Rattle.awb_number.specs.Digits.{is_digit, is_letter}
@@ -17,14 +17,15 @@ abbrev pub begins_consignment : List ℕ → Bool
 begins_consignment bare =
     nat_le 18 (length bare) && list_all is_digit (take 11 bare) && list_all is_letter (slice_range bare 11 17) && (slice_index bare 17 == 47)
 
--- but for spaces and hyphens the line begins like a consignment line; its check digit isn't tested
+-- apart from spaces and hyphens the line begins like a consignment line; its check digit isn't
+-- tested
 abbrev pub resembles_consignment : List ℕ → Bool
 resembles_consignment line = begins_consignment (without_gaps line)
 
--- of a line of which no field is read: it begins a message, or resembles a consignment line
+-- a line without read fields begins a message, or resembles a consignment line
 abbrev pub is_doubtful : List ℕ → Bool
 is_doubtful line = is_message_line line || resembles_consignment line
 
--- of a line before the message: it begins a message that answers another, FNA or FMA
+-- a line before the message begins a message that answers another one, FNA or FMA
 abbrev pub begins_answer : List ℕ → Bool
 begins_answer line = starts_with nat_eq line (codes "FNA") || starts_with nat_eq line (codes "FMA")

@@ -1,4 +1,4 @@
--- What is seen of a telegram: what each line is to the reader of its message.
+-- Dry runs of telegrams: how each line is read.
 use Rattle.std.specs.Prelude.{◌≡◌, ℕ, ◌+◌, Bool, true, false, ◌&&◌, ◌||◌, ◌==◌, not, is_some, if◌then◌else◌, List, [], ◌∷◌, ◌++◌, length, map, take_while, drop, Option, Some, None, Ok}
 use Rattle.std.specs.List.{list_any, slice_split}
 use Rattle.imp_fields.specs.Consignment.{Shipment, consignment_of}
@@ -16,59 +16,57 @@ use Rattle.telegram_look.specs.declared.line.LinePart.TheVariants.{Head, Flight,
 use Rattle.telegram_look.specs.declared.line.SeenLine.{SeenLine}
 use Rattle.telegram_look.specs.declared.look.Look.{Look}
 
--- the lines in front of the first that begins a message
+-- the lines before the first one that begins a message
 abbrev pub front_lines : List ℕ → List (List ℕ)
 front_lines bytes = take_while (λ line. not (is_message_line line)) (map line_without_end (slice_split is_newline bytes))
 
 abbrev pub dropped_line : List ℕ → DroppedLine
 dropped_line text = record { text = text; doubtful = begins_answer text }
 
--- no field is read of a line that is passed over, or kept as it is
+-- no field is read of a line that is ignored, or stored unchanged
 abbrev pub is_unread : LinePart → Bool
 is_unread Status = true
 is_unread Passed = true
 is_unread _ = false
 
--- a line, counted from the message line
+-- a line, numbered from the message line
 abbrev pub seen_line : ℕ → LinePart → List ℕ → SeenLine
 seen_line number part text =
     record { number = number; part = part; text = text; doubtful = is_unread part && is_doubtful text }
 
--- what the second line is, by what the message says
 abbrev pub second_part : Content → LinePart
 second_part (content.Fwb cargo) = Declared cargo
 second_part (content.Ffm part) = Flight
 second_part (content.Fsu status) = Waybill
 
--- a line of cargo says the next of what the manifest says
+-- a cargo line has the next of the manifest's cargo
 abbrev pub loaded_part : List InboundLine → LinePart
 loaded_part [] = Passed
 loaded_part (cargo ∷ left) = Loaded cargo
 
--- what a line of a manifest is, below its flight line
+-- the reading of a line of a manifest after its flight line
 abbrev pub manifest_part : List InboundLine → List ℕ → Bool → LinePart
 manifest_part left line is_last =
     if is_cargo_line line then loaded_part left
     else (if is_some (unloading_point line) then Point else (if is_last then Last else Passed))
 
--- what a line is below the second: nothing is read of it in an FWB, an FSU keeps it
+-- the reading of a line after the second: an FWB ignores it, an FSU stores it
 abbrev pub lower_part : Content → List InboundLine → List ℕ → Bool → LinePart
 lower_part (content.Fwb cargo) left line is_last = Passed
 lower_part (content.Ffm part) left line is_last = manifest_part left line is_last
 lower_part (content.Fsu status) left line is_last = Status
 
--- what is left of the cargo behind a line
+-- the cargo that remains after a line
 abbrev pub left_behind : List ℕ → List InboundLine → List InboundLine
 left_behind line left = if is_cargo_line line then drop 1 left else left
 
--- the lines below the second, the first of which has a number
+-- the lines after the second; the first has this number
 abbrev pub lower_lines : Content → ℕ → List InboundLine → List (List ℕ) → List SeenLine
 lower_lines says number left [] = []
 lower_lines says number left (line ∷ lines) =
     seen_line number (lower_part says left line (length lines == 0)) line
     ∷ lower_lines says (number + 1) (left_behind line left) lines
 
--- the cargo of a manifest
 abbrev pub cargo_of : Content → List InboundLine
 cargo_of (content.Fwb cargo) = []
 cargo_of (content.Ffm part) = part.lines
@@ -81,7 +79,7 @@ seen_lines says (head ∷ []) = seen_line 1 Head head ∷ []
 seen_lines says (head ∷ second ∷ lower) =
     seen_line 1 Head head ∷ seen_line 2 (second_part says) second ∷ lower_lines says 3 (cargo_of says) lower
 
--- what is seen of the telegram that the bytes are
+-- the dry run of the telegram in these bytes
 pub record IsLook (bytes : List ℕ) (look : Look) : Type 0 where
   pub telegram : IsTelegram bytes look.telegram
   pub front : List (List ℕ)
@@ -91,11 +89,9 @@ pub record IsLook (bytes : List ℕ) (look : Look) : Type 0 where
   pub dropped : look.dropped.items ≡ map dropped_line front
   pub seen : look.lines.items ≡ seen_lines look.telegram.content lines
 
--- whether some line is doubtful
 abbrev pub has_doubt : Look → Bool
 has_doubt look = list_any (λ (l : DroppedLine). l.doubtful) look.dropped.items || list_any (λ (l : SeenLine). l.doubtful) look.lines.items
 
--- the texts of lines
 abbrev pub dropped_texts : List DroppedLine → List (List ℕ)
 dropped_texts lines = map (λ (l : DroppedLine). l.text) lines
 
@@ -107,7 +103,7 @@ abbrev pub AreNumbered : ℕ → List SeenLine → Type 0
 AreNumbered number [] = Unit {0}
 AreNumbered number (line ∷ lines) = (line.number ≡ number) × AreNumbered (number + 1) lines
 
--- what is read of a consignment line is what its text says
+-- the cargo of a consignment line is that of its text
 abbrev pub SaysCargo : List ℕ → CargoLine → Type 0
 SaysCargo text cargo = (s : Shipment) × (consignment_of text ≡ Ok s) × (cargo ≡ cargo_line s)
 
@@ -120,7 +116,7 @@ abbrev pub AreRead : List SeenLine → Type 0
 AreRead [] = Unit {0}
 AreRead (line ∷ lines) = IsReadFrom line.text line.part × AreRead lines
 
--- the cargo that is read of a line of a manifest
+-- the cargo of a manifest's line
 abbrev pub loaded_in : LinePart → Option InboundLine
 loaded_in (Loaded line) = Some line
 loaded_in _ = None

@@ -1,4 +1,4 @@
--- What is seen of a telegram, as an object of JSON.
+-- A dry run as a JSON object.
 use Rattle.std.specs.Prelude.{ℕ, Bool, List, ◌++◌, map, filter_map, Option, Some, None, codes, decimal}
 use Rattle.std.specs.List.{join_by}
 use Rattle.serde_json.specs.Data.{boolean, string}
@@ -17,24 +17,22 @@ use Rattle.telegram_look.specs.declared.line.LinePart.TheVariants.{Declared, Loa
 use Rattle.telegram_look.specs.declared.line.SeenLine.{SeenLine}
 use Rattle.telegram_look.specs.declared.look.Look.{Look}
 
--- which part of which manifest the message is
 abbrev pub part_members : PartContent → List ℕ
 part_members part =
     codes "\"part\":" ++ (decimal part.sequence ++ (codes ",\"flight\":\"" ++ (flight_text part.flight
     ++ (codes "\",\"date\":\"" ++ (date_text part.date ++ (codes "\",\"loaded\":\"" ++ (part.loaded ++ codes "\"")))))))
 
--- what the message is: the members at the front of the object
+-- the members of the message, at the start of the object
 abbrev pub message_members : Content → List ℕ
 message_members (content.Fwb cargo) = codes "\"kind\":\"FWB\""
 message_members (content.Ffm part) = codes "\"kind\":\"FFM\"," ++ part_members part
 message_members (content.Fsu status) = codes "\"kind\":\"FSU\",\"awb\":\"" ++ (number_text status.awb ++ codes "\"")
 
--- the pieces of the whole consignment, if they are given
+-- the pieces of the whole consignment, if given
 abbrev pub total_value : Option ℕ → List ℕ
 total_value None = codes "null"
 total_value (Some total) = decimal total
 
--- the number of a line, and what its consignment is
 abbrev pub route_members : ℕ → CargoLine → List ℕ
 route_members number cargo =
     codes "\"line\":" ++ (decimal number ++ (codes ",\"awb\":\"" ++ (number_text cargo.awb ++ (codes "\",\"origin\":\""
@@ -45,17 +43,16 @@ cargo_members number cargo =
     route_members number cargo ++ (codes ",\"pieces\":" ++ (decimal cargo.pieces ++ (codes ",\"tenths\":"
     ++ (decimal cargo.tenths ++ (codes ",\"total\":" ++ total_value cargo.total)))))
 
--- the text of a line, and whether it is doubtful
+-- the members of a line's text, and whether it is doubtful
 abbrev pub text_members : List ℕ → Bool → List ℕ
 text_members text doubtful =
     codes "\"text\":" ++ (compact_text (string text) ++ (codes ",\"doubtful\":" ++ compact_text (boolean doubtful)))
 
--- a line and its text
 abbrev pub text_object : ℕ → List ℕ → Bool → List ℕ
 text_object number text doubtful =
     codes "{\"line\":" ++ (decimal number ++ (codes "," ++ (text_members text doubtful ++ codes "}")))
 
--- what is read of a line
+-- the object of a line that is read
 abbrev pub read_part : ℕ → List ℕ → Bool → LinePart → Option (List ℕ)
 read_part number text doubtful (Declared cargo) = Some (codes "{" ++ (cargo_members number cargo ++ codes "}"))
 read_part number text doubtful (Loaded line) =
@@ -66,7 +63,7 @@ read_part number text doubtful _ = None
 abbrev pub read_object : SeenLine → Option (List ℕ)
 read_object l = read_part l.number l.text l.doubtful l.part
 
--- a line that is passed over
+-- the object of a line that is ignored
 abbrev pub passed_part : ℕ → List ℕ → Bool → LinePart → Option (List ℕ)
 passed_part number text doubtful Passed = Some (text_object number text doubtful)
 passed_part number text doubtful _ = None
@@ -74,15 +71,12 @@ passed_part number text doubtful _ = None
 abbrev pub passed_object : SeenLine → Option (List ℕ)
 passed_object l = passed_part l.number l.text l.doubtful l.part
 
--- a line before the message
 abbrev pub dropped_object : DroppedLine → List ℕ
 dropped_object l = codes "{" ++ (text_members l.text l.doubtful ++ codes "}")
 
--- a list of objects
 abbrev pub list_text : List (List ℕ) → List ℕ
 list_text objects = codes "[" ++ (join_by (λ object. object) (codes ",") objects ++ codes "]")
 
--- the object
 abbrev pub look_object : Look → List ℕ
 look_object look =
     codes "{" ++ (message_members look.telegram.content ++ (codes ",\"dropped\":" ++ (list_text (map dropped_object look.dropped.items)

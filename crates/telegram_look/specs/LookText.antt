@@ -1,4 +1,4 @@
--- What is seen of a telegram, as lines for people.
+-- A dry run as lines for people.
 use Rattle.std.specs.Prelude.{ℕ, Bool, if◌then◌else◌, List, [], ◌++◌, flat_map, Option, Some, None, codes, decimal}
 use Rattle.awb_number.specs.Number.{number_text}
 use Rattle.imp_fields.specs.Flight.{flight_text}
@@ -21,7 +21,7 @@ heading (content.Ffm part) =
     ++ (part.loaded ++ (codes ", part " ++ (decimal part.sequence ++ codes "\n")))))))
 heading (content.Fsu status) = codes "FSU " ++ (number_text status.awb ++ codes "\n")
 
--- the pieces of the whole consignment, if they are given
+-- the pieces of the whole consignment, if given
 abbrev pub total_text : Option ℕ → List ℕ
 total_text None = []
 total_text (Some total) = codes " (of " ++ (decimal total ++ codes ")")
@@ -32,11 +32,12 @@ cargo_text cargo =
     number_text cargo.awb ++ (codes " " ++ (cargo.origin ++ (cargo.destination ++ (codes " "
     ++ (amount_text (record { pieces = cargo.pieces; tenths = cargo.tenths }) ++ total_text cargo.total)))))
 
--- behind what is said of a doubtful line
+-- the text that marks a doubtful line
 abbrev pub doubt_text : Bool → List ℕ
 doubt_text doubtful = if doubtful then codes ", doubtful: " else codes ": "
 
--- a line of the message: what is read of it, or its text; a line without either isn't shown
+-- the text of a line that is read, or the line itself if it is ignored or stored; other lines
+-- aren't shown
 abbrev pub part_text : ℕ → List ℕ → Bool → LinePart → List ℕ
 part_text number text doubtful (Declared cargo) = codes "line " ++ (decimal number ++ (codes ": " ++ (cargo_text cargo ++ codes "\n")))
 part_text number text doubtful (Loaded line) =
@@ -49,11 +50,10 @@ part_text number text doubtful _ = []
 abbrev pub line_text : SeenLine → List ℕ
 line_text l = part_text l.number l.text l.doubtful l.part
 
--- a line before the message
 abbrev pub dropped_text : DroppedLine → List ℕ
 dropped_text l = codes "in front" ++ (doubt_text l.doubtful ++ (l.text ++ codes "\n"))
 
--- the heading, the lines in front, and the lines of the message
+-- the heading, the lines before the message, and its lines
 abbrev pub look_text : Look → List ℕ
 look_text look =
     heading look.telegram.content ++ (flat_map dropped_text look.dropped.items ++ flat_map line_text look.lines.items)

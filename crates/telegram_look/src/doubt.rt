@@ -1,4 +1,4 @@
-//! Which lines are doubtful.
+//! Doubtful lines.
 
 ghost use Rattle.std.specs.Prelude.{◌≡◌, IfOk};
 ghost use Rattle.std.specs.List.{list_all};
@@ -8,42 +8,36 @@ ghost use Rattle.telegram_look.specs.Doubt.{begins_answer, begins_consignment, i
 
 use std::alloc::{AllocError, Global};
 
-/// Whether a byte is a space or a hyphen.
 fn is_gap(b: u8) -> bool
     ensures { result ≡ is_gap b }
 {
     b == b' ' || b == b'-'
 }
 
-/// A line without its spaces and hyphens.
 fn without_gaps(alloc: Global, line: &[u8]) -> Result<Vec<u8>, AllocError>
     ensures { IfOk result (λ bare. bare.items ≡ without_gaps line.now) }
 {
     line.iter().copied().filter(|b| !is_gap(*b)).collect(alloc)
 }
 
-/// Whether each byte is a digit.
 fn is_digits(text: &[u8]) -> bool
     ensures { result ≡ list_all is_digit text.now }
 {
     text.iter().all(|b| b.is_ascii_digit())
 }
 
-/// Whether each byte is a letter.
 fn is_letters(text: &[u8]) -> bool
     ensures { result ≡ list_all is_letter text.now }
 {
     text.iter().all(|b| b.is_ascii_uppercase())
 }
 
-/// Whether a text begins with eleven digits, six letters and a slash.
 fn begins_consignment(bare: &[u8]) -> bool
     ensures { result ≡ begins_consignment bare.now }
 {
     bare.len() >= 18 && is_digits(&bare[..11]) && is_letters(&bare[11..17]) && bare[17] == b'/'
 }
 
-/// Whether a line begins like a consignment line, but for spaces, hyphens and the check digit.
 fn resembles_consignment(alloc: Global, line: &[u8]) -> Result<bool, AllocError>
     ensures { IfOk result (λ answer. answer ≡ resembles_consignment line.now) }
 {
@@ -51,14 +45,13 @@ fn resembles_consignment(alloc: Global, line: &[u8]) -> Result<bool, AllocError>
     Ok(begins_consignment(bare.as_slice()))
 }
 
-/// Whether a line begins an FWB, an FFM or an FSU.
+/// Returns whether a line begins an FWB, an FFM or an FSU.
 pub(crate) fn is_message_line(line: &[u8]) -> bool
     ensures { result ≡ is_message_line line.now }
 {
     line.starts_with(b"FWB/") || line.starts_with(b"FFM/") || line.starts_with(b"FSU/")
 }
 
-/// Whether a line of which no field is read begins a message or resembles a consignment line.
 pub(crate) fn is_doubtful(alloc: Global, line: &[u8]) -> Result<bool, AllocError>
     ensures { IfOk result (λ answer. answer ≡ is_doubtful line.now) }
 {
@@ -69,7 +62,6 @@ pub(crate) fn is_doubtful(alloc: Global, line: &[u8]) -> Result<bool, AllocError
     }
 }
 
-/// Whether a line begins a message that answers another, an FNA or an FMA.
 pub(crate) fn begins_answer(line: &[u8]) -> bool
     ensures { result ≡ begins_answer line.now }
 {

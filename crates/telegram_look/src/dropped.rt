@@ -11,7 +11,7 @@ use crate::line::DroppedLine;
 use shipment_machine::TrailLine;
 use std::alloc::{AllocError, Global};
 
-/// How many spaces are at the end of a text.
+/// Returns the number of trailing spaces.
 fn blanks_at_end(text: &[u8]) -> usize
     ensures run { result ≡ suffix_len is_blank text.now }
     ensures bound { result ≤ length text.now }
@@ -19,7 +19,7 @@ fn blanks_at_end(text: &[u8]) -> usize
     text.iter().rev().take_while(|b| **b == b' ').count()
 }
 
-/// A line without one carriage return at its end, and then without the spaces there.
+/// Returns a line without one trailing CR, and then without trailing spaces.
 fn without_end(line: &[u8]) -> &[u8]
     ensures { result.now ≡ line_without_end line.now }
 {
@@ -30,7 +30,7 @@ fn without_end(line: &[u8]) -> &[u8]
     &stripped[..stripped.len() - blanks_at_end(stripped)]
 }
 
-/// How many bytes are before the first newline, or in all if there isn't one.
+/// Returns the number of bytes before the first newline, or of all bytes without one.
 fn before_newline(text: &[u8]) -> usize
     ensures place { result ≡ position_or_len is_newline text.now }
     ensures bound { result ≤ length text.now }
@@ -38,7 +38,7 @@ fn before_newline(text: &[u8]) -> usize
     text.iter().take_while(|b| **b != b'\n').count()
 }
 
-/// The first line of a text, and what follows the newline after it; `None` if there is no newline.
+/// Returns the first line of a text and the text after its newline, or `None` without a newline.
 #[tactic(auto, using(crate::proofs::Front::cut_at, crate::proofs::Front::uncut))]
 fn cut_at_newline(text: &[u8]) -> Option<(&[u8], &[u8])>
     ensures some { IfSome result (λ parts. slice_split is_newline text.now
@@ -54,7 +54,6 @@ fn cut_at_newline(text: &[u8]) -> Option<(&[u8], &[u8])>
     Some((&text[..place], rest))
 }
 
-/// The lines in front of the first that begins a message.
 #[tactic(auto, using(crate::proofs::Front::next_front, crate::proofs::Front::no_front, crate::proofs::Front::last_front))]
 fn front_lines<'a>(alloc: Global, bytes: &'a [u8]) -> Result<Vec<&'a [u8]>, AllocError>
     ensures { IfOk result (λ front. map (λ line. line.now) front.items ≡ front_lines bytes.now) }
@@ -76,7 +75,7 @@ fn front_lines<'a>(alloc: Global, bytes: &'a [u8]) -> Result<Vec<&'a [u8]>, Allo
     Ok(front)
 }
 
-/// A line before the message line.
+/// Returns a line before the message line.
 fn dropped_line<'a>(text: &'a [u8]) -> DroppedLine<'a>
     requires { IsTrue (is_line text.now) }
     ensures { result ≡ dropped_line text.now }
@@ -87,7 +86,7 @@ fn dropped_line<'a>(text: &'a [u8]) -> DroppedLine<'a>
     }
 }
 
-/// What is dropped of some lines.
+/// Returns lines before the message line.
 fn put_dropped<'a>(alloc: Global, front: &[&'a [u8]]) -> Result<Vec<DroppedLine<'a>>, AllocError>
     requires { IsTrue (list_all (λ line. is_line line.now) front.now) }
     ensures { IfOk result (λ dropped. dropped.items ≡ map (λ line. dropped_line line.now)
@@ -100,7 +99,7 @@ fn put_dropped<'a>(alloc: Global, front: &[&'a [u8]]) -> Result<Vec<DroppedLine<
     Ok(dropped)
 }
 
-/// What is dropped before the message line.
+/// Returns all lines before the message line.
 #[tactic(auto, using(crate::proofs::Front::all_lines, crate::proofs::Front::all_dropped))]
 pub(crate) fn dropped_lines<'a>(
     alloc: Global,

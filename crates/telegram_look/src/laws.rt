@@ -1,4 +1,4 @@
-//! A law of the definitions.
+//! A law about the definitions.
 
 ghost use Rattle.std.specs.Prelude.{◌≡◌, ◌++◌, ℕ, List, filter_map};
 ghost use Rattle.imp_fields.specs.NormalText.{lines_of};
@@ -7,9 +7,9 @@ ghost use Rattle.telegrams.specs.declared.telegram.Content.TheVariants as conten
 ghost use Rattle.telegram_look.specs.Look.{AreNumbered, AreRead, IsLook, dropped_texts, loaded_by, seen_texts};
 ghost use Rattle.telegram_look.specs.declared.look.Look.{Look};
 
-/// Each line of a telegram is seen once, in order, and the lines of its message are numbered from
-/// 1. What is read of a consignment line is what its own text says. The lines of a manifest say
-/// exactly the cargo of the manifest, in order.
+/// Each line of a telegram occurs once in its dry run, in order, and the lines of its message are
+/// numbered from 1. The cargo of a consignment line is that of its own text. The lines of a
+/// manifest have exactly the manifest's cargo, in order.
 pub fn look_law()
     ensures once { (bytes : List ℕ) (look : Look) → IsLook bytes look
         → dropped_texts look.dropped.items ++ seen_texts look.lines.items ≡ lines_of bytes }

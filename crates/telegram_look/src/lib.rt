@@ -1,5 +1,4 @@
-//! A look at a telegram before it is taken: what is read of each of its lines, and which lines are
-//! doubtful.
+//! Dry runs of telegrams: how each line is read, and which lines are doubtful.
 #![tactic(auto)]
 
 mod doubt;

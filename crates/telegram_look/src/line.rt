@@ -1,35 +1,36 @@
-//! The lines of a telegram, and what each is to the reader of its message.
+//! The lines of a telegram, and how they are read.
 
 use shipment_machine::{CargoLine, InboundLine, TrailLine};
 
-/// A line before the message line, without the spaces at its end. It isn't part of the message.
+/// A line before the message line, without trailing spaces. It isn't part of the message.
 #[derive(Drop)]
 pub struct DroppedLine<'a> {
     pub text: TrailLine<'a>,
-    /// Whether it begins with `FNA` or `FMA`: a message that answers another may quote it below.
+    /// True if the line begins with `FNA` or `FMA`: a message that answers another one may quote it
+    /// below.
     pub doubtful: bool,
 }
 
-/// What a line is to the reader of its message.
+/// The reading of a line.
 #[derive(Clone, Copy)]
 pub enum LinePart {
     /// The message line.
     Head,
     /// The flight line of an FFM.
     Flight,
-    /// A point of unloading of an FFM.
+    /// A point of unloading in an FFM.
     Point,
-    /// The consignment line of an FWB, and what it says.
+    /// The consignment line of an FWB, and its cargo.
     Declared(CargoLine),
-    /// A consignment line of an FFM, what it says, and where it is unloaded.
+    /// A consignment line of an FFM, its cargo, and its point of unloading.
     Loaded(InboundLine),
-    /// The consignment line of an FSU. Of its fields only the waybill number is kept.
+    /// The consignment line of an FSU. Only its waybill number is used.
     Waybill,
-    /// A line below the consignment line of an FSU. It is kept as it is.
+    /// A line after the consignment line of an FSU. It is stored unchanged.
     Status,
     /// The last line of an FFM, `LAST` or `CONT`.
     Last,
-    /// A line that is passed over.
+    /// A line that is ignored.
     Passed,
 }
 
@@ -40,7 +41,7 @@ pub struct SeenLine<'a> {
     pub number: u32,
     pub part: LinePart,
     pub text: TrailLine<'a>,
-    /// Whether the line is passed over, or a status line, and yet begins a message or resembles a
+    /// True if the line is ignored, or a status line, although it begins a message or resembles a
     /// consignment line.
     pub doubtful: bool,
 }

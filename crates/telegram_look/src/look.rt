@@ -1,4 +1,4 @@
-//! A look at a telegram.
+//! Dry runs of telegrams.
 
 ghost use Rattle.std.specs.Prelude.{◌≡◌, IfOk, IfErr};
 ghost use Rattle.std.specs.List.{list_any};
@@ -12,24 +12,23 @@ use imp_fields::{MessageKind, normal_text};
 use std::alloc::Global;
 use telegrams::{Content, Telegram, TelegramFault, read_telegram};
 
-/// Whether some line before the message is doubtful.
+/// Returns whether a line before the message is doubtful.
 fn is_dropped_doubtful(lines: &[DroppedLine<'_>]) -> bool
     ensures { result ≡ list_any (λ line. line.doubtful) lines.now }
 {
     lines.iter().any(|line| line.doubtful)
 }
 
-/// Whether some line of the message is doubtful.
 fn is_seen_doubtful(lines: &[SeenLine<'_>]) -> bool
     ensures { result ≡ list_any (λ line. line.doubtful) lines.now }
 {
     lines.iter().any(|line| line.doubtful)
 }
 
-/// A telegram, and what each of its lines is to the reader of its message.
+/// A telegram, and how each of its lines is read.
 #[derive(Drop)]
 pub struct Look<'a> {
-    /// The telegram as it is taken.
+    /// The telegram as it would be taken.
     pub telegram: Telegram<'a>,
     /// The lines before the message line, which are dropped.
     pub dropped: Vec<DroppedLine<'a>>,
@@ -49,7 +48,7 @@ impl<'a> Look<'a> {
         }
     }
 
-    /// Whether some line is doubtful.
+    /// Returns whether any line is doubtful.
     pub fn is_doubtful(&self) -> bool
         ensures { result ≡ has_doubt self.now }
     {
@@ -57,11 +56,8 @@ impl<'a> Look<'a> {
     }
 }
 
-/// Reads bytes as a telegram, and says what each of its lines is to the reader of its message. The
-/// telegram is the one that `read_telegram` returns.
-///
-/// # Errors
-/// Those of `read_telegram`.
+/// Reads bytes as a telegram, and returns how each of its lines is read. The telegram and the
+/// errors are those of `read_telegram`.
 pub fn look_at<'a>(alloc: Global, bytes: &'a [u8]) -> Result<Look<'a>, TelegramFault>
     ensures seen { IfOk result (IsLook bytes.now) }
     ensures refused { IfErr result (RefusesText bytes.now) }

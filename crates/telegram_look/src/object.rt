@@ -1,4 +1,4 @@
-//! What is seen of a telegram, as an object of JSON.
+//! A dry run as a JSON object.
 
 ghost use Rattle.std.specs.Prelude.{◌≡◌, ◌++◌, [], IfOk, OnOk, filter_map, map, option_map, string_bytes};
 ghost use Rattle.std.specs.List.{cons_option};
@@ -16,7 +16,6 @@ use shipment_machine::{CargoLine, TrailLine};
 use std::alloc::{AllocError, Global};
 use telegrams::{Content, PartContent};
 
-/// Which part of which manifest the message is.
 fn part_members(alloc: Global, part: &PartContent) -> Result<String, AllocError>
     ensures { IfOk result (λ text. string_bytes text ≡ part_members part.now) }
 {
@@ -27,7 +26,6 @@ fn part_members(alloc: Global, part: &PartContent) -> Result<String, AllocError>
     )
 }
 
-/// What the message is.
 fn message_members(alloc: Global, says: &Content<'_>) -> Result<String, AllocError>
     ensures { IfOk result (λ text. string_bytes text ≡ message_members says.now) }
 {
@@ -44,7 +42,6 @@ fn message_members(alloc: Global, says: &Content<'_>) -> Result<String, AllocErr
     }
 }
 
-/// The pieces of the whole consignment, or `null`.
 fn total_value(alloc: Global, total: Option<Pieces>) -> Result<String, AllocError>
     ensures { IfOk result (λ text. string_bytes text ≡ total_value total) }
 {
@@ -54,7 +51,6 @@ fn total_value(alloc: Global, total: Option<Pieces>) -> Result<String, AllocErro
     }
 }
 
-/// The number of a line, and which consignment it is about.
 fn route_members(alloc: Global, number: u32, cargo: &CargoLine) -> Result<String, AllocError>
     ensures { IfOk result (λ text. string_bytes text ≡ route_members number cargo.now) }
 {
@@ -64,7 +60,7 @@ fn route_members(alloc: Global, number: u32, cargo: &CargoLine) -> Result<String
     )
 }
 
-/// The number of a line, and what is read of it.
+/// Returns the members of a line's number and its cargo.
 fn cargo_members(alloc: Global, number: u32, cargo: &CargoLine) -> Result<String, AllocError>
     ensures { IfOk result (λ text. string_bytes text ≡ cargo_members number cargo.now) }
 {
@@ -74,21 +70,18 @@ fn cargo_members(alloc: Global, number: u32, cargo: &CargoLine) -> Result<String
     format!(in alloc; "{route},\"pieces\":{pieces},\"tenths\":{tenths},\"total\":{total}")
 }
 
-/// A text, as JSON.
 fn quoted(alloc: Global, text: &str) -> Result<String, AllocError>
     ensures { IfOk result (λ quoted. string_bytes quoted ≡ compact_text (string text.now)) }
 {
     json!(in alloc; text)?.to_string(alloc)
 }
 
-/// Yes or no, as JSON.
 fn flag_text(flag: bool) -> &'static str
     ensures { result.now ≡ compact_text (boolean flag) }
 {
     if flag { "true" } else { "false" }
 }
 
-/// The text of a line, and whether it is doubtful.
 fn text_members(alloc: Global, text: &TrailLine<'_>, doubtful: bool) -> Result<String, AllocError>
     ensures { IfOk result (λ members. string_bytes members ≡ text_members text.now doubtful) }
 {
@@ -99,7 +92,6 @@ fn text_members(alloc: Global, text: &TrailLine<'_>, doubtful: bool) -> Result<S
     format!(in alloc; "\"text\":{text},\"doubtful\":{flag}")
 }
 
-/// A line and its text.
 fn text_object(alloc: Global, line: &SeenLine<'_>) -> Result<String, AllocError>
     ensures { IfOk result (λ object. string_bytes object ≡ text_object line.now.number line.now.text
         line.now.doubtful) }
@@ -108,7 +100,6 @@ fn text_object(alloc: Global, line: &SeenLine<'_>) -> Result<String, AllocError>
     format!(in alloc; "{{\"line\":{number},{members}}}")
 }
 
-/// What is read of a line.
 fn read_object(alloc: Global, line: &SeenLine<'_>) -> Result<Option<String>, AllocError>
     ensures { IfOk result (λ object. option_map string_bytes object ≡ read_object line.now) }
 {
@@ -127,7 +118,6 @@ fn read_object(alloc: Global, line: &SeenLine<'_>) -> Result<Option<String>, All
     }
 }
 
-/// A line that is passed over.
 fn passed_object(alloc: Global, line: &SeenLine<'_>) -> Result<Option<String>, AllocError>
     ensures { IfOk result (λ object. option_map string_bytes object ≡ passed_object line.now) }
 {
@@ -137,7 +127,6 @@ fn passed_object(alloc: Global, line: &SeenLine<'_>) -> Result<Option<String>, A
     }
 }
 
-/// A line before the message.
 fn dropped_object(alloc: Global, line: &DroppedLine<'_>) -> Result<String, AllocError>
     ensures { IfOk result (λ object. string_bytes object ≡ dropped_object line.now) }
 {
@@ -145,7 +134,6 @@ fn dropped_object(alloc: Global, line: &DroppedLine<'_>) -> Result<String, Alloc
     format!(in alloc; "{{{members}}}")
 }
 
-/// The lines before the message.
 fn dropped_objects(alloc: Global, lines: &[DroppedLine<'_>]) -> Result<Vec<String>, AllocError>
     ensures { IfOk result (λ objects. map string_bytes objects.items ≡ map dropped_object
         lines.now) }
@@ -157,7 +145,6 @@ fn dropped_objects(alloc: Global, lines: &[DroppedLine<'_>]) -> Result<Vec<Strin
     Ok(objects)
 }
 
-/// Appends an object, if there is one.
 fn put_object(objects: &mut Vec<String>, object: Option<String>) -> Result<(), AllocError>
     ensures { OnOk result (map string_bytes objects.new.items
         ≡ map string_bytes objects.old.items ++ cons_option (option_map string_bytes object) []) }
@@ -168,7 +155,6 @@ fn put_object(objects: &mut Vec<String>, object: Option<String>) -> Result<(), A
     }
 }
 
-/// What is read of each line.
 fn read_objects(alloc: Global, lines: &[SeenLine<'_>]) -> Result<Vec<String>, AllocError>
     ensures { IfOk result (λ objects. map string_bytes objects.items ≡ filter_map read_object
         lines.now) }
@@ -180,7 +166,6 @@ fn read_objects(alloc: Global, lines: &[SeenLine<'_>]) -> Result<Vec<String>, Al
     Ok(objects)
 }
 
-/// Each line that is passed over.
 fn passed_objects(alloc: Global, lines: &[SeenLine<'_>]) -> Result<Vec<String>, AllocError>
     ensures { IfOk result (λ objects. map string_bytes objects.items ≡ filter_map passed_object
         lines.now) }
@@ -192,7 +177,6 @@ fn passed_objects(alloc: Global, lines: &[SeenLine<'_>]) -> Result<Vec<String>, 
     Ok(objects)
 }
 
-/// A list of objects.
 fn list_text(alloc: Global, objects: &[String]) -> Result<String, AllocError>
     ensures { IfOk result (λ text. string_bytes text ≡ list_text (map string_bytes objects.now)) }
 {
@@ -200,7 +184,6 @@ fn list_text(alloc: Global, objects: &[String]) -> Result<String, AllocError>
     format!(in alloc; "[{joined}]")
 }
 
-/// The list of the lines before the message.
 fn dropped_list(alloc: Global, lines: &[DroppedLine<'_>]) -> Result<String, AllocError>
     ensures { IfOk result (λ text. string_bytes text ≡ list_text (map dropped_object lines.now)) }
 {
@@ -208,7 +191,6 @@ fn dropped_list(alloc: Global, lines: &[DroppedLine<'_>]) -> Result<String, Allo
     list_text(alloc, objects.as_slice())
 }
 
-/// The list of what is read.
 fn read_list(alloc: Global, lines: &[SeenLine<'_>]) -> Result<String, AllocError>
     ensures { IfOk result (λ text. string_bytes text ≡ list_text (filter_map read_object
         lines.now)) }
@@ -217,7 +199,6 @@ fn read_list(alloc: Global, lines: &[SeenLine<'_>]) -> Result<String, AllocError
     list_text(alloc, objects.as_slice())
 }
 
-/// The list of the lines that are passed over.
 fn passed_list(alloc: Global, lines: &[SeenLine<'_>]) -> Result<String, AllocError>
     ensures { IfOk result (λ text. string_bytes text ≡ list_text (filter_map passed_object
         lines.now)) }
@@ -226,21 +207,19 @@ fn passed_list(alloc: Global, lines: &[SeenLine<'_>]) -> Result<String, AllocErr
     list_text(alloc, objects.as_slice())
 }
 
-/// What is seen of a telegram, as one object of JSON without spaces. Its members, in this order:
+/// Returns a dry run as one JSON object without spaces. Its members, in this order:
 ///
-/// - `kind`: `FWB`, `FFM` or `FSU`. An FFM has also `part`, `flight`, `date` and `loaded`, an FSU
+/// - `kind`: `FWB`, `FFM` or `FSU`. An FFM also has `part`, `flight`, `date` and `loaded`, an FSU
 ///   `awb`;
 /// - `dropped`: each line before the message, an object of `text` and `doubtful`;
 /// - `read`: for an FWB its consignment and for an FFM each consignment, an object of `line`,
-/// `awb`,
-///   `origin`, `destination`, `pieces`, `tenths` (of a kilogram) and `total` (pieces, or `null`),
-///   for an FFM also `unload`; for an FSU each status line, an object of `line`, `text` and
-///   `doubtful`;
-/// - `passed`: each line that is passed over, an object of `line`, `text` and `doubtful`;
-/// - `doubtful`: whether some line is doubtful.
+///   `awb`, `origin`, `destination`, `pieces`, `tenths` (of a kilogram) and `total` (pieces, or
+///   `null`), for an FFM also `unload`; for an FSU each status line, an object of `line`, `text`
+///   and `doubtful`;
+/// - `passed`: each line that is ignored, an object of `line`, `text` and `doubtful`;
+/// - `doubtful`: whether any line is doubtful.
 ///
-/// # Errors
-/// [`AllocError`] when out of memory.
+/// It fails only if memory runs out.
 pub fn look_object(alloc: Global, look: &Look<'_>) -> Result<String, AllocError>
     ensures text { IfOk result (λ text. string_bytes text ≡ look_object look.now) }
 {

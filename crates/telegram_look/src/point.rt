@@ -7,7 +7,7 @@ ghost use Rattle.ffm_text.specs.Ffm.{is_remark, may_follow_point, unloading_poin
 use imp_fields::Airport;
 use station_days::DayMonth;
 
-/// Whether a line begins like a remark, which is never a point of unloading.
+/// Returns whether a line begins like a remark, which is never a point of unloading.
 fn is_remark(line: &[u8]) -> bool
     ensures { result ≡ is_remark line.now }
 {
@@ -19,7 +19,7 @@ fn is_remark(line: &[u8]) -> bool
         || line.starts_with(b"COR/")
 }
 
-/// Whether three bytes are the name of a month.
+/// Returns whether three bytes are the name of a month.
 fn is_month(name: &[u8; 3]) -> bool
     ensures { result ≡ is_some (month_of name.now) }
 {
@@ -27,7 +27,7 @@ fn is_month(name: &[u8; 3]) -> bool
     DayMonth::read(&[b'0', b'1', first, second, third]).is_some()
 }
 
-/// Whether a text begins with a slash, two digits and the name of a month.
+/// Returns whether a text begins with a slash, two digits and the name of a month.
 fn begins_with_date(rest: &[u8]) -> bool
     ensures { result ≡ ((slice_index rest.now 0 == 47)
         && is_some (two_digits_of (slice_range rest.now 1 3))
@@ -41,14 +41,14 @@ fn begins_with_date(rest: &[u8]) -> bool
     }
 }
 
-/// Whether a text may follow the three letters of a point of unloading.
+/// Returns whether a text may follow the three letters of a point of unloading.
 fn may_follow_point(rest: &[u8]) -> bool
     ensures { result ≡ may_follow_point rest.now }
 {
     rest.is_empty() || rest == b"/NIL".as_slice() || begins_with_date(rest)
 }
 
-/// The point of unloading that a line names, if it names one.
+/// Returns the point of unloading in a line, if it is one.
 pub(crate) fn unloading_point(line: &[u8]) -> Option<Airport>
     ensures { result ≡ unloading_point line.now }
 {

@@ -18,14 +18,12 @@ use shipment_machine::{InboundLine, TrailLine};
 use std::alloc::{AllocError, Global};
 use telegrams::Content;
 
-/// Whether no field is read of a line.
 fn is_unread(part: &LinePart) -> bool
     ensures { result ≡ is_unread part.now }
 {
     matches!(part, LinePart::Status | LinePart::Passed)
 }
 
-/// Whether a line is doubtful, by what it is to the reader.
 fn doubtful(alloc: Global, part: &LinePart, text: &[u8]) -> Result<bool, AllocError>
     ensures { IfOk result (λ answer. answer ≡ (is_unread part.now && is_doubtful text.now)) }
 {
@@ -36,7 +34,6 @@ fn doubtful(alloc: Global, part: &LinePart, text: &[u8]) -> Result<bool, AllocEr
     }
 }
 
-/// A line of a message.
 fn seen_line<'a>(
     alloc: Global,
     number: u32,
@@ -54,7 +51,6 @@ fn seen_line<'a>(
     })
 }
 
-/// What the second line is, by what the message says.
 fn second_part(says: &Content<'_>) -> LinePart
     ensures { result ≡ second_part says.now }
 {
@@ -65,7 +61,7 @@ fn second_part(says: &Content<'_>) -> LinePart
     }
 }
 
-/// What a line of cargo says: the next of the lines that are left.
+/// Returns how a cargo line is read: as the next of the remaining lines.
 fn loaded_part(left: &[InboundLine]) -> LinePart
     ensures { result ≡ loaded_part left.now }
 {
@@ -75,7 +71,7 @@ fn loaded_part(left: &[InboundLine]) -> LinePart
     }
 }
 
-/// Whether a line begins with three digits and a hyphen, so that it is a consignment line.
+/// Returns whether a line begins with three digits and a hyphen, so that it is a consignment line.
 fn is_cargo_line(line: &[u8]) -> bool
     ensures { result ≡ is_cargo_line line.now }
 {
@@ -87,7 +83,6 @@ fn is_cargo_line(line: &[u8]) -> bool
     }
 }
 
-/// What a line of a manifest is, below its flight line.
 fn manifest_part(left: &[InboundLine], line: &[u8], is_last: bool) -> LinePart
     ensures { result ≡ manifest_part left.now line.now is_last }
 {
@@ -102,7 +97,6 @@ fn manifest_part(left: &[InboundLine], line: &[u8], is_last: bool) -> LinePart
     }
 }
 
-/// What a line is below the second.
 fn lower_part(says: &Content<'_>, left: &[InboundLine], line: &[u8], is_last: bool) -> LinePart
     ensures { result ≡ lower_part says.now left.now line.now is_last }
 {
@@ -113,7 +107,6 @@ fn lower_part(says: &Content<'_>, left: &[InboundLine], line: &[u8], is_last: bo
     }
 }
 
-/// The cargo that is left behind a line.
 fn left_behind<'c>(line: &[u8], left: &'c [InboundLine]) -> &'c [InboundLine]
     ensures { result.now ≡ left_behind line.now left.now }
 {
@@ -126,7 +119,6 @@ fn left_behind<'c>(line: &[u8], left: &'c [InboundLine]) -> &'c [InboundLine]
     }
 }
 
-/// The cargo of a manifest.
 fn cargo_of<'c>(says: &'c Content<'_>) -> &'c [InboundLine]
     ensures { result.now ≡ cargo_of says.now }
 {
@@ -136,7 +128,7 @@ fn cargo_of<'c>(says: &'c Content<'_>) -> &'c [InboundLine]
     }
 }
 
-/// Appends the lines below the second. The first of them is line 3.
+/// Appends the lines after the second. The first of them is line 3.
 fn put_lower<'a>(
     alloc: Global,
     says: &Content<'_>,
@@ -159,7 +151,7 @@ fn put_lower<'a>(
     Ok(())
 }
 
-/// What each line of a message is to its reader, by what the message says.
+/// Returns how each line of a message is read.
 pub(crate) fn seen_lines<'a>(
     alloc: Global,
     says: &Content<'_>,

@@ -1,4 +1,4 @@
-//! What is seen of a telegram, as lines for people.
+//! A dry run as lines for people.
 
 ghost use Rattle.std.specs.Prelude.{◌≡◌, ◌++◌, IfOk, OnOk, flat_map, string_bytes};
 ghost use Rattle.telegram_look.specs.LookText.{cargo_text, doubt_text, dropped_text, heading, line_text, look_text, total_text};
@@ -11,7 +11,6 @@ use shipment_machine::{Amount, CargoLine};
 use std::alloc::{AllocError, Global};
 use telegrams::Content;
 
-/// What the message is.
 fn heading(alloc: Global, says: &Content<'_>) -> Result<String, AllocError>
     ensures { IfOk result (λ text. string_bytes text ≡ heading says.now) }
 {
@@ -29,7 +28,6 @@ fn heading(alloc: Global, says: &Content<'_>) -> Result<String, AllocError>
     }
 }
 
-/// The pieces of the whole consignment, if they are given.
 fn total_text(alloc: Global, total: Option<Pieces>) -> Result<String, AllocError>
     ensures { IfOk result (λ text. string_bytes text ≡ total_text total) }
 {
@@ -39,7 +37,6 @@ fn total_text(alloc: Global, total: Option<Pieces>) -> Result<String, AllocError
     }
 }
 
-/// What a consignment line says.
 fn cargo_text(alloc: Global, cargo: &CargoLine) -> Result<String, AllocError>
     ensures { IfOk result (λ text. string_bytes text ≡ cargo_text cargo.now) }
 {
@@ -52,14 +49,15 @@ fn cargo_text(alloc: Global, cargo: &CargoLine) -> Result<String, AllocError>
     format!(in alloc; "{awb} {origin}{destination} {amount}{total}")
 }
 
-/// What is behind the name of a line that may be doubtful.
+/// Returns the text after the name of a line that may be doubtful.
 fn doubt_text(doubtful: bool) -> &'static str
     ensures { result.now ≡ doubt_text doubtful }
 {
     if doubtful { ", doubtful: " } else { ": " }
 }
 
-/// What is read of a line of the message, or its text; empty for a line without either.
+/// Returns the text of a line that is read, or the line itself if it is ignored or stored. It is
+/// empty for other lines.
 fn line_text(alloc: Global, line: &SeenLine<'_>) -> Result<String, AllocError>
     ensures { IfOk result (λ text. string_bytes text ≡ line_text line.now) }
 {
@@ -80,7 +78,6 @@ fn line_text(alloc: Global, line: &SeenLine<'_>) -> Result<String, AllocError>
     }
 }
 
-/// A line before the message.
 fn dropped_text(alloc: Global, line: &DroppedLine<'_>) -> Result<String, AllocError>
     ensures { IfOk result (λ text. string_bytes text ≡ dropped_text line.now) }
 {
@@ -88,7 +85,6 @@ fn dropped_text(alloc: Global, line: &DroppedLine<'_>) -> Result<String, AllocEr
     format!(in alloc; "in front{doubt}{text}\n")
 }
 
-/// The lines before the message.
 fn dropped_texts(alloc: Global, lines: &[DroppedLine<'_>]) -> Result<String, AllocError>
     ensures { IfOk result (λ text. string_bytes text ≡ flat_map dropped_text lines.now) }
 {
@@ -99,7 +95,6 @@ fn dropped_texts(alloc: Global, lines: &[DroppedLine<'_>]) -> Result<String, All
     Ok(text)
 }
 
-/// The lines of the message.
 fn line_texts(alloc: Global, lines: &[SeenLine<'_>]) -> Result<String, AllocError>
     ensures { IfOk result (λ text. string_bytes text ≡ flat_map line_text lines.now) }
 {
@@ -110,9 +105,8 @@ fn line_texts(alloc: Global, lines: &[SeenLine<'_>]) -> Result<String, AllocErro
     Ok(text)
 }
 
-/// What is seen of a telegram, for people. Each thing has a line, which ends with a newline: the
-/// message; each line before it; each consignment, with its weight in kilograms; each status
-/// line; each line that is passed over.
+/// Returns a dry run as lines for people, each ended by a newline: the message; each line before
+/// it; each consignment, with its weight in kilograms; each status line; each line that is ignored.
 ///
 /// ```text
 /// FFM LH400/12JAN from FRA, part 1
@@ -121,9 +115,6 @@ fn line_texts(alloc: Global, lines: &[SeenLine<'_>]) -> Result<String, AllocErro
 /// line 5 is passed over: DIM/K40
 /// line 6 is passed over, doubtful:  020-12345686FRAJFK/T10K100
 /// ```
-///
-/// # Errors
-/// [`AllocError`] when out of memory.
 pub fn look_text(alloc: Global, look: &Look<'_>) -> Result<String, AllocError>
     ensures text { IfOk result (λ text. string_bytes text ≡ look_text look.now) }
 {

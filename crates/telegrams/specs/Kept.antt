@@ -1,15 +1,14 @@
--- What the types of telegrams keep.
+-- Ranges that the types of telegrams guarantee.
 use Rattle.std.specs.Prelude.{ℕ, Bool, ◌||◌, ◌==◌}
 use Rattle.std.specs.List.{list_all}
 use Rattle.imp_fields.specs.Characters.{is_printable}
 use Rattle.imp_fields.specs.declared.line.Consignment.{Consignment}
 use Rattle.ffm_text.specs.declared.FfmLine.{FfmLine}
 
--- a byte of a normal text: printable, or the newline between two lines
+-- a byte of a normal text: printable, or a newline between lines
 abbrev pub is_text_byte : ℕ → Bool
 is_text_byte b = is_printable b || (b == 10)
 
--- the goods of a consignment are printable
 abbrev pub has_plain_goods : Consignment → Bool
 has_plain_goods c = list_all is_printable c.goods.text.now
 

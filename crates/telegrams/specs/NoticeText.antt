@@ -1,4 +1,4 @@
--- The text of a notice: that of the status or the manifest which it is.
+-- The text of a notice, a status or a manifest.
 use Rattle.std.specs.Prelude.{◌≡◌, ℕ, List, map, Some, Ok}
 use Rattle.station_days.specs.Date.{date_on, when_at}
 use Rattle.imp_fields.specs.Message.{sent_text}
@@ -20,8 +20,8 @@ use Rattle.shipment_machine.specs.declared.notice.ManifestLine.{ManifestLine}
 use Rattle.shipment_machine.specs.declared.notice.Notice.{Notice}
 use Rattle.shipment_machine.specs.declared.notice.Notice.TheVariants as notice
 
--- What happened, as a status message says it: a flight by its date without the year, and else the
--- moment.
+-- An event as a sent status: with the flight's date without the year if a flight leaves, otherwise
+-- with the moment.
 abbrev pub status_of_event : Event → SentStatus
 status_of_event (event.ReceivedFromShipper name at) = sent.Handled handling.ReceivedFromShipper (when_at at) name
 status_of_event (event.Manifested flight unload) = sent.Carried leaving.Manifested flight.flight (date_on flight.day) unload
@@ -31,7 +31,7 @@ status_of_event (event.Notified name at) = sent.Handled handling.Notified (when_
 status_of_event (event.Delivered name at) = sent.Handled handling.Delivered (when_at at) name
 status_of_event (event.Differs flight at what) = sent.Differs what flight.flight (when_at at)
 
--- the status message that a notice is
+-- the status update of a notice
 abbrev pub sent_update : List ℕ → WaybillSummary → Event → ℕ → ℕ → SentUpdate
 sent_update here consigned what pieces tenths = record {
   «of» = consigned;
@@ -41,7 +41,6 @@ sent_update here consigned what pieces tenths = record {
   tenths = tenths;
 }
 
--- a waybill on a manifest
 abbrev pub sent_load : ManifestLine → Load
 sent_load l = record {
   awb = l.consigned.awb;
@@ -53,25 +52,23 @@ sent_load l = record {
   goods = l.goods;
 }
 
--- the lines of a manifest
 abbrev pub manifest_lines : List ℕ → FlightDate → List ℕ → List ManifestLine → List (List ℕ)
 manifest_lines here flight unload lines = ffm_lines flight.flight (date_on flight.day) here unload (map sent_load lines)
 
--- the lines of a notice
 abbrev pub notice_lines : Notice → List (List ℕ)
 notice_lines (notice.Status here consigned what pieces tenths) = fsu_lines (sent_update here consigned what pieces tenths)
 notice_lines (notice.Manifest here flight unload lines) = manifest_lines here flight unload lines
 
--- each ends with a carriage return and a newline
+-- each line ends with CR LF
 abbrev pub notice_text : Notice → List ℕ
 notice_text n = sent_text (notice_lines n)
 
--- a status message is read as the update that was written, and its status line as the status
+-- a status message is read back as the update written, and its status line as the status
 abbrev pub IsUpdateAgain : SentUpdate → Type 0
 IsUpdateAgain u =
     IsFsu (fsu_lines u) (update_written u) × (status_of (sent_status_text u.status u) ≡ Some (sent_status_reading u.status u))
 
--- the lines of a manifest are normal lines of what is sent, and are read as what was written
+-- the lines of a manifest are normal, and are read back as the values written
 abbrev pub IsNormalManifest : List ℕ → FlightDate → List ℕ → List ManifestLine → Type 0
 IsNormalManifest here flight unload lines =
     normal_lines (sent_text (manifest_lines here flight unload lines)) ≡ Ok (manifest_lines here flight unload lines)
@@ -80,7 +77,7 @@ abbrev pub IsManifestAgain : List ℕ → FlightDate → List ℕ → List Manif
 IsManifestAgain here flight unload lines =
     IsFfm (manifest_lines here flight unload lines) (manifest_written flight.flight (date_on flight.day) here unload (map sent_load lines))
 
--- the lines of a notice are read as what was written
+-- the lines of a notice are read back as the values written
 abbrev pub IsReadAgain : Notice → Type 0
 IsReadAgain (notice.Status here consigned what pieces tenths) = IsUpdateAgain (sent_update here consigned what pieces tenths)
 IsReadAgain (notice.Manifest here flight unload lines) = IsManifestAgain here flight unload lines

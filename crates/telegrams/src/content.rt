@@ -1,4 +1,4 @@
-//! What the lines of a normal text say to the machine.
+//! The content of a normal text.
 
 ghost use Rattle.std.specs.Prelude.{◌≡◌, ◌≤◌, ◌++◌, ◌∷◌, [], Option, Some, IsTrue, IfOk, IfErr, OnOk, length, map};
 ghost use Rattle.std.specs.Option.{unwrap_or};
@@ -23,7 +23,7 @@ use shipment_machine::{CargoLine, Detail, InboundLine, Refusal, TrailLine};
 use std::alloc::{AllocError, Global};
 use std::slice;
 
-/// What a fault that a reader returns makes of a telegram.
+/// Returns the refusal for a reader's fault.
 pub(crate) fn refusal(told: TextFault) -> TelegramFault
     requires { told.line ≤ most_lines }
     ensures reader { (due : Option TextFault) → IsFaultOf due told → RefusesAs due result }
@@ -45,7 +45,7 @@ pub(crate) fn refusal(told: TextFault) -> TelegramFault
     }
 }
 
-/// The weight that is given, or none.
+/// Returns the weight, 0 if it isn't given.
 fn weight_told(weight: Option<Tenths>) -> Tenths
     ensures { result ≡ unwrap_or weight 0 }
 {
@@ -58,7 +58,6 @@ fn weight_told(weight: Option<Tenths>) -> Tenths
     }
 }
 
-/// What a consignment line says.
 fn cargo_line(consignment: &Consignment<'_>) -> CargoLine
     requires { IsTrue (has_plain_goods consignment.now) }
     ensures { result ≡ cargo_line (shipment_of consignment.now) }
@@ -74,7 +73,6 @@ fn cargo_line(consignment: &Consignment<'_>) -> CargoLine
     }
 }
 
-/// What a line of a manifest says.
 fn inbound_line(line: &FfmLine<'_>) -> InboundLine
     requires { IsTrue (has_plain_cargo line.now) }
     ensures { result ≡ inbound_line (unloaded_of line.now) }
@@ -85,7 +83,6 @@ fn inbound_line(line: &FfmLine<'_>) -> InboundLine
     }
 }
 
-/// Appends what a line of a manifest says.
 fn put_line(lines: &mut Vec<InboundLine>, line: &FfmLine<'_>) -> Result<(), AllocError>
     requires { IsTrue (has_plain_cargo line.now) }
     ensures { OnOk result (lines.new.items ≡ lines.old.items ++ inbound_line (unloaded_of line.now)
@@ -95,7 +92,6 @@ fn put_line(lines: &mut Vec<InboundLine>, line: &FfmLine<'_>) -> Result<(), Allo
     lines.extend_from_slice(slice::from_ref(&said))
 }
 
-/// What the lines of a manifest say.
 fn inbound_lines(alloc: Global, cargo: &[FfmLine<'_>]) -> Result<Vec<InboundLine>, AllocError>
     requires { IsTrue (list_all has_plain_cargo cargo.now) }
     ensures { IfOk result (λ lines. lines.items ≡ map (λ l. inbound_line (unloaded_of l))
@@ -108,7 +104,7 @@ fn inbound_lines(alloc: Global, cargo: &[FfmLine<'_>]) -> Result<Vec<InboundLine
     Ok(lines)
 }
 
-/// The lines of a status message, as they stand.
+/// Returns the unchanged lines of a status message.
 fn trail_lines<'a>(
     alloc: Global,
     trail: &[StatusLine<'a>],
@@ -123,7 +119,6 @@ fn trail_lines<'a>(
     Ok(lines)
 }
 
-/// What the lines of a waybill's data say.
 fn fwb_content<'a>(lines: &Lines<'a>) -> Result<Content<'a>, TelegramFault>
     ensures said { IfOk result (SaysAs kinds.Fwb (line_texts lines.now)) }
     ensures refused { IfErr result (RefusesAs (fwb_fault (line_texts lines.now))) }
@@ -134,7 +129,6 @@ fn fwb_content<'a>(lines: &Lines<'a>) -> Result<Content<'a>, TelegramFault>
     }
 }
 
-/// What the lines of a manifest say.
 fn ffm_content<'a>(alloc: Global, lines: &Lines<'a>) -> Result<Content<'a>, TelegramFault>
     ensures said { IfOk result (SaysAs kinds.Ffm (line_texts lines.now)) }
     ensures refused { IfErr result (RefusesAs (ffm_fault (line_texts lines.now))) }
@@ -155,7 +149,6 @@ fn ffm_content<'a>(alloc: Global, lines: &Lines<'a>) -> Result<Content<'a>, Tele
     }
 }
 
-/// What the lines of a status message say.
 fn fsu_content<'a>(alloc: Global, lines: &Lines<'a>) -> Result<Content<'a>, TelegramFault>
     ensures said { IfOk result (SaysAs kinds.Fsu (line_texts lines.now)) }
     ensures refused { IfErr result (RefusesAs (fsu_fault (line_texts lines.now))) }
@@ -173,7 +166,6 @@ fn fsu_content<'a>(alloc: Global, lines: &Lines<'a>) -> Result<Content<'a>, Tele
     }
 }
 
-/// What the lines of a normal text say.
 pub(crate) fn content<'a>(alloc: Global, lines: &Lines<'a>) -> Result<Content<'a>, TelegramFault>
     ensures said { IfOk result (SaysAs lines.now.kind (line_texts lines.now)) }
     ensures refused { IfErr result

@@ -1,4 +1,5 @@
-//! What the types of a notice keep, for the proof of what is read again. The functions do nothing.
+//! Ranges that the types of a notice guarantee, for the proof that it is read back. The functions
+//! do nothing.
 
 ghost use Rattle.std.specs.Prelude.{◌≤◌, All, length, map};
 ghost use Rattle.station_days.specs.Date.{date_on};
@@ -44,7 +45,6 @@ fn parts_known(here: &Airport, flight: &FlightDate, unload: &Airport, lines: &[M
     lines_known(lines);
 }
 
-/// The lines of a manifest are normal, and are read as what was written.
 pub(crate) fn manifest_known(
     here: &Airport,
     flight: &FlightDate,

@@ -1,9 +1,9 @@
-//! A law of the definitions.
+//! A law about the definitions.
 
 ghost use Rattle.std.specs.Prelude.{◌≡◌, ℕ, List, None};
 ghost use Rattle.telegrams.specs.Meaning.{Meant, IsTelegram, telegram_fault};
 
-/// Bytes mean a telegram exactly where they have no fault, and then one telegram only.
+/// Bytes are a telegram exactly if they have no fault, and then only one telegram.
 pub fn telegram_law()
     ensures read { (bytes : List ℕ) (t : Meant) → IsTelegram bytes t → telegram_fault bytes ≡ None }
     ensures faultless { (bytes : List ℕ) → telegram_fault bytes ≡ None → (t : Meant)

@@ -1,4 +1,4 @@
-//! Telegrams that arrive, and the texts of those that are sent.
+//! Telegrams that arrive, and the texts of those to be sent.
 #![tactic(auto)]
 
 mod content;

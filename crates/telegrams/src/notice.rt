@@ -16,7 +16,7 @@ use shipment_machine::{Event, FlightDate, ManifestLine, ManifestLines, Notice};
 use station_days::{DayMonth, DayTime, Moment};
 use std::alloc::{AllocError, Global};
 
-/// RCS, NFD or DLV, written with its moment.
+/// Returns an RCS, NFD or DLV, with its moment.
 fn handled(event: Handling, name: Name, at: Moment) -> SentStatus
     ensures { result ≡ sent.Handled event (when_at at) name }
 {
@@ -27,7 +27,7 @@ fn handled(event: Handling, name: Name, at: Moment) -> SentStatus
     }
 }
 
-/// MAN or DEP, written with the flight's date.
+/// Returns a MAN or DEP, with the flight's date.
 fn carried(event: SentCarriage, flight: &FlightDate, unload: Airport) -> SentStatus
     ensures { result ≡ sent.Carried event flight.now.flight (date_on flight.now.day) unload }
 {
@@ -39,7 +39,7 @@ fn carried(event: SentCarriage, flight: &FlightDate, unload: Airport) -> SentSta
     }
 }
 
-/// What happened, as a status message says it: a flight that leaves by its date, all else by its
+/// Returns an event as a sent status: with the flight's date if a flight leaves, otherwise with the
 /// moment.
 fn status_of(event: &Event) -> SentStatus
     ensures { result ≡ status_of_event event.now }
@@ -68,7 +68,6 @@ fn status_of(event: &Event) -> SentStatus
     }
 }
 
-/// A waybill on a manifest.
 pub(crate) fn load_of(line: &ManifestLine) -> Load
     ensures { result ≡ sent_load line.now }
 {
@@ -83,7 +82,6 @@ pub(crate) fn load_of(line: &ManifestLine) -> Load
     }
 }
 
-/// The waybills on a manifest.
 fn loads_of(alloc: Global, lines: &[ManifestLine]) -> Result<Vec<Load>, AllocError>
     ensures { IfOk result (λ loads. loads.items ≡ map sent_load lines.now) }
 {
@@ -94,7 +92,6 @@ fn loads_of(alloc: Global, lines: &[ManifestLine]) -> Result<Vec<Load>, AllocErr
     Ok(loads)
 }
 
-/// The text of a status message.
 fn status_text(alloc: Global, update: &SentUpdate) -> Result<Vec<u8>, AllocError>
     ensures text { IfOk result (λ text. text.items ≡ sent_text (fsu_lines update.now)) }
     ensures normal { normal_lines (sent_text (fsu_lines update.now)) ≡ Ok (fsu_lines update.now) }
@@ -105,7 +102,6 @@ fn status_text(alloc: Global, update: &SentUpdate) -> Result<Vec<u8>, AllocError
     Ok(text)
 }
 
-/// The text of a manifest.
 fn manifest_text(
     alloc: Global,
     here: Airport,
@@ -129,17 +125,14 @@ fn manifest_text(
     Ok(text)
 }
 
-/// The text of a notice, an FSU with one status line or an FFM of one part; each line ends with a
-/// carriage return and a newline. A quantity has the code T where its pieces equal the declared
-/// total, else P. MAN, DEP and the manifest have the flight's date without its year; every other
-/// status gives the moment. The lines are normal, and are read as the values that were written.
-///
-/// # Errors
-/// Want of memory.
+/// Returns the text of a notice, an FSU with one status line or an FFM with one part. Each line
+/// ends with CR LF. A quantity has code T if its pieces equal the declared total, otherwise P. MAN,
+/// DEP and the manifest have the flight's date without its year; every other status has the moment.
+/// The lines are normal, and are read back as the values written.
 pub fn notice_text(alloc: Global, notice: &Notice) -> Result<Vec<u8>, AllocError>
     ensures text { IfOk result (λ text. text.items ≡ notice_text notice.now) }
 
-    // The lines that are sent are normal, and are read as what was written.
+    // The sent lines are normal, and are read back as the values written.
     ensures normal { normal_lines (notice_text notice.now) ≡ Ok (notice_lines notice.now) }
     ensures read_again { IsReadAgain notice.now }
 {

@@ -11,7 +11,6 @@ use crate::telegram::{NormalText, Telegram, TelegramFault};
 use imp_fields::{Lines, Token, normal_text};
 use std::alloc::{AllocError, Global};
 
-/// Appends a newline and a line.
 fn put_next(text: &mut Vec<u8>, line: &[u8]) -> Result<(), AllocError>
     ensures { OnOk result (text.new.items ≡ text.old.items ++ (10 ∷ line.now)) }
 {
@@ -19,7 +18,6 @@ fn put_next(text: &mut Vec<u8>, line: &[u8]) -> Result<(), AllocError>
     text.extend_from_slice(line)
 }
 
-/// Lines, joined by newlines.
 fn joined(alloc: Global, lines: &[Token<'_>]) -> Result<Vec<u8>, AllocError>
     ensures { IfOk result (λ text. text.items ≡ normal_text (map (λ t. t.text.now) lines.now)) }
 {
@@ -34,7 +32,6 @@ fn joined(alloc: Global, lines: &[Token<'_>]) -> Result<Vec<u8>, AllocError>
     Ok(text)
 }
 
-/// The normal text of a telegram.
 fn text_of(alloc: Global, lines: &Lines<'_>) -> Result<NormalText, AllocError>
     ensures { IfOk result (λ text. text ≡ normal_text (line_texts lines.now)) }
 {
@@ -42,16 +39,18 @@ fn text_of(alloc: Global, lines: &Lines<'_>) -> Result<NormalText, AllocError>
     Ok(NormalText::new(text))
 }
 
-/// The telegram that bytes are: its normal text, which is a text of its own, and what that text
-/// says, which borrows the bytes. The normal text is the telegram's lines from its message line on,
-/// without blanks at their ends and without empty ones at the end of the text, joined by newlines:
-/// two telegrams with the same text are one message.
+/// Reads a telegram: its normal text, which is copied, and its content, which borrows the bytes.
+/// The normal text is the telegram's lines from its message line on, without trailing spaces and
+/// without empty lines at the end, joined by newlines. Two telegrams with the same text are the
+/// same message.
 ///
-/// # Errors `Refused` with 302 where none of the first eleven lines begins an FWB, an FFM or an
-/// FSU; with 301 for every other fault, with the line and what is wrong there, the first from the
-/// top: of the whole text (line 0), then of the bytes and the lengths of its lines (counted from
-/// the telegram's first), then of the message (counted from its first line). `Memory` says nothing
-/// of the bytes.
+/// # Errors
+///
+/// - `Refused` with 302: none of the first eleven lines begins an FWB, an FFM or an FSU.
+/// - `Refused` with 301: any other fault, with its line and reason, the first from the top. First
+///   comes the whole text (line 0), then the bytes and the lengths of its lines (counted from the
+///   telegram's first line), then the message (counted from the message line).
+/// - `Memory`: memory ran out, which says nothing about the bytes.
 pub fn read_telegram<'a>(alloc: Global, bytes: &'a [u8]) -> Result<Telegram<'a>, TelegramFault>
     ensures read { IfOk result (IsTelegram bytes.now) }
     ensures refused { IfErr result (RefusesText bytes.now) }

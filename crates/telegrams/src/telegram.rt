@@ -45,7 +45,7 @@ impl NormalText {
     }
 }
 
-/// The lines of a flight manifest that was read, 1,000 at most.
+/// The lines of a flight manifest that was read, at most 1,000.
 #[derive(Drop)]
 pub struct PartLines {
     lines: Vec<InboundLine>,
@@ -71,7 +71,7 @@ impl PartLines {
         PartLines { lines }
     }
 
-    /// The lines, in their order.
+    /// The lines, in order.
     pub fn as_slice(&self) -> &[InboundLine]
         ensures value { result.now ≡ self.now }
         ensures in_range { length result.now ≤ most_lines }
@@ -86,12 +86,12 @@ pub struct PartContent {
     pub sequence: PartNumber,
     pub flight: Flight,
     pub date: DayMonth,
-    /// Where the flight was loaded.
+    /// The airport of loading.
     pub loaded: Airport,
     pub lines: PartLines,
 }
 
-/// The lines below the consignment line of a status message that was read: 1,000 at most, each of
+/// The lines after the consignment line of a status message that was read: at most 1,000, each of
 /// at most 255 bytes of printable ASCII. They borrow the telegram's bytes.
 #[derive(Drop)]
 pub struct StatusLines<'a> {
@@ -121,7 +121,7 @@ impl<'a> StatusLines<'a> {
         StatusLines { texts: lines }
     }
 
-    /// The lines, in their order.
+    /// The lines, in order.
     pub fn as_slice(&self) -> &[TrailLine<'a>]
         ensures value { result.now ≡ self.now }
         ensures in_range { length result.now ≤ most_lines }
@@ -138,10 +138,10 @@ pub struct StatusContent<'a> {
     pub lines: StatusLines<'a>,
 }
 
-/// What a telegram says.
+/// The content of a telegram.
 #[derive(Drop)]
 pub enum Content<'a> {
-    /// FWB, the data of a waybill.
+    /// FWB, waybill data.
     Fwb(CargoLine),
     /// FFM, a part of a flight's manifest.
     Ffm(PartContent),
@@ -149,8 +149,7 @@ pub enum Content<'a> {
     Fsu(StatusContent<'a>),
 }
 
-/// A telegram that was read: its normal text, and what that text says. The text is its own; the
-/// content borrows the bytes that were read.
+/// A telegram that was read. Its normal text is a copy; its content borrows the bytes.
 #[derive(Drop)]
 pub struct Telegram<'a> {
     text: NormalText,
@@ -184,7 +183,7 @@ impl<'a> Telegram<'a> {
         &self.text
     }
 
-    /// What the text says.
+    /// The content of the text.
     pub fn content(&self) -> &Content<'a>
         ensures value { result.now ≡ self.now.content }
         ensures meant { IsMeant self.now }
@@ -193,12 +192,11 @@ impl<'a> Telegram<'a> {
     }
 }
 
-/// Why a telegram was not read.
+/// The reason why a telegram can't be read.
 #[derive(Clone, Copy, Debug, PartialEq, Eq)]
 pub enum TelegramFault {
-    /// 302 where the text is of no known kind of message; else 301, with the line and what is wrong
-    /// there.
+    /// 302 if the kind of message is unknown; otherwise 301, with the line and the reason.
     Refused(Refusal),
-    /// Out of memory: this says nothing of the bytes.
+    /// Memory ran out, which says nothing about the bytes.
     Memory,
 }

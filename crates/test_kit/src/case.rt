@@ -1,7 +1,7 @@
-//! A line of cases.
+//! A line in a file of cases.
 use std::alloc::Global;
 
-/// A case: what is asked of a text, and what must come.
+/// A case: a call, its text, and the expected result.
 #[derive(Drop)]
 pub struct Case<'a> {
     pub asked: &'a str,
@@ -9,13 +9,12 @@ pub struct Case<'a> {
     pub wanted: Vec<u8>,
 }
 
-/// The byte that two digits to the base 16 write.
 fn byte(high: u8, low: u8) -> Option<u8> {
     let digits = [high, low];
     u8::from_str_radix(std::str::from_utf8(&digits).ok()?, 16).ok()
 }
 
-/// Appends what stands behind a backslash: `n`, `r`, `t` or `x` with two digits, and then text.
+/// Appends the text after a backslash: `n`, `r`, `t` or `x` with two digits, and then text.
 fn push_escaped(bytes: &mut Vec<u8>, escaped: &[u8]) -> Option<()> {
     let (first, rest) = match escaped {
         [b'n', rest @ ..] => (b'\n', rest),
@@ -28,7 +27,7 @@ fn push_escaped(bytes: &mut Vec<u8>, escaped: &[u8]) -> Option<()> {
     bytes.extend_from_slice(rest).ok()
 }
 
-/// The bytes of a text with escapes.
+/// Returns the bytes of a text with escapes.
 fn unescaped(alloc: Global, text: &str) -> Option<Vec<u8>> {
     let mut bytes = Vec::new(alloc);
     let mut parts = text.split('\\');
@@ -41,7 +40,7 @@ fn unescaped(alloc: Global, text: &str) -> Option<Vec<u8>> {
     Some(bytes)
 }
 
-/// How often the next piece stands: `12*` says twelve times, and nothing says once.
+/// Reads the number of repetitions of the next piece: `12*` is twelve, and an empty text is one.
 fn times(word: &str) -> Option<u32> {
     if word.is_empty() {
         return Some(1);
@@ -49,7 +48,7 @@ fn times(word: &str) -> Option<u32> {
     word.strip_suffix('*')?.parse::<u32>().ok()
 }
 
-/// The bytes of a text that is made of pieces in single quotes, as `'FWB/16' 3*'\n'`.
+/// Returns the bytes of a text made of pieces in single quotes, such as `'FWB/16' 3*'\n'`.
 fn joined(alloc: Global, source: &str) -> Option<Vec<u8>> {
     let mut bytes = Vec::new(alloc);
     let mut count = 1;
@@ -68,7 +67,7 @@ fn joined(alloc: Global, source: &str) -> Option<Vec<u8>> {
     if is_quoted { Some(bytes) } else { None }
 }
 
-/// The case on a line.
+/// Reads the case on a line.
 pub fn read_case<'a>(alloc: Global, line: &'a str) -> Option<Case<'a>> {
     let (given, wanted) = line.split_once(" = ")?;
     let (asked, source) = given.split_once(' ')?;

@@ -3,7 +3,7 @@ use std::alloc::Global;
 use std::io;
 use std::io::{Read, Write};
 
-/// An input that gives its bytes, and then ends or fails.
+/// An input that returns its bytes, and then ends or fails.
 #[derive(Drop)]
 pub struct Torn<'a> {
     bytes: &'a [u8],
@@ -11,7 +11,7 @@ pub struct Torn<'a> {
 }
 
 impl<'a> Torn<'a> {
-    /// All of the bytes, and the end.
+    /// Returns an input with the bytes, which then ends.
     pub fn whole(bytes: &'a [u8]) -> Torn<'a> {
         Torn {
             bytes,
@@ -19,7 +19,7 @@ impl<'a> Torn<'a> {
         }
     }
 
-    /// The bytes, and then a failure.
+    /// Returns an input with the bytes, which then fails.
     pub fn torn(bytes: &'a [u8]) -> Torn<'a> {
         Torn {
             bytes,
@@ -37,7 +37,7 @@ impl Read for Torn<'_> {
     }
 }
 
-/// An output that takes so many bytes, and then fails.
+/// An output that takes a limited number of bytes, and then fails.
 #[derive(Drop)]
 pub struct Narrow {
     taken: Vec<u8>,
@@ -45,7 +45,7 @@ pub struct Narrow {
 }
 
 impl Narrow {
-    /// Room for so many bytes.
+    /// Returns an output with room for this many bytes.
     pub fn new(alloc: Global, room: usize) -> Narrow {
         Narrow {
             taken: Vec::new(alloc),
@@ -53,7 +53,7 @@ impl Narrow {
         }
     }
 
-    /// What was taken.
+    /// Returns the bytes taken.
     pub fn into_taken(self) -> Vec<u8> {
         let Narrow { taken, room: _ } = self;
         taken

@@ -1,16 +1,17 @@
-//! Going through a file of cases.
+//! Running files of cases.
 use crate::case::read_case;
 use std::alloc::Global;
 use std::io::Print;
 use std::{fs, io};
 
-/// What answers cases, one after another.
+/// The answers to cases, one after another.
 pub trait Answers {
-    /// What comes of what is asked of a text, where that is known and there is memory.
+    /// Runs one case and returns its result as text; `None` if memory runs out or the case is
+    /// unknown.
     fn answer(&mut self, asked: &str, text: &[u8]) -> Option<String>;
 }
 
-/// What is wrong with a line of cases, if anything is.
+/// Returns the failure of a line, if it has one.
 fn fault_of<A: Answers>(
     alloc: Global,
     answers: &mut A,
@@ -28,8 +29,8 @@ fn fault_of<A: Answers>(
     Ok(Some(format!(in alloc; "came {came:?}")?))
 }
 
-/// Goes through the cases of a file, and prints each that came out otherwise, with its line, or
-/// else how many there were. Whether all came out as they must.
+/// Runs the cases of a file, and prints each failed one with its line, or else their number.
+/// Returns whether all passed.
 pub fn go_through<R: AllocGlobal + Print, A: Answers>(
     rt: &R,
     file: &str,
@@ -55,12 +56,8 @@ pub fn go_through<R: AllocGlobal + Print, A: Answers>(
     Ok(faults == 0)
 }
 
-/// Goes through `FOLDER/FILE.cases`, as `go_through` does. A file that can't be read is printed,
-/// and came out otherwise.
-///
-/// # Errors
-///
-/// Where nothing can be printed, or memory is out.
+/// Runs `FOLDER/FILE.cases`, like `go_through`. A file that can't be read is printed, and fails. It
+/// fails if printing fails or memory runs out.
 pub fn go_through_file<A: Answers>(
     rt: &HostRuntime,
     folder: &str,
@@ -77,11 +74,8 @@ pub fn go_through_file<A: Answers>(
     }
 }
 
-/// Prints whether something that needs memory came out as it must, and returns that.
-///
-/// # Errors
-///
-/// Where nothing can be printed.
+/// Prints whether running out of memory had the expected outcome, and returns that. It fails if
+/// printing fails.
 pub fn print_told(rt: &HostRuntime, what: &str, is_told: bool) -> Result<bool, io::Error> {
     let word = if is_told { "told" } else { "not told" };
     println!(rt; "memory: {what}: {word}")?;

@@ -1,12 +1,12 @@
-//! What any keeper of a station's state can be asked.
+//! Jobs for any keeper of a station's state.
 use station_core::Keeper;
 
-/// What any keeper can be asked. A library hands a station over tables on in one function, which
-/// takes a job: each further function that does costs the check as much as twenty others.
+/// A job for any keeper. Only one function of a library hands out a station over tables, to a job:
+/// each further one costs the check as much as twenty others.
 pub trait Job {
-    /// What comes of it.
+    /// The result.
     type Out;
 
-    /// Asks a keeper.
+    /// Runs on a keeper.
     fn run<K: Keeper>(self, keeper: &mut K) -> Self::Out;
 }

@@ -1,7 +1,6 @@
-//! What the test libraries share: files of cases, in which a line says what is asked, of which
-//! text, and what is expected, as `airport 'FRA' = FRA`; and what cases ask with and are answered
-//! in, such as commands as inputs, inputs and outputs that fail, and texts of a station's replies
-//! and rows.
+//! Shared parts of the test libraries: files of cases, in which a line has a call, its text, and
+//! the expected result, such as `airport 'FRA' = FRA`; and the parts of calls and answers, such as
+//! commands as inputs, inputs and outputs that fail, and texts of a station's replies and rows.
 #![tactic(auto)]
 
 mod case;

@@ -1,4 +1,4 @@
-//! What answers are made of.
+//! Parts of answers.
 use agent_stock::{Holder, StockRun};
 use desk_commands::day_text;
 use shipment_machine::Amount;
@@ -7,22 +7,22 @@ use station_days::LocalDay;
 use std::alloc::Global;
 use std::str::SplitWhitespace;
 
-/// A text as an answer.
+/// Returns a text as an answer.
 pub fn say(alloc: Global, text: &str) -> Option<String> {
     String::from_str(alloc, text).ok()
 }
 
-/// Bytes as a text, where they are one.
+/// Returns bytes as a text, if they are one.
 pub fn shown(bytes: &[u8]) -> &str {
     std::str::from_utf8(bytes).unwrap_or("?")
 }
 
-/// The whole number that the next word is.
+/// Reads the next word as a whole number.
 pub fn next_whole(words: &mut SplitWhitespace<'_>) -> Option<i64> {
     words.next()?.parse::<i64>().ok()
 }
 
-/// How many there are, and whether the call gave them.
+/// Returns the count, or `fault` if the call failed.
 pub fn count_said(alloc: Global, is_given: bool, count: usize) -> Option<String> {
     if is_given {
         format!(in alloc; "{count}").ok()
@@ -31,7 +31,7 @@ pub fn count_said(alloc: Global, is_given: bool, count: usize) -> Option<String>
     }
 }
 
-/// A holder of a number.
+/// Returns the holder of a number.
 pub fn holder_said(alloc: Global, holder: &Holder) -> Option<String> {
     match holder {
         Holder::Desk => say(alloc, "the desk"),
@@ -41,7 +41,7 @@ pub fn holder_said(alloc: Global, holder: &Holder) -> Option<String> {
     }
 }
 
-/// How many runs there are, and each: its first number, its count and its holder.
+/// Returns the number of runs, and for each its first number, its count and its holder.
 pub fn runs_said(alloc: Global, runs: &[StockRun]) -> Option<String> {
     let mut said = format!(in alloc; "{}", runs.len()).ok()?;
     for run in runs {
@@ -52,12 +52,11 @@ pub fn runs_said(alloc: Global, runs: &[StockRun]) -> Option<String> {
     Some(said)
 }
 
-/// Pieces and tenths.
 fn amount_said(alloc: Global, amount: &Amount) -> Option<String> {
     format!(in alloc; "{} at {}", amount.pieces, amount.tenths).ok()
 }
 
-/// The day of a declaration, as `2026-01-12`, or that there is none.
+/// Returns the day of a declaration, such as `2026-01-12`, or `none`.
 fn since_said(alloc: Global, since: Option<LocalDay>) -> Option<String> {
     match since {
         Some(day) => say(alloc, shown(&day_text(day))),
@@ -65,7 +64,8 @@ fn since_said(alloc: Global, since: Option<LocalDay>) -> Option<String> {
     }
 }
 
-/// What came of a waybill: what was taken over and found, where that is, and when it was declared.
+/// Returns a waybill: the received and found amounts, the amount at each place, and the day of its
+/// declaration.
 fn waybill_said(alloc: Global, waybill: &Waybill) -> Option<String> {
     let taken = amount_said(alloc, &waybill.taken)?;
     let found = amount_said(alloc, &waybill.found)?;
@@ -80,7 +80,7 @@ fn waybill_said(alloc: Global, waybill: &Waybill) -> Option<String> {
     ).ok()
 }
 
-/// What is known of a waybill.
+/// Returns the record of a waybill.
 pub fn known_said(alloc: Global, waybill: &Option<Waybill>) -> Option<String> {
     match waybill {
         Some(waybill) => waybill_said(alloc, waybill),

@@ -2,7 +2,7 @@
 use station_core::Sink;
 use std::alloc::Global;
 
-/// A sink that keeps its rows, and takes so many at most.
+/// A sink that collects its rows, up to a limit.
 #[derive(Drop)]
 pub struct Taken<Row> {
     pub rows: Vec<Row>,
@@ -10,7 +10,7 @@ pub struct Taken<Row> {
 }
 
 impl<Row> Taken<Row> {
-    /// No row yet, and room for so many.
+    /// Returns an empty sink with room for this many rows.
     pub fn new(alloc: Global, most: usize) -> Taken<Row> {
         Taken {
             rows: Vec::new(alloc),

@@ -7,12 +7,12 @@ use station_core::{Answer, Input, Keeper, answer_one, refusal_text, reply_text};
 use station_days::Moment;
 use std::alloc::Global;
 
-/// Noon of 12 January 2026.
+/// Returns noon of 12 January 2026.
 pub fn noon() -> Option<Moment> {
     Moment::new(20465, 720)
 }
 
-/// The answer to an input.
+/// Returns the answer to an input.
 pub fn answer_said(alloc: Global, answer: &Answer) -> Option<String> {
     match answer {
         Answer::Done(reply) => reply_text(alloc, reply).ok(),
@@ -20,7 +20,7 @@ pub fn answer_said(alloc: Global, answer: &Answer) -> Option<String> {
     }
 }
 
-/// Answers, each after a bar.
+/// Returns answers, each after a bar.
 pub fn answers_said(alloc: Global, answers: &[Answer]) -> Option<String> {
     let mut said = String::new(alloc);
     for answer in answers {
@@ -31,17 +31,17 @@ pub fn answers_said(alloc: Global, answers: &[Answer]) -> Option<String> {
     say(alloc, said.as_str().trim_end())
 }
 
-/// The answer to an input at noon of 12 January 2026.
+/// Returns the answer to an input at noon of 12 January 2026.
 pub fn answered(alloc: Global, keeper: &mut impl Keeper, input: &Input<'_>) -> Option<String> {
     answer_said(alloc, &answer_one(keeper, input, noon()?).ok()?)
 }
 
-/// The number that a text begins with.
+/// Reads the number at the start of a text.
 pub fn number(text: &[u8]) -> Option<Awb> {
     Awb::read(text.first_chunk()?).ok()
 }
 
-/// Who holds the number that a text begins with.
+/// Returns the holder of the number at the start of a text.
 pub fn holder(alloc: Global, keeper: &mut impl Keeper, text: &[u8]) -> Option<String> {
     match keeper.holder(&number(text)?).ok()? {
         Some(holder) => holder_said(alloc, &holder),
@@ -49,12 +49,12 @@ pub fn holder(alloc: Global, keeper: &mut impl Keeper, text: &[u8]) -> Option<St
     }
 }
 
-/// What is known of the waybill whose number a text begins with.
+/// Returns the record of the waybill whose number is at the start of a text.
 pub fn waybill(alloc: Global, keeper: &mut impl Keeper, text: &[u8]) -> Option<String> {
     known_said(alloc, &keeper.waybill(&number(text)?).ok()?)
 }
 
-/// The runs of the stock that a sink of so many rows is handed.
+/// Returns the runs of the stock that a sink of this size takes.
 pub fn stock(alloc: Global, keeper: &mut impl Keeper, most: &str) -> Option<String> {
     let mut taken: Taken<StockRun> = Taken::new(alloc, most.parse::<usize>().ok()?);
     keeper.stock(&mut taken).ok()?;

@@ -3,8 +3,8 @@ use std::cell::Cell;
 use std::io;
 use std::time::{Clock, Duration};
 
-/// A clock that shows one date and time. Its other count goes on by so many seconds each time that
-/// it is read.
+/// A clock that shows one date and time. Its other count advances by `step` seconds at each
+/// reading.
 #[derive(Drop)]
 pub struct Stepped {
     /// Seconds since 1970-01-01.

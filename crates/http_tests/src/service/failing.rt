@@ -8,8 +8,8 @@ use station_core::{
 };
 use station_days::Moment;
 
-/// A station in memory that answers so many inputs. At the next one it answers as where a store
-/// fails, and from then on it has to be opened again.
+/// A station in memory that answers a number of inputs. At the next one it acts like a failed
+/// store, and from then on it must be opened again.
 #[derive(Drop)]
 pub struct Failing {
     station: PlainStation,
@@ -18,7 +18,7 @@ pub struct Failing {
 }
 
 impl Failing {
-    /// So many inputs of a station.
+    /// Wraps a station that answers this many inputs.
     pub fn new(station: PlainStation, inputs: u32) -> Failing {
         Failing {
             station,
