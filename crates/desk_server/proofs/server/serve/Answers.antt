@@ -18,8 +18,9 @@ pub loop-preserved : goal.loop-preserved
 loop-preserved g c =
     let k = (keeping g.K.Keeper.keeps g.K.Keeper.is_clean g.K.Keeper.is_sound g.K.Keeper.is_broken g.K.Keeper.may_find g.K.Keeper.may_fail) in
     let most = c.most_of-most.result in
-    let done = c.in-Ok.ensures.answered in
-    (omega (arith, c.loop.invariant.0),
-        wider k ((most - c.loop.left) + c.in-Ok.answered) (most - (c.loop.left - c.in-Ok.answered)) ⊤ ⊤ c.args.keeper.now c.serve_places.new.keeper
-        (omega (arith, c.loop.invariant.0, done.0)) (λ good. good)
-        (then_more k (most - c.loop.left) c.in-Ok.answered ⊤ c.args.keeper.now c.loop.keeper c.serve_places.new.keeper c.loop.invariant.1 done.1))
+    let done = c.in-Ok.ensures.answered in (
+      omega (arith, c.loop.invariant.0),
+      wider k ((most - c.loop.left) + c.in-Ok.answered) (most - (c.loop.left - c.in-Ok.answered)) ⊤ ⊤ c.args.keeper.now c.serve_places.new.keeper
+          (omega (arith, c.loop.invariant.0, done.0)) (λ good. good)
+          (then_more k (most - c.loop.left) c.in-Ok.answered ⊤ c.args.keeper.now c.loop.keeper c.serve_places.new.keeper c.loop.invariant.1 done.1),
+    )
