@@ -3,7 +3,7 @@ import { REPORTS, rowsOf } from "./desk.js";
 import { makeList } from "./list.js";
 import { bar, card, codeField, counted, el, empty, fill, flightLink, flightOrder, flightPath, groupBy,
   grouped, isLate, kilograms, pieces, sum, today, tonnes, waybillLink } from "./parts.js";
-import { comingBars, comingFlights, freeByPlace, isArrival } from "./today.js";
+import { arrivals, comingBars, comingFlights, freeByPlace } from "./today.js";
 import { FIELDS } from "./words.js";
 
 const dayOf = ({ flight }) => flight.slice(-10);
@@ -73,7 +73,7 @@ export function make({ query }) {
         [REPORTS.flights, REPORTS.expected, REPORTS.shed, REPORTS.moves].map(rowsOf);
       load.show(withFree(flights, shed));
       due.show(expected);
-      const coming = comingFlights(expected, moves.filter(isArrival));
+      const coming = comingFlights(expected, arrivals(moves, expected));
       fill(come.body, coming, () => comingBars(coming, "No flight brings anything."));
       const gone =
         [...groupBy(moves.filter(({ to, date }) => to === "DEPARTED" && date === today()), ({ flight }) => flight)];

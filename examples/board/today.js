@@ -54,7 +54,8 @@ function dayNow() {
     ["shed", "flights", "expected", "irregularities", "outbox", "stock", "moves"].map((name) => rowsOf(REPORTS[name]));
   const now = moves.filter(({ date }) => date === today());
   return {
-    shed, flights, expected, irregular, outbox, stock, moves, coming: comingFlights(expected, now.filter(isArrival)),
+    shed, flights, expected, irregular, outbox, stock, moves,
+    coming: comingFlights(expected, arrivals(moves, expected)),
     since: now.length && now[0] === moves[0] && now[0].number > 1 ? `since ${now[0].time}` : "",
     hours: hoursOf(now), unnotified: shed.filter(isUnnotified), old: shed.filter(isOld),
     late: lateFlights(flights, expected),
@@ -119,6 +120,12 @@ function loadRow(row, free, most) {
   bar([["built", row.tenths], ["free", free]], most),
   el("span", { class: "what" }, `${counted(row.waybills, "waybill")}, ${pieces(row.pieces)}, ${tonnes(row.tenths)}`,
     el("span", { class: "quiet" }, free ? ` and ${tonnes(free)} free` : " and nothing free")));
+}
+
+// The arrivals of today, and those of flights of which something isn't checked in.
+export function arrivals(moves, expected) {
+  const open = new Set(expected.map(({ flight }) => flight));
+  return moves.filter((move) => isArrival(move) && (move.date === today() || open.has(move.flight)));
 }
 
 // What flights bring: what came by the movement book, and what isn't checked in.
