@@ -20,6 +20,9 @@ function beginOf(moves, stored) {
   return first?.date;
 }
 
+// The day on which the stay of a waybill began, by all its moves.
+export const stayOf = (moves) => (sum(moves, gain) ? beginOf(moves, sum(moves, gain)) : undefined);
+
 function latelyOf(awb) {
   const { seen } = readLast(REPORTS.moves);
   if (lately.seen !== seen) lately = { seen, moves: groupBy(rowsOf(REPORTS.moves), (move) => move.awb) };

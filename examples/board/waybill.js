@@ -1,4 +1,5 @@
 // One waybill: where its pieces are, what happened to it, what is declared, and the commands that can apply now.
+import { ageText, stayOf } from "./ages.js";
 import { REPORTS, readLast, rowsOf, waybillReports } from "./desk.js";
 import { makeForm, specOf } from "./forms.js";
 import { card, dayText, drawn, el, empty, fill, flightLink, groupBy, kilograms, pieces, today,
@@ -40,9 +41,9 @@ export function make({ rest }) {
     show() {
       const now = waybillNow(state);
       state.now = now;
-      fill(head, [now.read, now.known, now.holder, here()], () => headOf(awb, now));
+      fill(head, [now.read, now.known, now.holder, now.since, here()], () => headOf(awb, now));
       fill(where.body, [now.read, now.known, now.places, now.flows],
-        () => (now.known ? placesPicture(now) : empty(unknownText(awb, now))));
+        () => (now.known ? [placesPicture(now), ...builtWords(now)] : empty(unknownText(awb, now))));
       fill(facts.body, [now.known, now.holder], () => factList(awb, now));
       fill(history.body, [now.read, now.moves.length, now.known?.since], () => timeline(now));
       trail.node.hidden = now.trail.length === 0;
@@ -75,6 +76,7 @@ function waybillNow({ awb, reports }) {
     moves,
     places,
     flows,
+    since: stayOf(moves),
     built: Object.entries(built).filter(([, many]) => many > 0),
     trail: rowsOf(reports.trail),
     due: rowsOf(REPORTS.expected).filter((row) => row.awb === awb),
@@ -93,18 +95,23 @@ function unknownText(awb, { holder, read }) {
     : "It isn't declared here: book it, or take its FWB or FFM.";
 }
 
-function headOf(awb, { known, read }) {
+function headOf(awb, { known, read, since }) {
   if (!known) return [el("h1", {}, awb), el("span", { class: "tag" }, read ? "not declared here" : "asking")];
   const way = here() === known.destination ? "import" : here() === known.origin ? "export" : here() ? "transit" : "";
   return [
     el("h1", {}, awb, " ", el("span", { class: "quiet" }, `${known.origin} to ${known.destination}`)),
     ...(way ? [el("span", { class: "tag" }, way)] : []),
     ...(known.notified ? [el("span", { class: "tag good" }, "notified")] : []),
+    ...(since ? [el("span", { class: "tag" }, "here since ", ageText(since))] : []),
     ...(known.missing[0] ? [el("span", { class: "tag bad" }, `${pieces(known.missing[0])} missing`)] : []),
     el("p", { class: "big" }, el("b", {}, String(known.pieces)), " pieces ", el("b", {}, kilograms(known.tenths)),
       " kg ", known.goods)
   ];
 }
+
+// The flights on which pieces are built now.
+const builtWords = ({ built }) => (built.length ? [el("p", { class: "empty" }, "Built: ",
+  ...built.flatMap(([flight, many], place) => [place ? ", " : "", `${pieces(many)} on `, flightLink(flight)]))] : []);
 
 // The picture of the eight places. Each flow that took place has the number of its pieces.
 const BOX = { width: 132, height: 58 };
