@@ -130,8 +130,7 @@ function flightNow(state) {
 function headOf({ flight, date }, now) {
   const way = now.inbound && !now.rows.length ? `to ${here() || "here"}` : now.unload ? `to ${now.unload}` : "";
   const [kind, word] = stateOf(now);
-  const title = el("span", { class: "onpaper" }, `Cargo manifest ${here()} · `);
-  return [el("h1", {}, title, `${flight} `, el("span", { class: "quiet" }, `${dayText(date)} ${way}`)),
+  return [el("h1", {}, `${flight} `, el("span", { class: "quiet" }, `${dayText(date)} ${way}`)),
     el("span", { class: `tag ${kind}` }, word), el("p", { class: "big" }, ...(now.rows.length ? totalOf(now) : []))];
 }
 
@@ -163,7 +162,7 @@ const manifestColumns = (closed, most) => [
   { head: "Route", kind: "wideonly", cell: (row) => routeOf(row.awb) },
   { head: "Goods", cell: (row) => goodsOf(row.awb) },
   { head: "Pieces", amount: true, cell: (row) => row.now.pieces },
-  { head: "of", amount: true, cell: (row) => String(declared.get(row.awb)?.pieces ?? "") },
+  { head: "of", amount: true, kind: "wideonly", cell: (row) => String(declared.get(row.awb)?.pieces ?? "") },
   { head: "kg", amount: true, cell: (row) => kilograms(row.now.tenths) },
   { head: "Weight", kind: "picture noprint", cell: (row) => bar([[closed ? "left" : "built", row.now.tenths]], most) },
   { head: "Loaded", kind: "onpaper", cell: () => "" },
@@ -177,7 +176,8 @@ function manifestTable({ name, pick }, now, forms) {
   const total = [counted(now.rows.length, "waybill"), "", "", grouped(now.pieces), "", kilograms(now.tenths), "", ""];
   const table = plainTable("Manifest", [...columns, ...buttons], now.rows, [...total, ...buttons.map(() => "")],
     now.closed ? undefined : (row) => pick({ awb: row.awb, pieces: String(row.built.pieces) }));
-  const paper = paperHead(`Cargo manifest ${name.replace("/", " of ")}`, now.unload && `to ${now.unload}`);
+  const way = now.unload ? ` to ${now.unload}` : "";
+  const paper = paperHead(`Cargo manifest ${name.replace("/", " of ")}${way}`);
   const colspan = String(columns.length + buttons.length);
   table.tHead.prepend(el("tr", { class: "paper" }, el("th", { colspan }, paper)));
   return el("div", { class: "scroll" }, table);
