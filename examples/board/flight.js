@@ -63,7 +63,8 @@ export function make({ rest }) {
 
   function show() {
     const now = flightNow(state);
-    fill(head, [now.unload, now.rows, now.closed, now.due.length, here()], () => headOf(state, now));
+    fill(head, [now.unload, now.rows, now.closed, now.noted, now.late, now.due.length, here()],
+      () => headOf(state, now));
     on.note.textContent = now.rows.length
       ? `${counted(now.rows.length, "waybill")}, ${pieces(now.pieces)}, ${kilograms(now.tenths)} kg`
       : "";
