@@ -1,4 +1,5 @@
-# Completion for bash: source it, or put it into /usr/share/bash-completion/completions/cargo_desk.
+# Completion for bash, of the program and of the wrapper: source it, or put it into the folder
+# /usr/share/bash-completion/completions as `cargo_desk`, with a link to it as `desk`.
 _cargo_desk_options='--db --at --station --zone --help --version'
 _cargo_desk_commands='init migrate stock take read act acts outbox report history waybill holder serve help'
 _cargo_desk_verbs='take-in issue return void book amend receive withdraw manifest offload reroute depart check-in
@@ -30,4 +31,4 @@ _cargo_desk() {
         serve) COMPREPLY=($(compgen -W '--port --count --help' -- "$cur")) ;;
     esac
 }
-complete -o filenames -F _cargo_desk cargo_desk
+complete -o filenames -F _cargo_desk cargo_desk desk
