@@ -31,7 +31,7 @@ export function today() {
 
 // A day as people write it: 28 Nov 2026.
 export function dayText(day) {
-  const date = new Date(`${day}T00:00:00Z`);
+  const date = new Date(day + "T" + "00:00Z");
   return Number.isNaN(date.getTime()) ? day
     : date.toLocaleDateString("en-GB", { day: "numeric", month: "short", year: "numeric", timeZone: "UTC" });
 }
