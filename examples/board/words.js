@@ -110,11 +110,14 @@ export const REFUSALS = {
   209: ["nothing is on that flight", "the flight", "check the flight and its day; manifest something on it first"],
   210: ["the consignee isn't notified", "the waybill", "notify the consignee first"],
   211: ["not expected on that flight", "the waybill",
-    "take the FFM of the flight first, or check the flight and its day"],
+    "check the flight and its day, and take its FFM first; book pieces that come before their FFM with found, and " +
+    "strike them off when it comes"],
   212: ["already checked in, or struck", "the waybill", "report what differs with found or missing"],
-  213: ["that part of the manifest was already taken", "the part", "nothing; a corrected part can't replace the first"],
+  213: ["that part of the manifest was already taken", "the part", 
+    "have lines that it lacked sent as a further part, with another number; a corrected part can't replace the first"],
   214: ["a line's waybill is already checked in on that flight, or struck", "the waybill",
-    "its pieces are counted; report what differs with found or missing"],
+    "its pieces are counted; report what differs with found or missing. The part is refused whole: have its other " +
+    "lines sent as a part of their own"],
   217: ["past 9,999 pieces or 999,999 tenths: declared, expected, or received and found together", "the waybill",
     "check the weight; of a manifest, take the FWB or book the waybill first; otherwise split the " +
     "shipment over two waybills"],

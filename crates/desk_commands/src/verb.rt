@@ -375,7 +375,7 @@ Fields: awb, flight, date, counted
 Body: {\"awb\":\"020-12345675\",\"flight\":\"LH400\",\"date\":\"2026-01-12\",\"counted\":7}
 Refused: 201 unknown waybill
          211 not expected on that flight
-         212 already checked in
+         212 already checked in, or struck
          217 more than 9,999 pieces or 999,999 tenths";
 
 const STRIKE: &str = "\
