@@ -4,7 +4,6 @@ use cli_call::DeskFault;
 use cli_run::is_opening;
 use cli_words::Line;
 use sqlite::{Alter, Connection, Error, ErrorCode, File, FileStore, Options, Unknown};
-use sqlite_disk::Files;
 use sqlite_wal::PageSize;
 use station_files::{OLD_TREES, OwnTrees, open_beside, open_listed, open_new, station_trees};
 use station_schema::has_station;
@@ -93,18 +92,12 @@ fn is_no_file(path: &str) -> bool {
     path == ":memory:" || path.starts_with("file:")
 }
 
-/// Opens the two files of a path. Returns `None` if the library must report why they can't be
-/// opened.
-///
-/// Returns [`FileFault::Busy`] if another program has them open, and [`FileFault::Memory`] if
-/// memory runs out.
-fn files_of(rt: &HostRuntime, path: &str) -> Result<Option<Files<File>>, FileFault> {
-    match sqlite_std_file::open(rt, path, Unknown) {
-        Ok(files) => Ok(Some(files)),
-        Err(error) => match unopened(&error) {
-            FileFault::Store(_) | FileFault::NoStation => Ok(None),
-            fault => Err(fault),
-        },
+/// Returns the fault of files that another program has, or that memory ran out; `None` if the
+/// library has to say why they can't be opened.
+fn unless_refused<T>(error: &sqlite_std_file::OpenError) -> Result<Option<T>, FileFault> {
+    match unopened(error) {
+        FileFault::Store(_) | FileFault::NoStation => Ok(None),
+        fault => Err(fault),
     }
 }
 
@@ -117,8 +110,9 @@ fn open_in_order(
     path: &str,
 ) -> Result<Option<Connection<FileStore<File>>>, FileFault> {
     let options = options(rt, path)?;
-    let Some(files) = files_of(rt, path)? else {
-        return Ok(None);
+    let files = match sqlite_std_file::open(rt, path, Unknown) {
+        Ok(files) => files,
+        Err(error) => return unless_refused(&error),
     };
     match open_listed(rt.alloc(), files, options, &station_trees()) {
         Ok(mut conn) => {
@@ -139,8 +133,9 @@ fn open_among_others(
     made: usize,
 ) -> Result<Option<Connection<OwnTrees<FileStore<File>>>>, FileFault> {
     let options = options(rt, path)?;
-    let Some(files) = files_of(rt, path)? else {
-        return Ok(None);
+    let files = match sqlite_std_file::open(rt, path, Unknown) {
+        Ok(files) => files,
+        Err(error) => return unless_refused(&error),
     };
     match open_beside(rt.alloc(), files, options, &station_trees(), made) {
         Ok(mut conn) => {

@@ -102,7 +102,8 @@ fn run_whole<D: Disk + Drop, R: Read + Drop>(
         }
         Task::Serve(service) => {
             let (status, conn) = serve_line(rt, line, conn, service);
-            close_file(conn, status, &mut errors).0
+            let (status, _closed) = close_file(conn, status, &mut errors);
+            status
         }
     }
 }
@@ -125,7 +126,8 @@ fn run_beside<D: Disk + Drop, R: Read + Drop>(
         }
         Task::Serve(service) => {
             let (status, conn) = serve_line(rt, line, conn, service);
-            close_file_beside(conn, status, &mut errors).0
+            let (status, _closed) = close_file_beside(conn, status, &mut errors);
+            status
         }
     }
 }
