@@ -10,7 +10,7 @@ use cli_words::Line;
 use map_state::MapState;
 use sqlite::{Connection, FileStore};
 use sqlite_disk::Disk;
-use station_core::{Counted, Keeper};
+use station_core::{ByteOut, Counted, Keeper};
 use station_days::Moment;
 use station_engine::StoredStation;
 use station_files::OwnTrees;
@@ -83,6 +83,34 @@ fn end_file<D: Disk>(rt: &HostRuntime, line: &Line<'_>, ended: &FileEnd<D>) -> u
     ended.status
 }
 
+/// Closes the file of a service that ended with this status.
+fn close_served<D: Disk + Drop, E: ByteOut>(
+    conn: Connection<FileStore<D>>,
+    status: u8,
+    errors: &mut E,
+) -> FileEnd<D> {
+    let (status, files) = close_file(conn, status, errors);
+    FileEnd {
+        status,
+        is_declared: true,
+        files,
+    }
+}
+
+/// Closes the file of a service over the tables and indexes that `init` makes.
+fn close_served_beside<D: Disk + Drop, E: ByteOut>(
+    conn: Connection<OwnTrees<FileStore<D>>>,
+    status: u8,
+    errors: &mut E,
+) -> FileEnd<D> {
+    let (status, files) = close_file_beside(conn, status, errors);
+    FileEnd {
+        status,
+        is_declared: true,
+        files,
+    }
+}
+
 /// Does a command line's task over a connection to a file, and closes the file. Each answer is
 /// written before the next input acts.
 fn run_whole<D: Disk + Drop, R: Read + Drop>(
@@ -102,8 +130,8 @@ fn run_whole<D: Disk + Drop, R: Read + Drop>(
         }
         Task::Serve(service) => {
             let (status, conn) = serve_line(rt, line, conn, service);
-            let (status, _closed) = close_file(conn, status, &mut errors);
-            status
+            let ended = close_served(conn, status, &mut errors);
+            ended.status
         }
     }
 }
@@ -126,8 +154,8 @@ fn run_beside<D: Disk + Drop, R: Read + Drop>(
         }
         Task::Serve(service) => {
             let (status, conn) = serve_line(rt, line, conn, service);
-            let (status, _closed) = close_file_beside(conn, status, &mut errors);
-            status
+            let ended = close_served_beside(conn, status, &mut errors);
+            ended.status
         }
     }
 }
