@@ -222,6 +222,9 @@ impl<'a> Connections<'a> {
                 Err(_) => return Err(ServerFault::Listener),
             }
         }
+        if self.accepted >= most {
+            self.is_called = false;
+        }
         Ok(())
     }
 
