@@ -1,4 +1,4 @@
-//! The connections that the service holds, all of which are read as their bytes come.
+//! The connections that the service holds. All are read as their bytes come.
 
 use crate::held::Held;
 use crate::server::ServerFault;
@@ -20,7 +20,7 @@ const MOST_IDLE: u64 = 1000;
 /// How long a wait lasts at most while others wait for a place, in milliseconds.
 const MOST_PAUSE: u64 = 50;
 
-/// The name of the listening socket among what is waited for. A connection has its place's.
+/// The token of the listening socket. A connection has the number of its place.
 const LISTENER: Token = Token(MOST_HELD);
 
 /// The connections of a listening socket.
@@ -41,10 +41,10 @@ pub(crate) struct Connections<'a> {
 }
 
 impl<'a> Connections<'a> {
-    /// None yet.
+    /// No connections yet.
     ///
-    /// Returns [`ServerFault::Listener`] if the system gives no room to wait for them, and
-    /// [`ServerFault::Memory`] if memory ran out.
+    /// Returns [`ServerFault::Listener`] if the system can't wait for them, and
+    /// [`ServerFault::Memory`] if memory runs out.
     pub(crate) fn new<N: Net>(
         net: &N,
         alloc: Global,
@@ -74,7 +74,7 @@ impl<'a> Connections<'a> {
         })
     }
 
-    /// Whether so many were accepted, and none of them is held any more.
+    /// Returns whether `most` were accepted and none of them is held any more.
     pub(crate) fn is_over(&self, most: usize) -> bool {
         self.accepted >= most && self.places.iter().all(|place| place.is_none())
     }
@@ -84,7 +84,7 @@ impl<'a> Connections<'a> {
         self.now
     }
 
-    /// The connection at a place, if it waits for its answer. One that was answered is read on, and
+    /// Returns the connection at a place if it waits for its answer. An answered one is read on and
     /// closed at its end.
     pub(crate) fn waiting_at(&mut self, place: usize, now: Duration) -> Option<&mut Held> {
         let held = self.places.get_mut(place)?.as_mut()?;
@@ -97,7 +97,7 @@ impl<'a> Connections<'a> {
         None
     }
 
-    /// Reads the connections that were answered to their ends, and closes all others.
+    /// Reads the answered connections to their ends, and closes all others.
     pub(crate) fn drain_all<C: Clock>(&mut self, clock: &C) {
         for place in self.places.iter_mut() {
             if place.as_ref().is_some_and(|held| !held.is_answered()) {
@@ -128,10 +128,10 @@ impl<'a> Connections<'a> {
     }
 
     /// Waits until something comes or the first time is over, and gives up what took too long.
-    /// Accepts connections, up to so many in all. Returns the places at which something came.
+    /// Accepts connections, `most` in all. Returns the places at which something came.
     ///
     /// Returns [`ServerFault::Clock`] if the clock can't be read, [`ServerFault::Listener`] if the
-    /// listening socket failed, and [`ServerFault::Memory`] if memory ran out.
+    /// listening socket fails, and [`ServerFault::Memory`] if memory runs out.
     pub(crate) fn wait<C: Clock>(
         &mut self,
         clock: &C,
@@ -199,8 +199,8 @@ impl<'a> Connections<'a> {
         }
     }
 
-    /// Accepts the connections that wait, up to so many in all, while there are places. One that was
-    /// given up before counts as well.
+    /// Accepts the connections that wait, `most` in all, while there are places. One that was given
+    /// up before counts as well.
     fn accept_all(&mut self, most: usize) -> Result<(), ServerFault> {
         for _ in self.accepted..most {
             if !self.is_called {
@@ -268,7 +268,7 @@ impl<'a> Connections<'a> {
     }
 }
 
-/// Waits for connections of a listening socket, whose accepts don't wait from then on.
+/// Returns a poll for connections of a listening socket, whose accepts no longer wait.
 fn waiting_for<N: Net>(net: &N, listener: &TcpListener) -> io::Result<Poll> {
     listener.set_nonblocking(true)?;
     let poll = Poll::new(net)?;

@@ -1,4 +1,4 @@
-//! A connection that the service holds: its request as far as it came, or its end behind the answer.
+//! A connection that the service holds: its request so far, or its end after the answer.
 
 use std::alloc::Global;
 use std::io;
@@ -19,8 +19,7 @@ const MOST_REQUEST: u64 = 30;
 /// How long the peer may take to close after its answer, in seconds.
 const MOST_CLOSE: u64 = 2;
 
-/// The most bytes that are held of a request. Whether a request is whole is clear by then: a head
-/// has at most 16,384 bytes, and a body at most 65,536.
+/// The most bytes that are held of a request: a head has at most 16,384, and a body at most 65,536.
 const MOST_BYTES: usize = 81_920;
 
 /// The most bytes that are read at once.
@@ -29,7 +28,7 @@ const CHUNK: usize = 4096;
 /// The most reads at a time after the answer.
 const MOST_LEFT: u32 = 64;
 
-/// What a read of all that came found.
+/// The state of a connection after a read.
 #[derive(Clone, Copy, PartialEq, Eq)]
 pub(crate) enum Arrival {
     /// More may come.
@@ -84,7 +83,7 @@ impl Held {
         self.bytes.as_slice()
     }
 
-    /// Whether it has its answer, and is only read to its end.
+    /// Returns whether it was answered, and is only read to its end.
     pub(crate) fn is_answered(&self) -> bool {
         self.is_answered
     }
@@ -124,9 +123,9 @@ impl Held {
         Arrival::Lost
     }
 
-    /// One read. Returns `None` if nothing more is there now.
+    /// Reads once. Returns `None` if nothing more is there now.
     ///
-    /// Returns the system's error if the connection failed, or memory ran out.
+    /// Returns the system's error if the connection fails, or memory runs out.
     fn read_once(&mut self, now: Duration) -> io::Result<Option<Arrival>> {
         let mut room = [0; CHUNK];
         let most = MOST_BYTES.saturating_sub(self.bytes.len()).min(CHUNK);
@@ -150,7 +149,7 @@ impl Held {
     /// Ends the answer. From then on the connection is only read to its end: a close over unread
     /// bytes would take the answer back.
     ///
-    /// Returns the system's error if the connection failed.
+    /// Returns the system's error if the connection fails.
     pub(crate) fn end_answer(&mut self, now: Duration) -> io::Result<()> {
         self.is_answered = true;
         self.begun = now;
@@ -159,7 +158,7 @@ impl Held {
         self.stream.set_nonblocking(true)
     }
 
-    /// Reads past what the peer sends after its answer. Returns whether its end hasn't come yet.
+    /// Discards what the peer sends after its answer. Returns false at its end.
     pub(crate) fn drain(&mut self, now: Duration) -> bool {
         if now >= self.deadline() {
             return false;

@@ -1,4 +1,4 @@
-//! Connections that are read side by side, and answered one after another.
+//! Connections, which are read side by side and answered one after another.
 ghost use Rattle.std.specs.Prelude.{◌≡◌, ◌≤◌, ⊤, false, Ok, Err, IfOk, IsOk, MatchOption, length, List, All};
 ghost use Rattle.station_core.specs.Keeping.{keeping};
 ghost use Rattle.desk_server.specs.Served.{AtMost, End, GoesOn, HasServedOne, HaveServed};
@@ -15,14 +15,14 @@ use std::io;
 use std::net::{Ipv4Addr, Net, SocketAddr, TcpListener};
 use std::time::{Clock, Duration};
 
-/// Why the service ends before its end.
+/// The cause of an early end of the service.
 #[derive(Clone, Copy, Debug, PartialEq, Eq)]
 pub enum ServerFault {
     /// The listening socket failed, or the system can't wait for connections.
     Listener,
     /// The clock can't be read, or shows a day before 2000-01-01 or after 2099-12-31.
     Clock,
-    /// The station has to be opened again.
+    /// The station must be opened again.
     Store,
     /// Memory ran out.
     Memory,
@@ -30,12 +30,12 @@ pub enum ServerFault {
 
 /// Listens on a port of 127.0.0.1. For port 0 the system picks one.
 ///
-/// Returns the system's error where that port can't be had.
+/// Returns the system's error if that port can't be had.
 pub fn listen<N: Net>(net: &N, port: u16) -> io::Result<N::Listener> {
     TcpListener::bind(net, SocketAddr::from((Ipv4Addr::LOCALHOST, port)))
 }
 
-/// The clock and the zone of a service, and where it allocates.
+/// The clock, the zone and the allocator of a service.
 #[derive(Drop)]
 pub struct Setting<'a, C: Clock> {
     pub alloc: Global,
@@ -43,7 +43,7 @@ pub struct Setting<'a, C: Clock> {
     pub zone: &'a Zone,
 }
 
-/// What happens next to a connection from which something came.
+/// The next step of a connection from which something came.
 #[derive(Clone, Copy, PartialEq, Eq)]
 enum Next {
     /// More of its request is waited for.
@@ -54,7 +54,7 @@ enum Next {
     Ends,
 }
 
-/// Answers a connection at a moment, if its request has come whole.
+/// Answers a connection at a moment, if its request is whole.
 fn answer<C: Clock, K: Keeper>(
     setting: &Setting<'_, C>,
     keeper: &mut K,
@@ -76,8 +76,8 @@ fn answer<C: Clock, K: Keeper>(
     )
 }
 
-/// Reads what came of a request, and answers it if it is whole, at the moment that the clock shows
-/// then. A write that fails, or an answer that isn't read in time, ends the connection alone.
+/// Reads what came of a request, and answers it if it is whole, at the moment that the clock then
+/// shows. A write that fails, or an answer that isn't read in time, ends the connection alone.
 fn serve_held<C: Clock, K: Keeper>(
     setting: &Setting<'_, C>,
     keeper: &mut K,
@@ -134,8 +134,8 @@ fn serve_place<C: Clock, K: Keeper>(
     }
 }
 
-/// Serves the connections from which something came, of which so many may still be answered.
-/// Returns how many were.
+/// Serves the connections from which something came, and answers at most `most` of them. Returns
+/// the number of answers.
 fn serve_places<C: Clock, K: Keeper>(
     setting: &Setting<'_, C>,
     keeper: &mut K,
@@ -161,7 +161,7 @@ fn serve_places<C: Clock, K: Keeper>(
     Ok(answered)
 }
 
-/// How many connections are served at most.
+/// The most connections that are served.
 fn most_of(count: Option<u32>) -> usize
     ensures { MatchOption count ⊤ (λ most. result ≡ most) }
 {
@@ -171,12 +171,12 @@ fn most_of(count: Option<u32>) -> usize
     }
 }
 
-/// Serves connections: without a count for good, else so many. All are read as their bytes come,
-/// and each request is answered when it is whole, one at a time, at the moment that the clock shows
-/// then. So a connection that sends slowly, or nothing, holds no other up.
+/// Serves `count` connections, or without a count all that come. All are read as their bytes come,
+/// and each request is answered when it is whole, one at a time, at the moment that the clock then
+/// shows. So a connection that sends slowly, or nothing, holds no other up.
 ///
-/// A connection that was given up counts as one. Returns a [`ServerFault`] where the service can't
-/// go on.
+/// A connection that was given up counts as one. Returns a [`ServerFault`] if the service can't go
+/// on.
 pub fn serve<N: Net, C: Clock, K: Keeper>(
     net: &N,
     setting: &Setting<'_, C>,
