@@ -208,21 +208,21 @@ module _ {D I W E : Type 0} {disk : Ghosts D} (k : Keeping (Station (FileStore D
     (left_of : (c : LineCommand) (here : List ℕ) (at : LocalMinute) (s : State) (old new : Station (FileStore D disk) over_files × Reached I W E) (r : Result Bool RunFault)
     → k.keeps old.0 s → k.is_broken old.0 ≡ false → k.is_sound new.0 → HasDone c here k e at old new r → HasLeft (AsksAt c at) s (k.may_find new.0) r)
     (goes_on : (last : Station (FileStore D disk) over_files) (ran other : Held (FileStore D disk)) (opened : Result (Station (FileStore D disk) over_files) (Held (FileStore D disk) × AttachFault))
-    → k.is_sound last → HasReleased k.keeps k.is_sound k.may_find last ran → conn.HasCleanDisk (state over_files ran) → (state over_files ran).may_leave (state over_files other).now.trees
-    → HasFound over_files k.keeps k.is_sound k.is_broken other opened → GoesOn over_files k.keeps k.is_sound k.is_broken k.may_find last opened) where
+    → k.is_sound last → HasReleased k last ran → conn.HasCleanDisk (state over_files ran) → (state over_files ran).may_leave (state over_files other).now.trees
+    → HasFound over_files k other opened → GoesOn over_files k last opened) where
   -- what the opening of a call found, and what it came to
-  found_as : (c : CallOn k e) (o : Result (Station (FileStore D disk) over_files) (Held (FileStore D disk) × AttachFault)) → opened_by c ≡ o → HasFound over_files k.keeps k.is_sound k.is_broken c.conn o
+  found_as : (c : CallOn k e) (o : Result (Station (FileStore D disk) over_files) (Held (FileStore D disk) × AttachFault)) → opened_by c ≡ o → HasFound over_files k c.conn o
   found_as c o is =
       let has = c.has.called.called c.runs in
-      subst (λ o. HasFound over_files k.keeps k.is_sound k.is_broken c.conn o) is
-      (subst (λ new. HasOpened over_files k.keeps k.is_sound k.is_broken new c.conn (here_of c.line.station) has.opened) c.old has.opens)
+      subst (λ o. HasFound over_files k c.conn o) is
+      (subst (λ new. HasOpened over_files k new c.conn (here_of c.line.station) has.opened) c.old has.opens)
 
   ended_as : (c : CallOn k e) (o : Result (Station (FileStore D disk) over_files) (Held (FileStore D disk) × AttachFault)) → opened_by c ≡ o → HasEndedCall c.line k e c.at o c.from c.has.behind c.has.ran
   ended_as c o is =
       let has = c.has.called.called c.runs in
       subst (λ o. HasEndedCall c.line k e c.at o c.from c.has.behind c.has.ran) is has.ended
 
-  found_by : (c : RunOn k e) → HasFound over_files k.keeps k.is_sound k.is_broken c.call.conn (Ok c.station)
+  found_by : (c : RunOn k e) → HasFound over_files k c.call.conn (Ok c.station)
   found_by c = found_as c.call (Ok c.station) c.found
 
   ran_by : (c : RunOn k e) → HasRunLine c.call.line k e c.call.at c.station c.call.from c.call.has.behind c.call.has.ran
@@ -235,7 +235,7 @@ module _ {D I W E : Type 0} {disk : Ghosts D} (k : Keeping (Station (FileStore D
   last_clean c honest = clean_is _ ((ran_by c).released.clean (closed_by c.call honest).clean)
 
   station_clean : (c : RunOn k e) → was_true c.call.end.files → conn.HasCleanDisk (state over_files (connection_in c.station))
-  station_clean c honest = clean_was _ ((ran_by c).ran.premise.clean (last_clean c honest))
+  station_clean c honest = clean_was _ ((ran_by c).ran.service.premise.clean (last_clean c honest))
 
   -- files that hold this have only what a connection could leave
   abbrev Has : Held (FileStore D disk) → Image → Type 0
@@ -272,7 +272,7 @@ module _ {D I W E : Type 0} {disk : Ghosts D} (k : Keeping (Station (FileStore D
   next : (s : State) (c d : RunOn k e) (vs : List (VainOn k e)) → k.keeps c.station s → k.is_sound c.station → was_true c.call.end.files → AreVain c.call.end.files vs (image_of disk d.call.files) → was_true d.call.end.files → ∥ Next s c d ∥₁
   next s c d vs kept sound honest may honest_d =
       let run = ran_by c in
-      let last_sound = run.ran.premise.still sound (last_clean c honest) in
+      let last_sound = run.ran.service.premise.still sound (last_clean c honest) in
       let found = found_by c in
       let left = left_of c.call.line.command (here_of c.call.line.station) c.call.at s (c.station, c.call.from) (run.last, reached c.call.has.behind.reader c.call.has.behind.output run.ran.between) run.ran.ended kept found.works last_sound run.ran.done in
       let closed = closed_by c.call honest in

@@ -13,7 +13,7 @@ use Rattle.cli_run.specs.Done.{HasDone}
 use Rattle.station_core.specs.Ends.{NoneFailed, OneFailed}
 use Rattle.station_core.specs.Gathered.{begun, BeginsWith}
 use Rattle.station_core.specs.Given.{Given}
-use Rattle.station_core.specs.Keeping.{Keeping, KeepsPremise, KeepsWorking}
+use Rattle.station_core.specs.Keeping.{Keeping, StaysInService}
 use Rattle.cli_run.specs.Ends.{ends, reached, Ends, Reached}
 use Rattle.cli_run.specs.Place.{here_of, is_migration, is_new}
 use Rattle.cli_run.specs.Reasons.{HasGivenReasons}
@@ -27,8 +27,7 @@ pub record HasRunKept {K I W E : Type 0} (line : Line) (k : Keeping K) (e : Ends
     (old new : K × Reached I W E) (status : ℕ) : Type 0 where
   pub between : E
   pub ended : Result Bool RunFault
-  pub premise : KeepsPremise k.is_clean k.is_sound old.0 new.0
-  pub works : KeepsWorking (k.is_broken old.0) (k.is_broken new.0) ended
+  pub service : StaysInService k old.0 new.0 ended
   pub done : HasDone line.command (here_of line.station) k e at old
       (new.0, reached new.1.reader new.1.output between) ended
   pub explained : HasGivenReasons line.command k e at old
@@ -56,8 +55,7 @@ pub record HasRunGathered {K I W E : Type 0} (line : Line) (k : Keeping K) (e : 
   pub between : E
   pub ran : Result Bool RunFault
   pub ended : Result Bool RunFault
-  pub premise : KeepsPremise k.is_clean k.is_sound old.0 new.0
-  pub works : KeepsWorking (k.is_broken old.0) (k.is_broken new.0) ran
+  pub service : StaysInService k old.0 new.0 ran
   pub done : HasDone line.command (here_of line.station) k (by_printed e) at
       (old.0, reached old.1.reader (begun (e.printed old.1.output)) old.1.errors)
       (new.0, reached new.1.reader printed between) ran
@@ -72,7 +70,7 @@ pub record HasRunLine {S I W E : Type 0} {g : Ghosts S} (line : Line) (k : Keepi
     (at : LocalMinute) (station : Station S g) (old new : Reached I W E) (result : ℕ × Held S) : Type 0 where
   pub last : Station S g
   pub ran : HasRunKept line k e at (station, old) (last, new) result.0
-  pub released : HasReleased k.keeps k.is_sound k.may_find last result.1
+  pub released : HasReleased k last result.1
 
 -- a call after its opening, by the outcome
 abbrev pub HasEndedCall : {S I W E : Type 0} {g : Ghosts S} → Line → Keeping (Station S g) → Ends I W E
@@ -86,7 +84,7 @@ HasEndedCall line k e at (Err none) old new result = HasNoStation e.told none ol
 pub record HasCalledStation {S I W E : Type 0} {g : Ghosts S} (line : Line) (k : Keeping (Station S g)) (e : Ends I W E)
     (at : LocalMinute) (conn : Held S) (old new : Reached I W E) (result : ℕ × Held S) : Type 0 where
   pub opened : Result (Station S g) (Held S × AttachFault)
-  pub opens : HasOpened g k.keeps k.is_sound k.is_broken (is_new line.db line.command) conn (here_of line.station) opened
+  pub opens : HasOpened g k (is_new line.db line.command) conn (here_of line.station) opened
   pub ended : HasEndedCall line k e at opened old new result
 
 -- A call of a command line over a connection: an upgrade of its file, or a command over its

@@ -1,7 +1,6 @@
 //! A call over a file, from its command to closing the file.
 ghost use Rattle.cli_call.specs.Closed.{HasCalledFile, HasClosed, IsCopiedTwice};
 ghost use Rattle.sqlite.specs.Files.{IsClosed};
-ghost use Rattle.station_core.specs.Keeping.{keeping};
 ghost use Rattle.cli_run.specs.Ends.{ends, reached};
 
 use crate::ended::{DeskFault, end};
@@ -68,13 +67,7 @@ pub fn run_file<D: Disk + Drop, I: Inputs + Read, W: ByteOut, E: ByteOut>(
     at: Moment,
 ) -> FileEnd<D>
     ensures { HasCalledFile (λ ran. HasClosed D.Disk (IsCopiedTwice ran) (IsClosed ran) E.taken)
-        line.now
-        (keeping ⟦<Station<FileStore<D>> as Keeper>⟧.keeps
-        ⟦<Station<FileStore<D>> as Keeper>⟧.is_clean
-        ⟦<Station<FileStore<D>> as Keeper>⟧.is_sound
-        ⟦<Station<FileStore<D>> as Keeper>⟧.is_broken
-        ⟦<Station<FileStore<D>> as Keeper>⟧.may_find
-        ⟦<Station<FileStore<D>> as Keeper>⟧.may_fail)
+        line.now ⟦<Station<FileStore<D>> as Keeper>⟧.keeping
         (ends I.remaining I.given I.turned W.taken E.taken) at conn
         (reached reader.old output.old errors.old, reached reader.new output.new errors.new)
         result }

@@ -2,7 +2,6 @@
 ghost use Rattle.sqlite.specs.Held.{state};
 ghost use Rattle.cli_call.specs.Closed.{HasCalledFile, HasClosed};
 ghost use Rattle.station_files.specs.OwnFiles.{IsClosedOwn, IsCopiedOwn};
-ghost use Rattle.station_core.specs.Keeping.{keeping};
 ghost use Rattle.cli_run.specs.Ends.{ends, reached};
 
 use crate::closing::FileEnd;
@@ -58,12 +57,7 @@ pub fn run_file_beside<D: Disk + Drop, I: Inputs + Read, W: ByteOut, E: ByteOut>
     ensures { HasCalledFile (λ ran. HasClosed D.Disk
         (IsCopiedOwn D.Disk (state ⟦<OwnTrees<FileStore<D>> as Store>⟧ ran))
         (IsClosedOwn (state ⟦<OwnTrees<FileStore<D>> as Store>⟧ ran)) E.taken) line.now
-        (keeping ⟦<Station<OwnTrees<FileStore<D>>> as Keeper>⟧.keeps
-        ⟦<Station<OwnTrees<FileStore<D>>> as Keeper>⟧.is_clean
-        ⟦<Station<OwnTrees<FileStore<D>>> as Keeper>⟧.is_sound
-        ⟦<Station<OwnTrees<FileStore<D>>> as Keeper>⟧.is_broken
-        ⟦<Station<OwnTrees<FileStore<D>>> as Keeper>⟧.may_find
-        ⟦<Station<OwnTrees<FileStore<D>>> as Keeper>⟧.may_fail)
+        ⟦<Station<OwnTrees<FileStore<D>>> as Keeper>⟧.keeping
         (ends I.remaining I.given I.turned W.taken E.taken) at conn
         (reached reader.old output.old errors.old, reached reader.new output.new errors.new)
         result }

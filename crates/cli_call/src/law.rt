@@ -1,6 +1,5 @@
 //! Laws about the calls of the program over one file.
 ghost use Rattle.std.specs.Prelude.{List};
-ghost use Rattle.station_core.specs.Keeping.{keeping};
 ghost use Rattle.station_core.specs.Step.{State, IsLawfulState};
 ghost use Rattle.cli_run.specs.Ends.{ends};
 ghost use Rattle.cli_call.specs.OneFile.{AreCallsOn, HaveLed, RunOn, VainOn};
@@ -18,29 +17,15 @@ use std::io::Read;
 /// input that was answered and, for each call whose store failed, perhaps one more. There the
 /// pieces and the tenths are conserved, and each accepted input acted once.
 pub fn calls_over_file_law<D: Disk + Drop, I: Inputs + Read, W: ByteOut, E: ByteOut>()
-    ensures { (first : State) (run : RunOn (keeping ⟦<Station<FileStore<D>> as Keeper>⟧.keeps
-        ⟦<Station<FileStore<D>> as Keeper>⟧.is_clean
-        ⟦<Station<FileStore<D>> as Keeper>⟧.is_sound
-        ⟦<Station<FileStore<D>> as Keeper>⟧.is_broken
-        ⟦<Station<FileStore<D>> as Keeper>⟧.may_find
-        ⟦<Station<FileStore<D>> as Keeper>⟧.may_fail)
+    ensures { (first : State)
+        (run : RunOn ⟦<Station<FileStore<D>> as Keeper>⟧.keeping
         (ends I.remaining I.given I.turned W.taken E.taken))
-        (runs : List (List (VainOn (keeping ⟦<Station<FileStore<D>> as Keeper>⟧.keeps
-        ⟦<Station<FileStore<D>> as Keeper>⟧.is_clean
-        ⟦<Station<FileStore<D>> as Keeper>⟧.is_sound
-        ⟦<Station<FileStore<D>> as Keeper>⟧.is_broken
-        ⟦<Station<FileStore<D>> as Keeper>⟧.may_find
-        ⟦<Station<FileStore<D>> as Keeper>⟧.may_fail)
+        (runs : List (List (VainOn ⟦<Station<FileStore<D>> as Keeper>⟧.keeping
         (ends I.remaining I.given I.turned W.taken E.taken))
-        × RunOn (keeping ⟦<Station<FileStore<D>> as Keeper>⟧.keeps
-        ⟦<Station<FileStore<D>> as Keeper>⟧.is_clean
-        ⟦<Station<FileStore<D>> as Keeper>⟧.is_sound
-        ⟦<Station<FileStore<D>> as Keeper>⟧.is_broken
-        ⟦<Station<FileStore<D>> as Keeper>⟧.may_find
-        ⟦<Station<FileStore<D>> as Keeper>⟧.may_fail)
+        × RunOn ⟦<Station<FileStore<D>> as Keeper>⟧.keeping
         (ends I.remaining I.given I.turned W.taken E.taken)))
-        → IsLawfulState first → ⟦<Station<FileStore<D>> as Keeper>⟧.keeps run.station first
-        → ⟦<Station<FileStore<D>> as Keeper>⟧.is_sound run.station
+        → IsLawfulState first → ⟦<Station<FileStore<D>> as Keeper>⟧.keeping.keeps run.station first
+        → ⟦<Station<FileStore<D>> as Keeper>⟧.keeping.is_sound run.station
         → AreCallsOn run runs → ∥ HaveLed first run runs ∥₁ }
 {
     left_law::<Station<FileStore<D>>, I, W, E>();

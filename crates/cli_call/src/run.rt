@@ -1,5 +1,4 @@
 //! Running a command line over a connection, or over a keeper without one.
-ghost use Rattle.station_core.specs.Keeping.{keeping};
 ghost use Rattle.cli_run.specs.Ends.{ends, reached};
 ghost use Rattle.station_core.specs.Gathered.{taken_of};
 ghost use Rattle.cli_call.specs.Ran.{HasCalled, HasCalledStation, HasEndedCall, HasFlushed, HasRunGathered, HasRunKept, HasRunLine};
@@ -30,9 +29,7 @@ pub fn run_kept<K: Keeper, I: Inputs + Read, W: ByteOut, E: ByteOut>(
     errors: &mut E,
     at: Moment,
 ) -> u8
-    ensures { HasRunKept line.now
-        (keeping K.keeps K.is_clean K.is_sound K.is_broken K.may_find K.may_fail)
-        (ends I.remaining I.given I.turned W.taken E.taken) at
+    ensures { HasRunKept line.now K.keeping (ends I.remaining I.given I.turned W.taken E.taken) at
         (keeper.old, reached reader.old output.old errors.old)
         (keeper.new, reached reader.new output.new errors.new) result }
 {
@@ -70,10 +67,8 @@ pub fn run_gathered<K: Keeper, I: Inputs + Read, W: ByteOut, E: ByteOut>(
     errors: &mut E,
     at: Moment,
 ) -> (u8, W)
-    ensures { HasRunGathered line.now
-        (keeping K.keeps K.is_clean K.is_sound K.is_broken K.may_find K.may_fail)
-        (ends I.remaining I.given I.turned W.taken E.taken) at
-        (keeper.old, reached reader.old output errors.old)
+    ensures { HasRunGathered line.now K.keeping (ends I.remaining I.given I.turned W.taken E.taken)
+        at (keeper.old, reached reader.old output errors.old)
         (keeper.new, reached reader.new result.1 errors.new) result.0 }
 {
     let mut gathered = Gathered::new(alloc, output);
@@ -93,13 +88,10 @@ fn run_station<S: Alter, I: Inputs + Read, W: ByteOut, E: ByteOut>(
     errors: &mut E,
     at: Moment,
 ) -> (u8, Connection<S>)
-    ensures { HasRunLine line.now
-        (keeping ⟦<Station<S> as Keeper>⟧.keeps ⟦<Station<S> as Keeper>⟧.is_clean
-        ⟦<Station<S> as Keeper>⟧.is_sound ⟦<Station<S> as Keeper>⟧.is_broken
-        ⟦<Station<S> as Keeper>⟧.may_find ⟦<Station<S> as Keeper>⟧.may_fail)
+    ensures { HasRunLine line.now ⟦<Station<S> as Keeper>⟧.keeping
         (ends I.remaining I.given I.turned W.taken E.taken) at station
-        (reached reader.old output.old errors.old)
-        (reached reader.new output.new errors.new) result }
+        (reached reader.old output.old errors.old) (reached reader.new output.new errors.new)
+        result }
 {
     let status = run_kept(alloc, line, &mut station, reader, output, errors, at);
     (status, station.release())
@@ -115,13 +107,10 @@ fn run_opened<S: Alter, I: Inputs + Read, W: ByteOut, E: ByteOut>(
     errors: &mut E,
     at: Moment,
 ) -> (u8, Connection<S>)
-    ensures { HasEndedCall line.now
-        (keeping ⟦<Station<S> as Keeper>⟧.keeps ⟦<Station<S> as Keeper>⟧.is_clean
-        ⟦<Station<S> as Keeper>⟧.is_sound ⟦<Station<S> as Keeper>⟧.is_broken
-        ⟦<Station<S> as Keeper>⟧.may_find ⟦<Station<S> as Keeper>⟧.may_fail)
+    ensures { HasEndedCall line.now ⟦<Station<S> as Keeper>⟧.keeping
         (ends I.remaining I.given I.turned W.taken E.taken) at opened
-        (reached reader.old output.old errors.old)
-        (reached reader.new output.new errors.new) result }
+        (reached reader.old output.old errors.old) (reached reader.new output.new errors.new)
+        result }
 {
     match opened {
         Ok(station) => run_station(alloc, line, station, reader, output, errors, at),
@@ -140,13 +129,10 @@ fn call_station<S: Alter, I: Inputs + Read, W: ByteOut, E: ByteOut>(
     errors: &mut E,
     at: Moment,
 ) -> (u8, Connection<S>)
-    ensures { HasCalledStation line.now
-        (keeping ⟦<Station<S> as Keeper>⟧.keeps ⟦<Station<S> as Keeper>⟧.is_clean
-        ⟦<Station<S> as Keeper>⟧.is_sound ⟦<Station<S> as Keeper>⟧.is_broken
-        ⟦<Station<S> as Keeper>⟧.may_find ⟦<Station<S> as Keeper>⟧.may_fail)
+    ensures { HasCalledStation line.now ⟦<Station<S> as Keeper>⟧.keeping
         (ends I.remaining I.given I.turned W.taken E.taken) at conn
-        (reached reader.old output.old errors.old)
-        (reached reader.new output.new errors.new) result }
+        (reached reader.old output.old errors.old) (reached reader.new output.new errors.new)
+        result }
 {
     let opened = open_station(alloc, line, conn);
     run_opened(alloc, line, opened, reader, output, errors, at)
@@ -167,13 +153,10 @@ pub fn run_line<S: Alter, I: Inputs + Read, W: ByteOut, E: ByteOut>(
     errors: &mut E,
     at: Moment,
 ) -> (u8, Connection<S>)
-    ensures { HasCalled line.now
-        (keeping ⟦<Station<S> as Keeper>⟧.keeps ⟦<Station<S> as Keeper>⟧.is_clean
-        ⟦<Station<S> as Keeper>⟧.is_sound ⟦<Station<S> as Keeper>⟧.is_broken
-        ⟦<Station<S> as Keeper>⟧.may_find ⟦<Station<S> as Keeper>⟧.may_fail)
+    ensures { HasCalled line.now ⟦<Station<S> as Keeper>⟧.keeping
         (ends I.remaining I.given I.turned W.taken E.taken) at conn
-        (reached reader.old output.old errors.old)
-        (reached reader.new output.new errors.new) result }
+        (reached reader.old output.old errors.old) (reached reader.new output.new errors.new)
+        result }
 {
     if is_migration(line) {
         run_migrate(alloc, conn, reader, output, errors)

@@ -2,7 +2,6 @@
 use Rattle.std.specs.Prelude.{Option, List, ℕ}
 use Rattle.station_core.specs.Given.{Given}
 use Rattle.station_core.specs.Keeping.{Keeping}
-use Rattle.station_core.specs.Step.{State}
 use Rattle.stock_list.specs.Ended.{Kept, kept}
 use Rattle.cli_run.specs.InTurn.{Come, come}
 

@@ -1,10 +1,10 @@
 ghost use Rattle.std.specs.Prelude.{◌≡◌, ◌⊎◌, true, false, Ok, Err, IfErr, OnOk};
 ghost use Rattle.station_core.specs.Step.{State};
-ghost use Rattle.stock_list.specs.Ended.{IsShutAfter, IsUntroubled, IsWriteOrUntroubled, WriteHasCause};
+ghost use Rattle.stock_list.specs.Ended.{IsShutAfter, TellsWriting};
 ghost use Rattle.cli_run.specs.Asked.{IsCommandAsked};
 ghost use Rattle.cli_run.specs.Came.{HasFailed, IsWithin, most_come};
 ghost use Rattle.cli_run.specs.Ended.{HasRun};
-ghost use Rattle.station_core.specs.Keeping.{KeepsPremise, KeepsWorking, StaysIfBroken, keeping};
+ghost use Rattle.station_core.specs.Keeping.{IfWorks, StaysIfBroken, StaysInService};
 ghost use Rattle.cli_run.specs.Explained.{HasExplainedRun};
 ghost use Rattle.cli_run.specs.InTurn.{come};
 ghost use Rattle.cli_run.specs.Shut.{HasRunShut};
@@ -42,26 +42,19 @@ pub fn run_act<K: Keeper, I: ByteIn, O: ByteOut, E: ByteOut>(
     errors: &mut E,
     at: Moment,
 ) -> Result<bool, RunFault>
-    ensures premise { KeepsPremise K.is_clean K.is_sound keeper.old keeper.new }
-    ensures works { KeepsWorking (K.is_broken keeper.old) (K.is_broken keeper.new) result }
-    ensures breaks { K.is_broken keeper.old ≡ false
-        → IfErr result (λ e. IsShutAfter e (K.is_broken keeper.new)) }
-    ensures ran { (s : State) → K.keeps keeper.old s → K.is_broken keeper.old ≡ false
-        → K.is_sound keeper.new
-        → HasRun (IsCommandAsked verb key)
-        (keeping K.keeps K.is_clean K.is_sound K.is_broken K.may_find K.may_fail) s at
-        (come keeper.old (O.taken writer.old) errors.old, I.given reader.old)
-        (come keeper.new (O.taken writer.new) errors.new, I.given reader.new) result }
+    ensures service { StaysInService K.keeping keeper.old keeper.new result }
+    ensures breaks { K.keeping.is_broken keeper.old ≡ false → IfErr result
+        (λ e. IsShutAfter e (K.keeping.is_broken keeper.new)) }
+    ensures ran { IfWorks K.keeping keeper.old keeper.new (λ s. HasRun (IsCommandAsked verb key)
+        K.keeping s at (come keeper.old (O.taken writer.old) errors.old, I.given reader.old)
+        (come keeper.new (O.taken writer.new) errors.new, I.given reader.new) result) }
     ensures unread { result ≡ Err RunFault.Read → (keeper.new ≡ keeper.old)
         × (O.taken writer.new ≡ O.taken writer.old) }
     ensures read_cause { result ≡ Err RunFault.Read
         → HasFailed (I.given reader.old) (I.given reader.new) }
     ensures read_told { IfErr result (λ e. (e ≡ RunFault.Read)
         ⊎ ((I.given reader.new).failures ≡ (I.given reader.old).failures)) }
-    ensures write_cause { WriteHasCause result (O.taken writer.old) (O.taken writer.new) }
-    ensures write_told { IfErr result (λ e. IsWriteOrUntroubled e (O.taken writer.old)
-        (O.taken writer.new)) }
-    ensures untroubled { OnOk result (IsUntroubled (O.taken writer.old) (O.taken writer.new)) }
+    ensures writing { TellsWriting (O.taken writer.old) (O.taken writer.new) result }
 
     // After any fault except the writer's, nothing was written.
     ensures unwritten { IfErr result (λ e. (e ≡ RunFault.Write)
@@ -73,16 +66,14 @@ pub fn run_act<K: Keeper, I: ByteIn, O: ByteOut, E: ByteOut>(
     // After its line a bad body gets its reason, or a prefix of it. Nothing else is written to
     // `errors`.
     ensures quiet { result ≡ Ok true → errors.new ≡ errors.old }
-    ensures reasons { HasExplainedRun (IsCommandAsked verb key)
-        (keeping K.keeps K.is_clean K.is_sound K.is_broken K.may_find K.may_fail) at E.taken
+    ensures reasons { HasExplainedRun (IsCommandAsked verb key) K.keeping at E.taken
         (come keeper.old (O.taken writer.old) errors.old, I.given reader.old)
         (come keeper.new (O.taken writer.new) errors.new, I.given reader.new) result }
 
     // A broken station stays as it is, and isn't called.
-    ensures same { StaysIfBroken (K.is_broken keeper.old) keeper.old keeper.new }
-    ensures reopen { K.is_broken keeper.old ≡ true
-        → HasRunShut (IsCommandAsked verb key) (I.given reader.old) (I.given reader.new)
-        (O.taken writer.old) (O.taken writer.new) result }
+    ensures same { StaysIfBroken K.keeping keeper.old keeper.new }
+    ensures reopen { K.keeping.is_broken keeper.old ≡ true → HasRunShut (IsCommandAsked verb key)
+        (I.given reader.old) (I.given reader.new) (O.taken writer.old) (O.taken writer.new) result }
 {
     let bytes = read_input(alloc, reader)?;
     match command_asked(alloc, verb, key, bytes.as_slice()) {

@@ -3,7 +3,7 @@ ghost use Rattle.std.specs.Prelude.{◌≡◌, ◌<◌, false, Err, IfOk, OnOk};
 ghost use Rattle.std.specs.Io.Buffered.{reader_remaining};
 ghost use Rattle.stock_list.specs.Ended.{IsReadersFault};
 ghost use Rattle.cli_run.specs.Acts.{is_blank, HasAnsweredLine};
-ghost use Rattle.station_core.specs.Keeping.{KeepsWorking, KeepsPremise, keeping};
+ghost use Rattle.station_core.specs.Keeping.{StaysInService};
 ghost use Rattle.cli_run.specs.InTurn.{come, HaveBeenAnswered};
 
 use crate::act_line::{line_asked, line_value};
@@ -32,11 +32,9 @@ fn answer_line<K: Keeper, W: ByteOut, E: ByteOut>(
     line: &[u8],
     at: Moment,
 ) -> Result<bool, RunFault>
-    ensures premise { KeepsPremise K.is_clean K.is_sound keeper.old keeper.new }
-    ensures works { KeepsWorking (K.is_broken keeper.old) (K.is_broken keeper.new) result }
-    ensures answered { HasAnsweredLine
-        (keeping K.keeps K.is_clean K.is_sound K.is_broken K.may_find K.may_fail) at E.taken number
-        line.now (come keeper.old (W.taken writer.old) errors.old)
+    ensures service { StaysInService K.keeping keeper.old keeper.new result }
+    ensures answered { HasAnsweredLine K.keeping at E.taken number line.now
+        (come keeper.old (W.taken writer.old) errors.old)
         (come keeper.new (W.taken writer.new) errors.new) result }
 {
     if is_blank(line) {
@@ -80,11 +78,9 @@ fn run_lines<K: Keeper, R: BufRead + Drop, W: ByteOut, E: ByteOut>(
     errors: &mut E,
     at: Moment,
 ) -> Result<bool, RunFault>
-    ensures premise { KeepsPremise K.is_clean K.is_sound keeper.old keeper.new }
-    ensures works { KeepsWorking (K.is_broken keeper.old) (K.is_broken keeper.new) result }
-    ensures answered { HaveBeenAnswered
-        (HasAnsweredLine (keeping K.keeps K.is_clean K.is_sound K.is_broken K.may_find K.may_fail)
-        at E.taken) (R.remaining reader) (come keeper.old (W.taken writer.old) errors.old)
+    ensures service { StaysInService K.keeping keeper.old keeper.new result }
+    ensures answered { HaveBeenAnswered (HasAnsweredLine K.keeping at E.taken) (R.remaining reader)
+        (come keeper.old (W.taken writer.old) errors.old)
         (come keeper.new (W.taken writer.new) errors.new) result }
 {
     let mut good = true;
@@ -124,14 +120,12 @@ pub fn run_acts<K: Keeper, R: Watched + Read, W: ByteOut, E: ByteOut>(
     errors: &mut E,
     at: Moment,
 ) -> Result<bool, RunFault>
-    ensures premise { KeepsPremise K.is_clean K.is_sound keeper.old keeper.new }
-    ensures works { KeepsWorking (K.is_broken keeper.old) (K.is_broken keeper.new) result }
+    ensures service { StaysInService K.keeping keeper.old keeper.new result }
 
     // All lines that were read were answered in order; for a known reader these are all lines of
     // its text. After a fault, all but the last were.
-    ensures answered { HaveBeenAnswered
-        (HasAnsweredLine (keeping K.keeps K.is_clean K.is_sound K.is_broken K.may_find K.may_fail)
-        at E.taken) (R.remaining reader.old) (come keeper.old (W.taken writer.old) errors.old)
+    ensures answered { HaveBeenAnswered (HasAnsweredLine K.keeping at E.taken)
+        (R.remaining reader.old) (come keeper.old (W.taken writer.old) errors.old)
         (come keeper.new (W.taken writer.new) errors.new) result }
 
     // `Read` is returned only if the reader failed, and the end of the lines is reached only if it

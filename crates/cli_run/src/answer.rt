@@ -2,12 +2,12 @@
 ghost use Rattle.std.specs.Prelude.{◌≡◌, ◌⊎◌, ◌++◌, ◌∷◌, [], true, false, Err, IfOk, IfErr, OnOk, codes, decimal, string_bytes};
 ghost use Rattle.station_core.specs.Step.{State};
 ghost use Rattle.station_core.specs.Texts.{refusal_text};
-ghost use Rattle.stock_list.specs.Ended.{IsShutAfter, IsUntroubled, IsWriteOrUntroubled, WriteHasCause, kept};
+ghost use Rattle.stock_list.specs.Ended.{IsShutAfter, TellsWriting, kept};
 ghost use Rattle.stock_list.specs.Lines.{answer_text};
 ghost use Rattle.input_reasons.specs.Reason.{is_unread};
 ghost use Rattle.cli_run.specs.Asked.{keyed, named, numbered};
 ghost use Rattle.cli_run.specs.Ended.{HasToldPart, IsAnswered, IsStopped};
-ghost use Rattle.station_core.specs.Keeping.{KeepsPremise, KeepsWorking, StaysIfBroken, keeping};
+ghost use Rattle.station_core.specs.Keeping.{IfWorks, StaysIfBroken, StaysInService};
 ghost use Rattle.cli_run.specs.Explained.{reason_head, HasExplained, HasGivenReason};
 ghost use Rattle.cli_run.specs.InTurn.{come};
 ghost use Rattle.cli_run.specs.Shut.{HasToldLine, IsAnsweredShut};
@@ -123,33 +123,24 @@ fn answer_input<K: Keeper, O: ByteOut, E: ByteOut>(
     input: &Input<'_>,
     at: Moment,
 ) -> Result<bool, RunFault>
-    ensures premise { KeepsPremise K.is_clean K.is_sound keeper.old keeper.new }
-    ensures works { KeepsWorking (K.is_broken keeper.old) (K.is_broken keeper.new) result }
-    ensures breaks { K.is_broken keeper.old ≡ false
-        → IfErr result (λ e. IsShutAfter e (K.is_broken keeper.new)) }
-    ensures answered { (s : State) → K.keeps keeper.old s → K.is_broken keeper.old ≡ false
-        → K.is_sound keeper.new
-        → IfOk result (λ good. IsAnswered number s (Asked.Input input.now) at good
-        (O.taken writer.old).bytes (O.taken writer.new).bytes (K.keeps keeper.new)) }
-    ensures stopped { (s : State) → K.keeps keeper.old s → K.is_broken keeper.old ≡ false
-        → K.is_sound keeper.new
-        → IfErr result (λ e. IsStopped number s (Asked.Input input.now) at e
-        (O.taken writer.old).bytes (O.taken writer.new).bytes
-        (kept (K.keeps keeper.new) (K.may_find keeper.new))) }
+    ensures service { StaysInService K.keeping keeper.old keeper.new result }
+    ensures breaks { K.keeping.is_broken keeper.old ≡ false → IfErr result
+        (λ e. IsShutAfter e (K.keeping.is_broken keeper.new)) }
+    ensures answered { IfWorks K.keeping keeper.old keeper.new (λ s. IfOk result (λ good. IsAnswered
+        number s (Asked.Input input.now) at good (O.taken writer.old).bytes
+        (O.taken writer.new).bytes (K.keeping.keeps keeper.new))) }
+    ensures stopped { IfWorks K.keeping keeper.old keeper.new (λ s. IfErr result (λ e. IsStopped
+        number s (Asked.Input input.now) at e (O.taken writer.old).bytes (O.taken writer.new).bytes
+        (kept (K.keeping.keeps keeper.new) (K.keeping.may_find keeper.new)))) }
     ensures read { result ≡ Err RunFault.Read → ⊥ }
-    ensures write { WriteHasCause result (O.taken writer.old) (O.taken writer.new) }
-    ensures write_told { IfErr result (λ e. IsWriteOrUntroubled e (O.taken writer.old)
-        (O.taken writer.new)) }
-    ensures untroubled { OnOk result (IsUntroubled (O.taken writer.old) (O.taken writer.new)) }
+    ensures writing { TellsWriting (O.taken writer.old) (O.taken writer.new) result }
     ensures unwritten { IfErr result (λ e. (e ≡ RunFault.Write)
         ⊎ (O.taken writer.new ≡ O.taken writer.old)) }
-    ensures same { StaysIfBroken (K.is_broken keeper.old) keeper.old keeper.new }
-    ensures reopen { K.is_broken keeper.old ≡ true
-        → IsAnsweredShut number (Asked.Input input.now) (O.taken writer.old) (O.taken writer.new)
-        result }
-    ensures reasons { HasExplained number
-        (keeping K.keeps K.is_clean K.is_sound K.is_broken K.may_find K.may_fail) (Asked.Input
-        input.now) at E.taken (come keeper.old (O.taken writer.old) errors.old)
+    ensures same { StaysIfBroken K.keeping keeper.old keeper.new }
+    ensures reopen { K.keeping.is_broken keeper.old ≡ true → IsAnsweredShut number
+        (Asked.Input input.now) (O.taken writer.old) (O.taken writer.new) result }
+    ensures reasons { HasExplained number K.keeping (Asked.Input input.now) at E.taken
+        (come keeper.old (O.taken writer.old) errors.old)
         (come keeper.new (O.taken writer.new) errors.new) result }
 {
     let answer = match answer_one(keeper, input, at) {
@@ -183,9 +174,7 @@ pub fn answer_refusal<O: ByteOut, E: ByteOut>(
         (O.taken writer.new)) }
     ensures told { HasToldLine (numbered number (refusal_text refusal.now ++ 10 ∷ []))
         (O.taken writer.old) (O.taken writer.new) result }
-    ensures write_told { IfErr result (λ e. IsWriteOrUntroubled e (O.taken writer.old)
-        (O.taken writer.new)) }
-    ensures untroubled { OnOk result (IsUntroubled (O.taken writer.old) (O.taken writer.new)) }
+    ensures writing { TellsWriting (O.taken writer.old) (O.taken writer.new) result }
     ensures unwritten { IfErr result (λ e. (e ≡ RunFault.Write)
         ⊎ (O.taken writer.new ≡ O.taken writer.old)) }
     ensures reasons { HasGivenReason E.taken (is_unread refusal.now)
@@ -215,9 +204,7 @@ pub fn answer_bad<O: ByteOut, E: ByteOut>(
         (HasToldPart (codes "body bad\n") (O.taken writer.old) (O.taken writer.new)) }
     ensures told { HasToldLine (codes "body bad\n") (O.taken writer.old) (O.taken writer.new)
         result }
-    ensures write_told { IfErr result (λ e. IsWriteOrUntroubled e (O.taken writer.old)
-        (O.taken writer.new)) }
-    ensures untroubled { OnOk result (IsUntroubled (O.taken writer.old) (O.taken writer.new)) }
+    ensures writing { TellsWriting (O.taken writer.old) (O.taken writer.new) result }
     ensures unwritten { IfErr result (λ e. (e ≡ RunFault.Write)
         ⊎ (O.taken writer.new ≡ O.taken writer.old)) }
     ensures reasons { HasGivenReason E.taken true (codes "body: ") errors.old errors.new result }
@@ -244,9 +231,7 @@ pub fn answer_bad_line<O: ByteOut, E: ByteOut>(
         (O.taken writer.old) (O.taken writer.new)) }
     ensures told { HasToldLine (numbered number (codes "bad\n")) (O.taken writer.old)
         (O.taken writer.new) result }
-    ensures write_told { IfErr result (λ e. IsWriteOrUntroubled e (O.taken writer.old)
-        (O.taken writer.new)) }
-    ensures untroubled { OnOk result (IsUntroubled (O.taken writer.old) (O.taken writer.new)) }
+    ensures writing { TellsWriting (O.taken writer.old) (O.taken writer.new) result }
     ensures unwritten { IfErr result (λ e. (e ≡ RunFault.Write)
         ⊎ (O.taken writer.new ≡ O.taken writer.old)) }
     ensures reasons { HasGivenReason E.taken true (codes "line ") errors.old errors.new result }
@@ -270,31 +255,24 @@ pub(crate) fn answer_asked<K: Keeper, O: ByteOut, E: ByteOut>(
     asked: &Asked<'_>,
     at: Moment,
 ) -> Result<bool, RunFault>
-    ensures premise { KeepsPremise K.is_clean K.is_sound keeper.old keeper.new }
-    ensures works { KeepsWorking (K.is_broken keeper.old) (K.is_broken keeper.new) result }
-    ensures breaks { K.is_broken keeper.old ≡ false
-        → IfErr result (λ e. IsShutAfter e (K.is_broken keeper.new)) }
-    ensures answered { (s : State) → K.keeps keeper.old s → K.is_broken keeper.old ≡ false
-        → K.is_sound keeper.new
-        → IfOk result (λ good. IsAnswered number s asked.now at good (O.taken writer.old).bytes
-        (O.taken writer.new).bytes (K.keeps keeper.new)) }
-    ensures stopped { (s : State) → K.keeps keeper.old s → K.is_broken keeper.old ≡ false
-        → K.is_sound keeper.new
-        → IfErr result (λ e. IsStopped number s asked.now at e (O.taken writer.old).bytes
-        (O.taken writer.new).bytes (kept (K.keeps keeper.new) (K.may_find keeper.new))) }
+    ensures service { StaysInService K.keeping keeper.old keeper.new result }
+    ensures breaks { K.keeping.is_broken keeper.old ≡ false → IfErr result
+        (λ e. IsShutAfter e (K.keeping.is_broken keeper.new)) }
+    ensures answered { IfWorks K.keeping keeper.old keeper.new (λ s. IfOk result (λ good. IsAnswered
+        number s asked.now at good (O.taken writer.old).bytes (O.taken writer.new).bytes
+        (K.keeping.keeps keeper.new))) }
+    ensures stopped { IfWorks K.keeping keeper.old keeper.new (λ s. IfErr result (λ e. IsStopped
+        number s asked.now at e (O.taken writer.old).bytes (O.taken writer.new).bytes
+        (kept (K.keeping.keeps keeper.new) (K.keeping.may_find keeper.new)))) }
     ensures read { result ≡ Err RunFault.Read → ⊥ }
-    ensures write { WriteHasCause result (O.taken writer.old) (O.taken writer.new) }
-    ensures write_told { IfErr result (λ e. IsWriteOrUntroubled e (O.taken writer.old)
-        (O.taken writer.new)) }
-    ensures untroubled { OnOk result (IsUntroubled (O.taken writer.old) (O.taken writer.new)) }
+    ensures writing { TellsWriting (O.taken writer.old) (O.taken writer.new) result }
     ensures unwritten { IfErr result (λ e. (e ≡ RunFault.Write)
         ⊎ (O.taken writer.new ≡ O.taken writer.old)) }
-    ensures same { StaysIfBroken (K.is_broken keeper.old) keeper.old keeper.new }
-    ensures reopen { K.is_broken keeper.old ≡ true
-        → IsAnsweredShut number asked.now (O.taken writer.old) (O.taken writer.new) result }
-    ensures reasons { HasExplained number
-        (keeping K.keeps K.is_clean K.is_sound K.is_broken K.may_find K.may_fail) asked.now at
-        E.taken (come keeper.old (O.taken writer.old) errors.old)
+    ensures same { StaysIfBroken K.keeping keeper.old keeper.new }
+    ensures reopen { K.keeping.is_broken keeper.old ≡ true → IsAnsweredShut number asked.now
+        (O.taken writer.old) (O.taken writer.new) result }
+    ensures reasons { HasExplained number K.keeping asked.now at E.taken
+        (come keeper.old (O.taken writer.old) errors.old)
         (come keeper.new (O.taken writer.new) errors.new) result }
 {
     match asked {

@@ -1,6 +1,6 @@
 //! Histories of waybills.
 ghost use Rattle.std.specs.Prelude.{◌≡◌, false, OnOk};
-ghost use Rattle.station_core.specs.Keeping.{KeepsWorking, KeepsPremise, keeping};
+ghost use Rattle.station_core.specs.Keeping.{StaysInService};
 ghost use Rattle.cli_run.specs.History.{HasToldHistory, HasToldRows, by_listing};
 
 use crate::look::do_waybill;
@@ -18,11 +18,9 @@ fn tell_rows<K: Keeper, W: ByteOut>(
     number: &Awb,
     output: &mut W,
 ) -> Result<bool, RunFault>
-    ensures premise { KeepsPremise K.is_clean K.is_sound keeper.old keeper.new }
-    ensures works { KeepsWorking (K.is_broken keeper.old) (K.is_broken keeper.new) result }
-    ensures rows { HasToldRows
-        (by_listing (keeping K.keeps K.is_clean K.is_sound K.is_broken K.may_find K.may_fail))
-        number.now (keeper.old, W.taken output.old) (keeper.new, W.taken output.new) result }
+    ensures service { StaysInService K.keeping keeper.old keeper.new result }
+    ensures rows { HasToldRows (by_listing K.keeping) number.now (keeper.old, W.taken output.old)
+        (keeper.new, W.taken output.new) result }
 {
     match do_report(
         alloc,
@@ -44,11 +42,9 @@ pub(crate) fn do_history<K: Keeper, W: ByteOut>(
     number: &Awb,
     output: &mut W,
 ) -> Result<bool, RunFault>
-    ensures premise { KeepsPremise K.is_clean K.is_sound keeper.old keeper.new }
-    ensures works { KeepsWorking (K.is_broken keeper.old) (K.is_broken keeper.new) result }
-    ensures history { HasToldHistory
-        (keeping K.keeps K.is_clean K.is_sound K.is_broken K.may_find K.may_fail)
-        number.now (keeper.old, W.taken output.old) (keeper.new, W.taken output.new) result }
+    ensures service { StaysInService K.keeping keeper.old keeper.new result }
+    ensures history { HasToldHistory K.keeping number.now (keeper.old, W.taken output.old)
+        (keeper.new, W.taken output.new) result }
 {
     match do_waybill(alloc, keeper, number, output) {
         Ok(true) => tell_rows(alloc, keeper, number, output),

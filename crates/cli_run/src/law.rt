@@ -4,7 +4,6 @@ ghost use Rattle.station_days.specs.Date.{LocalMinute};
 ghost use Rattle.station_core.specs.Step.{State};
 ghost use Rattle.cli_run.specs.Acts.{HasAnsweredLine};
 ghost use Rattle.cli_run.specs.ActsLaw.{HasRunActs};
-ghost use Rattle.station_core.specs.Keeping.{keeping};
 ghost use Rattle.cli_run.specs.InTurn.{AreAnswered, Come};
 ghost use Rattle.cli_run.specs.Done.{HasDone};
 ghost use Rattle.cli_run.specs.Ends.{ends, Reached};
@@ -21,22 +20,18 @@ use std::io::Read;
 /// answer is.
 pub fn acts_law<K: Keeper, E: ByteOut>()
     ensures { (lines : List (List ℕ)) (at : LocalMinute) (old new : Come K E) (good : Bool)
-        → AreAnswered
-        (HasAnsweredLine (keeping K.keeps K.is_clean K.is_sound K.is_broken K.may_find K.may_fail)
-        at E.taken) 1 lines old new good
-        → (s : State) → K.keeps old.keeper s → K.is_broken old.keeper ≡ false
-        → K.is_sound new.keeper
-        → HasRunActs 1 s at lines old.sent.bytes new.sent.bytes (K.keeps new.keeper) good }
+        → AreAnswered (HasAnsweredLine K.keeping at E.taken) 1 lines old new good → (s : State)
+        → K.keeping.keeps old.keeper s → K.keeping.is_broken old.keeper ≡ false → K.keeping.is_sound
+        new.keeper → HasRunActs 1 s at lines old.sent.bytes new.sent.bytes
+        (K.keeping.keeps new.keeper) good }
 {}
 
 /// Whatever a command returns, reopening afterwards finds the state after the inputs that it
 /// answered and, if the store failed, perhaps one more.
 pub fn left_law<K: Keeper, I: Inputs + Read, W: ByteOut, E: ByteOut>()
     ensures { (command : Command) (here : List ℕ) (at : LocalMinute) (s : State)
-        (old new : K × Reached I W E) (result : Result Bool RunFault)
-        → K.keeps old.0 s → K.is_broken old.0 ≡ false → K.is_sound new.0
-        → HasDone command here
-        (keeping K.keeps K.is_clean K.is_sound K.is_broken K.may_find K.may_fail)
-        (ends I.remaining I.given I.turned W.taken E.taken) at old new result
-        → HasLeft (AsksAt command at) s (K.may_find new.0) result }
+        (old new : K × Reached I W E) (result : Result Bool RunFault) → K.keeping.keeps old.0 s
+        → K.keeping.is_broken old.0 ≡ false → K.keeping.is_sound new.0 → HasDone command here
+        K.keeping (ends I.remaining I.given I.turned W.taken E.taken) at old new result → HasLeft
+        (AsksAt command at) s (K.keeping.may_find new.0) result }
 {}

@@ -4,7 +4,7 @@ ghost use Rattle.std.specs.Prelude.{option_map, string_bytes};
 ghost use Rattle.serde_json.specs.Data.{Data};
 ghost use Rattle.serde_json.specs.Written.{compact_text};
 ghost use Rattle.http_desk.specs.Reply.{holder_data, waybill_data};
-ghost use Rattle.station_core.specs.Keeping.{KeepsWorking, KeepsPremise, keeping};
+ghost use Rattle.station_core.specs.Keeping.{StaysInService};
 ghost use Rattle.cli_run.specs.Looked.{holder_found, waybill_found, HasLookedUp, HasToldFound};
 
 use agent_stock::Holder;
@@ -89,10 +89,8 @@ pub(crate) fn do_waybill<K: Keeper, W: ByteOut>(
     number: &Awb,
     output: &mut W,
 ) -> Result<bool, RunFault>
-    ensures premise { KeepsPremise K.is_clean K.is_sound keeper.old keeper.new }
-    ensures works { KeepsWorking (K.is_broken keeper.old) (K.is_broken keeper.new) result }
-    ensures looked { HasLookedUp (waybill_found number.now)
-        (keeping K.keeps K.is_clean K.is_sound K.is_broken K.may_find K.may_fail)
+    ensures service { StaysInService K.keeping keeper.old keeper.new result }
+    ensures looked { HasLookedUp (waybill_found number.now) K.keeping
         (keeper.old, W.taken output.old) (keeper.new, W.taken output.new) result }
 {
     match keeper.waybill(number) {
@@ -108,10 +106,8 @@ pub(crate) fn do_holder<K: Keeper, W: ByteOut>(
     number: &Awb,
     output: &mut W,
 ) -> Result<bool, RunFault>
-    ensures premise { KeepsPremise K.is_clean K.is_sound keeper.old keeper.new }
-    ensures works { KeepsWorking (K.is_broken keeper.old) (K.is_broken keeper.new) result }
-    ensures looked { HasLookedUp (holder_found number.now)
-        (keeping K.keeps K.is_clean K.is_sound K.is_broken K.may_find K.may_fail)
+    ensures service { StaysInService K.keeping keeper.old keeper.new result }
+    ensures looked { HasLookedUp (holder_found number.now) K.keeping
         (keeper.old, W.taken output.old) (keeper.new, W.taken output.new) result }
 {
     match keeper.holder(number) {

@@ -1,6 +1,6 @@
 //! Reports.
 ghost use Rattle.std.specs.Prelude.{◌≡◌, true, false, Err, OnOk, List, ℕ};
-ghost use Rattle.station_core.specs.Keeping.{KeepsWorking, KeepsPremise, OnlyReads, keeping};
+ghost use Rattle.station_core.specs.Keeping.{IfSound, OnlyReads, StaysInService};
 ghost use Rattle.station_core.specs.Step.{State};
 ghost use Rattle.reports.specs.Listings.{IsListing};
 ghost use Rattle.cli_run.specs.Reported.{good_of, HasReportedGood, HasToldReport};
@@ -42,22 +42,20 @@ fn run_report<K: Keeper, W: ByteOut>(
     form: Form,
     writer: &mut W,
 ) -> Result<(), RunFault>
-    ensures reads { OnlyReads (keeping K.keeps K.is_clean K.is_sound K.is_broken K.may_find
-        K.may_fail) keeper.old keeper.new }
-    ensures reopen { K.is_broken keeper.old ≡ true → (result ≡ Err RunFault.Store)
+    ensures reads { OnlyReads K.keeping keeper.old keeper.new }
+    ensures reopen { K.keeping.is_broken keeper.old ≡ true → (result ≡ Err RunFault.Store)
         × (keeper.new ≡ keeper.old) × (W.taken writer.new ≡ W.taken writer.old) }
-    ensures fault { (s : State) → K.keeps keeper.old s → K.is_sound keeper.new
-        → K.is_broken keeper.old ≡ false → result ≡ Err RunFault.Store → K.may_fail }
+    ensures fault { IfSound K.keeping keeper.old keeper.new (λ s. K.keeping.is_broken keeper.old
+        ≡ false → result ≡ Err RunFault.Store → K.keeping.may_fail) }
     ensures writes { StopsReport (W.taken writer.old) (W.taken writer.new) result }
 
     // One text is the report that was written.
-    ensures told { (s : State) → K.keeps keeper.old s → K.is_sound keeper.new
-        → OnOk result ((text : List ℕ) × IsListing form s listing.now text
-        × HasReported text (W.taken writer.old) (W.taken writer.new) result) }
+    ensures told { IfSound K.keeping keeper.old keeper.new (λ s. OnOk result ((text : List ℕ)
+        × IsListing form s listing.now text × HasReported text (W.taken writer.old)
+        (W.taken writer.new) result)) }
     // Each text of the report was written, or a prefix.
-    ensures each { (s : State) → K.keeps keeper.old s → K.is_sound keeper.new → (text : List ℕ)
-        → IsListing form s listing.now text
-        → HasReported text (W.taken writer.old) (W.taken writer.new) result }
+    ensures each { IfSound K.keeping keeper.old keeper.new (λ s. (text : List ℕ) → IsListing form s
+        listing.now text → HasReported text (W.taken writer.old) (W.taken writer.new) result) }
 {
     run_ended(write_listing(alloc, keeper, listing, form, writer, &[]))
 }
@@ -78,8 +76,7 @@ fn send_report<K: Keeper, W: ByteOut>(
     form: Form,
     output: &mut W,
 ) -> Result<(), RunFault>
-    ensures { HasToldReport (λ s. IsListing form s listing.now)
-        (keeping K.keeps K.is_clean K.is_sound K.is_broken K.may_find K.may_fail)
+    ensures { HasToldReport (λ s. IsListing form s listing.now) K.keeping
         (keeper.old, W.taken output.old) (keeper.new, W.taken output.new) result }
 {
     run_report(alloc, keeper, listing, form, output)
@@ -93,10 +90,8 @@ pub(crate) fn do_report<K: Keeper, W: ByteOut>(
     form: Form,
     output: &mut W,
 ) -> Result<bool, RunFault>
-    ensures premise { KeepsPremise K.is_clean K.is_sound keeper.old keeper.new }
-    ensures works { KeepsWorking (K.is_broken keeper.old) (K.is_broken keeper.new) result }
-    ensures reported { HasReportedGood (λ s. IsListing form s listing.now)
-        (keeping K.keeps K.is_clean K.is_sound K.is_broken K.may_find K.may_fail)
+    ensures service { StaysInService K.keeping keeper.old keeper.new result }
+    ensures reported { HasReportedGood (λ s. IsListing form s listing.now) K.keeping
         (keeper.old, W.taken output.old) (keeper.new, W.taken output.new) result }
 {
     good_of(send_report(alloc, keeper, listing, form, output))

@@ -3,7 +3,7 @@ ghost use Rattle.std.specs.Prelude.{◌≡◌, false, length, OnOk};
 ghost use Rattle.cli_run.specs.Answered.{HasAnsweredAsked};
 ghost use Rattle.cli_run.specs.Asked.{IsCommandAsked};
 ghost use Rattle.cli_run.specs.Done.{HasAnsweredActs, HasAnsweredRows, HasDone, HasToldMade};
-ghost use Rattle.station_core.specs.Keeping.{KeepsWorking, KeepsPremise, keeping};
+ghost use Rattle.station_core.specs.Keeping.{StaysInService};
 ghost use Rattle.cli_run.specs.Ends.{ends, reached};
 ghost use Rattle.cli_run.specs.Explained.{HasExplainedAsked};
 ghost use Rattle.cli_run.specs.Place.{here_of};
@@ -52,11 +52,8 @@ fn do_stock<K: Keeper, I: Watched + Read, W: ByteOut, E: ByteOut>(
     errors: &mut E,
     at: Moment,
 ) -> Result<bool, RunFault>
-    ensures premise { KeepsPremise K.is_clean K.is_sound keeper.old keeper.new }
-    ensures works { KeepsWorking (K.is_broken keeper.old) (K.is_broken keeper.new) result }
-    ensures answered { HasAnsweredRows
-        (keeping K.keeps K.is_clean K.is_sound K.is_broken K.may_find K.may_fail) at
-        (I.remaining reader.old) (I.given reader.new)
+    ensures service { StaysInService K.keeping keeper.old keeper.new result }
+    ensures answered { HasAnsweredRows K.keeping at (I.remaining reader.old) (I.given reader.new)
         (come keeper.old (W.taken output.old) errors.old)
         (come keeper.new (W.taken output.new) errors.new) result }
     ensures explained { HasExplainedRows (I.remaining reader.old) E.taken errors.old errors.new
@@ -75,12 +72,9 @@ fn do_take<K: Keeper, I: Inputs, W: ByteOut, E: ByteOut>(
     errors: &mut E,
     at: Moment,
 ) -> Result<bool, RunFault>
-    ensures premise { KeepsPremise K.is_clean K.is_sound keeper.old keeper.new }
-    ensures works { KeepsWorking (K.is_broken keeper.old) (K.is_broken keeper.new) result }
-    ensures taken { HaveBeenMade
-        (HasTakenNext (keeping K.keeps K.is_clean K.is_sound K.is_broken K.may_find K.may_fail) at
-        I.given I.turned E.taken) (length paths.now)
-        (come keeper.old (W.taken output.old) errors.old, reader.old)
+    ensures service { StaysInService K.keeping keeper.old keeper.new result }
+    ensures taken { HaveBeenMade (HasTakenNext K.keeping at I.given I.turned E.taken)
+        (length paths.now) (come keeper.old (W.taken output.old) errors.old, reader.old)
         (come keeper.new (W.taken output.new) errors.new, reader.new) result }
 {
     run_takes(alloc, keeper, paths.len(), reader, output, errors, at)
@@ -95,12 +89,9 @@ fn do_acts<K: Keeper, I: Watched + Read, W: ByteOut, E: ByteOut>(
     errors: &mut E,
     at: Moment,
 ) -> Result<bool, RunFault>
-    ensures premise { KeepsPremise K.is_clean K.is_sound keeper.old keeper.new }
-    ensures works { KeepsWorking (K.is_broken keeper.old) (K.is_broken keeper.new) result }
-    ensures answered { HasAnsweredActs
-        (keeping K.keeps K.is_clean K.is_sound K.is_broken K.may_find K.may_fail) at E.taken
-        (I.remaining reader.old) (I.given reader.new)
-        (come keeper.old (W.taken output.old) errors.old)
+    ensures service { StaysInService K.keeping keeper.old keeper.new result }
+    ensures answered { HasAnsweredActs K.keeping at E.taken (I.remaining reader.old)
+        (I.given reader.new) (come keeper.old (W.taken output.old) errors.old)
         (come keeper.new (W.taken output.new) errors.new) result }
 {
     run_acts(alloc, keeper, reader, output, errors, at)
@@ -117,14 +108,11 @@ fn do_act<K: Keeper, I: ByteIn, W: ByteOut, E: ByteOut>(
     errors: &mut E,
     at: Moment,
 ) -> Result<bool, RunFault>
-    ensures premise { KeepsPremise K.is_clean K.is_sound keeper.old keeper.new }
-    ensures works { KeepsWorking (K.is_broken keeper.old) (K.is_broken keeper.new) result }
-    ensures answered { HasAnsweredAsked (IsCommandAsked verb key)
-        (keeping K.keeps K.is_clean K.is_sound K.is_broken K.may_find K.may_fail) at
+    ensures service { StaysInService K.keeping keeper.old keeper.new result }
+    ensures answered { HasAnsweredAsked (IsCommandAsked verb key) K.keeping at
         (come keeper.old (W.taken output.old) errors.old, I.given reader.old)
         (come keeper.new (W.taken output.new) errors.new, I.given reader.new) result }
-    ensures explained { HasExplainedAsked (IsCommandAsked verb key)
-        (keeping K.keeps K.is_clean K.is_sound K.is_broken K.may_find K.may_fail) at E.taken
+    ensures explained { HasExplainedAsked (IsCommandAsked verb key) K.keeping at E.taken
         (come keeper.old (W.taken output.old) errors.old, I.given reader.old)
         (come keeper.new (W.taken output.new) errors.new, I.given reader.new) result }
 {
@@ -147,15 +135,12 @@ pub fn run_over<K: Keeper, I: Inputs + Read, W: ByteOut, E: ByteOut>(
     errors: &mut E,
     at: Moment,
 ) -> Result<bool, RunFault>
-    ensures premise { KeepsPremise K.is_clean K.is_sound keeper.old keeper.new }
-    ensures works { KeepsWorking (K.is_broken keeper.old) (K.is_broken keeper.new) result }
-    ensures done { HasDone line.now.command (here_of line.now.station)
-        (keeping K.keeps K.is_clean K.is_sound K.is_broken K.may_find K.may_fail)
+    ensures service { StaysInService K.keeping keeper.old keeper.new result }
+    ensures done { HasDone line.now.command (here_of line.now.station) K.keeping
         (ends I.remaining I.given I.turned W.taken E.taken) at
         (keeper.old, reached reader.old output.old errors.old)
         (keeper.new, reached reader.new output.new errors.new) result }
-    ensures explained { HasGivenReasons line.now.command
-        (keeping K.keeps K.is_clean K.is_sound K.is_broken K.may_find K.may_fail)
+    ensures explained { HasGivenReasons line.now.command K.keeping
         (ends I.remaining I.given I.turned W.taken E.taken) at
         (keeper.old, reached reader.old output.old errors.old)
         (keeper.new, reached reader.new output.new errors.new) result }

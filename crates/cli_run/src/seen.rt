@@ -1,7 +1,7 @@
 //! Dry runs of telegrams.
 ghost use Rattle.std.specs.Prelude.{◌≡◌, ◌⊎◌, ◌++◌, ◌∷◌, [], None, Some, false, not, Err, IfOk, IfErr, OnOk, OnErr, string_bytes};
 ghost use Rattle.station_core.specs.Texts.{refusal_text};
-ghost use Rattle.stock_list.specs.Ended.{IsUntroubled, IsWriteOrUntroubled, WriteHasCause};
+ghost use Rattle.stock_list.specs.Ended.{IsUntroubled, TellsWriting, WriteHasCause};
 ghost use Rattle.telegram_look.specs.Look.{has_doubt};
 ghost use Rattle.telegram_look.specs.LookText.{look_text};
 ghost use Rattle.cli_run.specs.Came.{HasFailed, IsWithin, most_come};
@@ -122,7 +122,6 @@ pub fn run_read<I: ByteIn, O: ByteOut, E: ByteOut>(
     // the reason.
     ensures seen { IfOk result (HasSeen (I.given reader.old) (I.given reader.new)
         (O.taken writer.old) (O.taken writer.new) E.taken errors.old errors.new) }
-    ensures untroubled { OnOk result (IsUntroubled (O.taken writer.old) (O.taken writer.new)) }
 
     // After a fault nothing was written, or a prefix of that text, and nothing to `errors`.
     ensures stopped { IfErr result (HasStoppedLook (I.given reader.old) (I.given reader.new)
@@ -132,9 +131,7 @@ pub fn run_read<I: ByteIn, O: ByteOut, E: ByteOut>(
         → HasFailed (I.given reader.old) (I.given reader.new) }
     ensures read_told { IfErr result (λ e. (e ≡ RunFault.Read)
         ⊎ ((I.given reader.new).failures ≡ (I.given reader.old).failures)) }
-    ensures write_cause { WriteHasCause result (O.taken writer.old) (O.taken writer.new) }
-    ensures write_told { IfErr result (λ e. IsWriteOrUntroubled e (O.taken writer.old)
-        (O.taken writer.new)) }
+    ensures writing { TellsWriting (O.taken writer.old) (O.taken writer.new) result }
 
     // After any fault except the writer's, nothing was written.
     ensures unwritten { IfErr result (λ e. (e ≡ RunFault.Write)

@@ -1,6 +1,6 @@
 //! Taking several telegrams.
 ghost use Rattle.std.specs.Prelude.{◌≡◌, false, OnOk};
-ghost use Rattle.station_core.specs.Keeping.{KeepsWorking, KeepsPremise, keeping};
+ghost use Rattle.station_core.specs.Keeping.{StaysInService};
 ghost use Rattle.cli_run.specs.Takes.{HasTakenNext};
 ghost use Rattle.cli_run.specs.InTurn.{come, HaveBeenMade};
 
@@ -20,11 +20,9 @@ fn take_next<K: Keeper, I: Inputs, W: ByteOut, E: ByteOut>(
     errors: &mut E,
     at: Moment,
 ) -> Result<bool, RunFault>
-    ensures premise { KeepsPremise K.is_clean K.is_sound keeper.old keeper.new }
-    ensures works { KeepsWorking (K.is_broken keeper.old) (K.is_broken keeper.new) result }
-    ensures taken { HasTakenNext (keeping K.keeps K.is_clean K.is_sound K.is_broken K.may_find
-        K.may_fail)
-        at I.given I.turned E.taken (come keeper.old (W.taken writer.old) errors.old, reader.old)
+    ensures service { StaysInService K.keeping keeper.old keeper.new result }
+    ensures taken { HasTakenNext K.keeping at I.given I.turned E.taken
+        (come keeper.old (W.taken writer.old) errors.old, reader.old)
         (come keeper.new (W.taken writer.new) errors.new, reader.new) result }
 {
     reader.next_input();
@@ -45,11 +43,8 @@ pub fn run_takes<K: Keeper, I: Inputs, W: ByteOut, E: ByteOut>(
     errors: &mut E,
     at: Moment,
 ) -> Result<bool, RunFault>
-    ensures premise { KeepsPremise K.is_clean K.is_sound keeper.old keeper.new }
-    ensures works { KeepsWorking (K.is_broken keeper.old) (K.is_broken keeper.new) result }
-    ensures taken { HaveBeenMade
-        (HasTakenNext (keeping K.keeps K.is_clean K.is_sound K.is_broken K.may_find K.may_fail) at
-        I.given I.turned E.taken) count
+    ensures service { StaysInService K.keeping keeper.old keeper.new result }
+    ensures taken { HaveBeenMade (HasTakenNext K.keeping at I.given I.turned E.taken) count
         (come keeper.old (W.taken writer.old) errors.old, reader.old)
         (come keeper.new (W.taken writer.new) errors.new, reader.new) result }
 {

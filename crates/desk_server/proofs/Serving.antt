@@ -5,7 +5,7 @@ use Rattle.std.proofs.lemmas.List.{length-append}
 use Rattle.std.proofs.lemmas.List.Elements.{All-nil, All-cons, All-append}
 use Rattle.station_days.specs.Date.{LocalMinute}
 use Rattle.station_core.specs.Given.{Given, nothing_given}
-use Rattle.station_core.specs.Keeping.{Keeping, KeepsPremise, StaysIfBroken}
+use Rattle.station_core.specs.Keeping.{Keeping, KeepsSound, StaysIfBroken}
 use Rattle.station_core.specs.Step.{State}
 use Rattle.http_desk.specs.StationAfter.{station_after}
 use Rattle.http_desk.specs.Serving.{HasServed}
@@ -16,7 +16,7 @@ pub served_fresh : {K : Type 0} (k : Keeping K) (at : LocalMinute) (old new : K)
     (ended : End) → sent_old ≡ nothing_given
     → ((s : State) → k.keeps old s → k.is_broken old ≡ false → k.is_sound new
     → HasServed s at came sent_old sent (station_after k new) ended)
-    → StaysIfBroken (k.is_broken old) old new → KeepsPremise k.is_clean k.is_sound old new
+    → StaysIfBroken k old new → KeepsSound k old new
     → HasServedOne k at ended old new
 served_fresh k at old new came sent_old sent ended none_sent served same premise = record {
   came = came;

@@ -2,7 +2,7 @@
 use Rattle.std.specs.Prelude.{◌≡◌, ◌≤◌, ℕ, false, List, [], ◌∷◌, length, All, Result, IfOk}
 use Rattle.station_days.specs.Date.{LocalMinute}
 use Rattle.station_core.specs.Given.{Given, nothing_given}
-use Rattle.station_core.specs.Keeping.{Keeping, KeepsPremise, StaysIfBroken}
+use Rattle.station_core.specs.Keeping.{Keeping, KeepsSound, StaysIfBroken}
 use Rattle.station_core.specs.Step.{State}
 use Rattle.http_desk.specs.declared.serve.Served.{Served}
 use Rattle.http_desk.specs.declared.serve.ServeFault.{ServeFault}
@@ -21,8 +21,8 @@ pub record HasServedOne {K : Type 0} (k : Keeping K) (at : LocalMinute) (ended :
   pub sent : Given
   pub served : (s : State) → k.keeps old s → k.is_broken old ≡ false → k.is_sound new
       → HasServed s at came nothing_given sent (station_after k new) ended
-  pub same : StaysIfBroken (k.is_broken old) old new
-  pub premise : KeepsPremise k.is_clean k.is_sound old new
+  pub same : StaysIfBroken k old new
+  pub premise : KeepsSound k old new
 
 -- The service goes on after a connection: the answer doesn't say that the station has to be opened
 -- again.

@@ -1,6 +1,5 @@
 //! Connections, which are read side by side and answered one after another.
 ghost use Rattle.std.specs.Prelude.{◌≡◌, ◌≤◌, ⊤, false, Ok, Err, IfOk, IsOk, MatchOption, length, List, All};
-ghost use Rattle.station_core.specs.Keeping.{keeping};
 ghost use Rattle.desk_server.specs.Served.{AtMost, End, GoesOn, HasServedOne, HaveServed};
 
 use crate::connections::Connections;
@@ -61,9 +60,7 @@ fn answer<C: Clock, K: Keeper>(
     held: &Held,
     at: Moment,
 ) -> Result<Served, ServeFault>
-    ensures served { HasServedOne
-        (keeping K.keeps K.is_clean K.is_sound K.is_broken K.may_find K.may_fail)
-        at result keeper.old keeper.new }
+    ensures served { HasServedOne K.keeping at result keeper.old keeper.new }
     // Nothing was written or changed before the request is whole.
     ensures unread { result ≡ Err ServeFault.Read → keeper.new ≡ keeper.old }
 {
@@ -84,8 +81,7 @@ fn serve_held<C: Clock, K: Keeper>(
     held: &mut Held,
     now: Duration,
 ) -> Result<Next, ServerFault>
-    ensures most { AtMost (keeping K.keeps K.is_clean K.is_sound K.is_broken K.may_find K.may_fail)
-        1 (IsOk result) keeper.old keeper.new }
+    ensures most { AtMost K.keeping 1 (IsOk result) keeper.old keeper.new }
     ensures waits { result ≡ Ok Next.Waits → keeper.new ≡ keeper.old }
 {
     let arrival = held.read_request(now);
@@ -116,8 +112,7 @@ fn serve_place<C: Clock, K: Keeper>(
     connections: &mut Connections<'_>,
     place: usize,
 ) -> Result<bool, ServerFault>
-    ensures most { AtMost (keeping K.keeps K.is_clean K.is_sound K.is_broken K.may_find K.may_fail)
-        1 (IsOk result) keeper.old keeper.new }
+    ensures most { AtMost K.keeping 1 (IsOk result) keeper.old keeper.new }
     ensures same { result ≡ Ok false → keeper.new ≡ keeper.old }
 {
     let now = connections.now();
@@ -143,11 +138,9 @@ fn serve_places<C: Clock, K: Keeper>(
     places: &[usize],
     most: usize,
 ) -> Result<usize, ServerFault>
-    ensures most { AtMost (keeping K.keeps K.is_clean K.is_sound K.is_broken K.may_find K.may_fail)
-        most (IsOk result) keeper.old keeper.new }
-    ensures answered { IfOk result (λ answered. (answered ≤ most)
-        × AtMost (keeping K.keeps K.is_clean K.is_sound K.is_broken K.may_find K.may_fail)
-        answered ⊤ keeper.old keeper.new) }
+    ensures most { AtMost K.keeping most (IsOk result) keeper.old keeper.new }
+    ensures answered { IfOk result
+        (λ answered. (answered ≤ most) × AtMost K.keeping answered ⊤ keeper.old keeper.new) }
 {
     let mut answered = 0;
     for &place in places {
@@ -186,10 +179,8 @@ pub fn serve<N: Net, C: Clock, K: Keeper>(
 ) -> Result<(), ServerFault>
     // The station changes by what its connections ask, at most so many, and by nothing else. An
     // answer that the station has to be opened again ends the service, with a fault.
-    ensures { (ends : List End) × HaveServed
-        (keeping K.keeps K.is_clean K.is_sound K.is_broken K.may_find K.may_fail)
-        ends keeper.old keeper.new × MatchOption count ⊤ (λ most. length ends ≤ most)
-        × (IsOk result → All GoesOn ends) }
+    ensures { (ends : List End) × HaveServed K.keeping ends keeper.old keeper.new × MatchOption
+        count ⊤ (λ most. length ends ≤ most) × (IsOk result → All GoesOn ends) }
 {
     let most = most_of(count);
     let mut connections = Connections::new(net, setting.alloc, listener)?;

@@ -3,7 +3,7 @@ ghost use Rattle.std.specs.Prelude.{◌≡◌, true, false, IfOk, Option, Some, 
 ghost use Rattle.http.specs.StatusCode.{IsStatusCode};
 ghost use Rattle.serde_json.specs.Data.{Data};
 ghost use Rattle.serde_json.specs.Written.{compact_text};
-ghost use Rattle.station_core.specs.Keeping.{KeepsPremise, StaysIfBroken, keeping};
+ghost use Rattle.station_core.specs.Keeping.{IfWorks, KeepsSound, StaysIfBroken};
 ghost use Rattle.station_core.specs.Step.{State};
 ghost use Rattle.http_desk.specs.StationAfter.{station_after};
 ghost use Rattle.http_desk.specs.Told.{IsToldAs, HasAsked, HasAskedShut, IsUnavailable, tells_reopen};
@@ -121,15 +121,14 @@ fn waybill_told(alloc: Global, number: &Awb, waybill: &Option<Waybill>) -> Told
 }
 
 fn ask_holder<K: Keeper>(alloc: Global, keeper: &mut K, number: &Awb) -> Told
-    ensures premise { KeepsPremise K.is_clean K.is_sound keeper.old keeper.new }
-    ensures breaks { K.is_broken keeper.new ≡ K.is_broken keeper.old }
-    ensures asked { (s : State) (at : LocalMinute) → K.keeps keeper.old s
-        → K.is_broken keeper.old ≡ false → K.is_sound keeper.new
-        → HasAsked s at (Wanted.Holder number.now) result (station_after
-        (keeping K.keeps K.is_clean K.is_sound K.is_broken K.may_find K.may_fail) keeper.new) }
-    ensures reopen { tells_reopen result ≡ K.is_broken keeper.new }
-    ensures shut { K.is_broken keeper.old ≡ true → (keeper.new ≡ keeper.old)
-        × IsUnavailable result }
+    ensures premise { KeepsSound K.keeping keeper.old keeper.new }
+    ensures breaks { K.keeping.is_broken keeper.new ≡ K.keeping.is_broken keeper.old }
+    ensures asked { (s : State) (at : LocalMinute) → K.keeping.keeps keeper.old s
+        → K.keeping.is_broken keeper.old ≡ false → K.keeping.is_sound keeper.new → HasAsked s at
+        (Wanted.Holder number.now) result (station_after K.keeping keeper.new) }
+    ensures reopen { tells_reopen result ≡ K.keeping.is_broken keeper.new }
+    ensures shut { K.keeping.is_broken keeper.old ≡ true → (keeper.new ≡ keeper.old) × IsUnavailable
+        result }
 {
     match keeper.holder(number) {
         Ok(holder) => holder_told(alloc, number, &holder),
@@ -138,15 +137,14 @@ fn ask_holder<K: Keeper>(alloc: Global, keeper: &mut K, number: &Awb) -> Told
 }
 
 fn ask_waybill<K: Keeper>(alloc: Global, keeper: &mut K, number: &Awb) -> Told
-    ensures premise { KeepsPremise K.is_clean K.is_sound keeper.old keeper.new }
-    ensures breaks { K.is_broken keeper.new ≡ K.is_broken keeper.old }
-    ensures asked { (s : State) (at : LocalMinute) → K.keeps keeper.old s
-        → K.is_broken keeper.old ≡ false → K.is_sound keeper.new
-        → HasAsked s at (Wanted.Waybill number.now) result (station_after
-        (keeping K.keeps K.is_clean K.is_sound K.is_broken K.may_find K.may_fail) keeper.new) }
-    ensures reopen { tells_reopen result ≡ K.is_broken keeper.new }
-    ensures shut { K.is_broken keeper.old ≡ true → (keeper.new ≡ keeper.old)
-        × IsUnavailable result }
+    ensures premise { KeepsSound K.keeping keeper.old keeper.new }
+    ensures breaks { K.keeping.is_broken keeper.new ≡ K.keeping.is_broken keeper.old }
+    ensures asked { (s : State) (at : LocalMinute) → K.keeping.keeps keeper.old s
+        → K.keeping.is_broken keeper.old ≡ false → K.keeping.is_sound keeper.new → HasAsked s at
+        (Wanted.Waybill number.now) result (station_after K.keeping keeper.new) }
+    ensures reopen { tells_reopen result ≡ K.keeping.is_broken keeper.new }
+    ensures shut { K.keeping.is_broken keeper.old ≡ true → (keeper.new ≡ keeper.old) × IsUnavailable
+        result }
 {
     match keeper.waybill(number) {
         Ok(waybill) => waybill_told(alloc, number, &waybill),
@@ -155,14 +153,12 @@ fn ask_waybill<K: Keeper>(alloc: Global, keeper: &mut K, number: &Awb) -> Told
 }
 
 fn ask_input<K: Keeper>(alloc: Global, keeper: &mut K, input: &Input<'_>, at: Moment) -> Told
-    ensures premise { KeepsPremise K.is_clean K.is_sound keeper.old keeper.new }
-    ensures asked { (s : State) → K.keeps keeper.old s → K.is_broken keeper.old ≡ false
-        → K.is_sound keeper.new
-        → HasAsked s at (Wanted.Input input.now) result (station_after
-        (keeping K.keeps K.is_clean K.is_sound K.is_broken K.may_find K.may_fail) keeper.new) }
-    ensures reopen { tells_reopen result ≡ K.is_broken keeper.new }
-    ensures shut { K.is_broken keeper.old ≡ true → (keeper.new ≡ keeper.old)
-        × IsUnavailable result }
+    ensures premise { KeepsSound K.keeping keeper.old keeper.new }
+    ensures asked { IfWorks K.keeping keeper.old keeper.new (λ s. HasAsked s at
+        (Wanted.Input input.now) result (station_after K.keeping keeper.new)) }
+    ensures reopen { tells_reopen result ≡ K.keeping.is_broken keeper.new }
+    ensures shut { K.keeping.is_broken keeper.old ≡ true → (keeper.new ≡ keeper.old) × IsUnavailable
+        result }
 {
     match answer_one(keeper, input, at) {
         Ok(Answer::Done(reply)) => Told::Accepted(reply.count),
@@ -173,14 +169,13 @@ fn ask_input<K: Keeper>(alloc: Global, keeper: &mut K, input: &Input<'_>, at: Mo
 
 /// Calls the station for a request. A report isn't read yet.
 pub(crate) fn ask<K: Keeper>(alloc: Global, keeper: &mut K, wanted: &Wanted<'_>, at: Moment) -> Told
-    ensures premise { KeepsPremise K.is_clean K.is_sound keeper.old keeper.new }
-    ensures asked { (s : State) → K.keeps keeper.old s → K.is_broken keeper.old ≡ false
-        → K.is_sound keeper.new
-        → HasAsked s at wanted.now result (station_after
-        (keeping K.keeps K.is_clean K.is_sound K.is_broken K.may_find K.may_fail) keeper.new) }
-    ensures told { K.is_broken keeper.old ≡ false → tells_reopen result ≡ K.is_broken keeper.new }
-    ensures same { StaysIfBroken (K.is_broken keeper.old) keeper.old keeper.new }
-    ensures shut { K.is_broken keeper.old ≡ true → HasAskedShut at wanted.now result }
+    ensures premise { KeepsSound K.keeping keeper.old keeper.new }
+    ensures asked { IfWorks K.keeping keeper.old keeper.new
+        (λ s. HasAsked s at wanted.now result (station_after K.keeping keeper.new)) }
+    ensures told { K.keeping.is_broken keeper.old ≡ false → tells_reopen result
+        ≡ K.keeping.is_broken keeper.new }
+    ensures same { StaysIfBroken K.keeping keeper.old keeper.new }
+    ensures shut { K.keeping.is_broken keeper.old ≡ true → HasAskedShut at wanted.now result }
 {
     match wanted {
         Wanted::Fault(fault) => fault_told(alloc, fault),

@@ -1,6 +1,6 @@
 //! One connection.
 ghost use Rattle.std.specs.Prelude.{◌≡◌, ◌+◌, ◌≤◌, true, false, Err, IfOk};
-ghost use Rattle.station_core.specs.Keeping.{KeepsPremise, StaysIfBroken, keeping};
+ghost use Rattle.station_core.specs.Keeping.{IfWorks, KeepsSound, StaysIfBroken};
 ghost use Rattle.station_core.specs.Step.{State};
 ghost use Rattle.http_desk.specs.Told.{tells_reopen};
 ghost use Rattle.http_desk.specs.Came.{HasRequest};
@@ -38,14 +38,13 @@ pub enum ServeFault {
 /// Calls the station for a received request.
 fn told_for<K: Keeper>(alloc: Global, keeper: &mut K, bytes: &[u8], came: Came, at: Moment) -> Told
     requires request { HasRequest bytes.now came }
-    ensures premise { KeepsPremise K.is_clean K.is_sound keeper.old keeper.new }
-    ensures told { (s : State) → K.keeps keeper.old s → K.is_broken keeper.old ≡ false
-        → K.is_sound keeper.new
-        → IsToldFor bytes.now s at result (station_after
-        (keeping K.keeps K.is_clean K.is_sound K.is_broken K.may_find K.may_fail) keeper.new) }
-    ensures tells { K.is_broken keeper.old ≡ false → tells_reopen result ≡ K.is_broken keeper.new }
-    ensures same { StaysIfBroken (K.is_broken keeper.old) keeper.old keeper.new }
-    ensures shut { K.is_broken keeper.old ≡ true → IsToldShut bytes.now at result }
+    ensures premise { KeepsSound K.keeping keeper.old keeper.new }
+    ensures told { IfWorks K.keeping keeper.old keeper.new
+        (λ s. IsToldFor bytes.now s at result (station_after K.keeping keeper.new)) }
+    ensures tells { K.keeping.is_broken keeper.old ≡ false → tells_reopen result
+        ≡ K.keeping.is_broken keeper.new }
+    ensures same { StaysIfBroken K.keeping keeper.old keeper.new }
+    ensures shut { K.keeping.is_broken keeper.old ≡ true → IsToldShut bytes.now at result }
 {
     match wanted(alloc, bytes, came) {
         Ok(wanted) => ask(alloc, keeper, &wanted, at),
@@ -61,7 +60,7 @@ pub fn serve_one<K: Keeper, I: ByteIn, O: ByteOut>(
     writer: &mut O,
     at: Moment,
 ) -> Result<Served, ServeFault>
-    ensures premise { KeepsPremise K.is_clean K.is_sound keeper.old keeper.new }
+    ensures premise { KeepsSound K.keeping keeper.old keeper.new }
 
     // If reading ends within the request, nothing is written or changed. The number of reads is
     // limited in every case.
@@ -78,39 +77,31 @@ pub fn serve_one<K: Keeper, I: ByteIn, O: ByteOut>(
 
     // The answer to the received bytes was written, or a prefix of it, and the keeper keeps the
     // state after it.
-    ensures served { (s : State) → K.keeps keeper.old s → K.is_broken keeper.old ≡ false
-        → K.is_sound keeper.new
-        → HasServed s at (added (I.given reader.old) (I.given reader.new))
-        (O.taken writer.old) (O.taken writer.new) (station_after
-        (keeping K.keeps K.is_clean K.is_sound K.is_broken K.may_find K.may_fail) keeper.new)
-        result }
+    ensures served { IfWorks K.keeping keeper.old keeper.new (λ s. HasServed s at
+        (added (I.given reader.old) (I.given reader.new)) (O.taken writer.old) (O.taken writer.new)
+        (station_after K.keeping keeper.new) result) }
 
     // Once a 200 to a POST has begun, reopening finds the state after that step, and no other.
-    ensures begun { (s : State) → K.keeps keeper.old s → K.is_broken keeper.old ≡ false
-        → K.is_sound keeper.new
-        → IsPosted (added (I.given reader.old) (I.given reader.new))
-        → BeginsAs200 (added (O.taken writer.old) (O.taken writer.new))
-        → IsAfterStep (added (I.given reader.old) (I.given reader.new)) s at
-        (K.may_find keeper.new) }
+    ensures begun { IfWorks K.keeping keeper.old keeper.new (λ s. IsPosted
+        (added (I.given reader.old) (I.given reader.new)) → BeginsAs200
+        (added (O.taken writer.old) (O.taken writer.new)) → IsAfterStep
+        (added (I.given reader.old) (I.given reader.new)) s at (K.keeping.may_find keeper.new)) }
 
     // Once 503 has begun, the station works and nothing has changed, or it broke at the request's
     // own input.
-    ensures unavailable { (s : State) → K.keeps keeper.old s → K.is_broken keeper.old ≡ false
-        → K.is_sound keeper.new
-        → BeginsAs503 (added (O.taken writer.old) (O.taken writer.new))
-        → IsUnchangedOrBroken (added (I.given reader.old) (I.given reader.new)) s at (station_after
-        (keeping K.keeps K.is_clean K.is_sound K.is_broken K.may_find K.may_fail) keeper.new) }
+    ensures unavailable { IfWorks K.keeping keeper.old keeper.new (λ s. BeginsAs503
+        (added (O.taken writer.old) (O.taken writer.new)) → IsUnchangedOrBroken
+        (added (I.given reader.old) (I.given reader.new)) s at (station_after K.keeping keeper.new)) }
 
     // It reports that the station must be opened again exactly if this connection broke it.
-    ensures told { (s : State) → K.keeps keeper.old s → K.is_broken keeper.old ≡ false
-        → K.is_sound keeper.new
-        → IfOk result (λ served. served.reopen ≡ K.is_broken keeper.new) }
+    ensures told { IfWorks K.keeping keeper.old keeper.new
+        (λ s. IfOk result (λ served. served.reopen ≡ K.keeping.is_broken keeper.new)) }
 
     // A broken station stays as it is, and no answer depends on its state.
-    ensures same { StaysIfBroken (K.is_broken keeper.old) keeper.old keeper.new }
-    ensures reopen { K.is_broken keeper.old ≡ true
-        → HasServedShut at (added (I.given reader.old) (I.given reader.new))
-        (O.taken writer.old) (O.taken writer.new) result }
+    ensures same { StaysIfBroken K.keeping keeper.old keeper.new }
+    ensures reopen { K.keeping.is_broken keeper.old ≡ true → HasServedShut at
+        (added (I.given reader.old) (I.given reader.new)) (O.taken writer.old) (O.taken writer.new)
+        result }
 {
     let mut bytes = Vec::new(alloc);
     match read_request(alloc, reader, &mut bytes) {

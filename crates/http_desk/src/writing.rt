@@ -1,6 +1,6 @@
 //! Writing an answer.
 ghost use Rattle.std.specs.Prelude.{◌≡◌, Bool, true, false, Err};
-ghost use Rattle.station_core.specs.Keeping.{IsReadersFault, OnlyReads, StaysIfBroken, keeping};
+ghost use Rattle.station_core.specs.Keeping.{IfWorks, IsReadersFault, OnlyReads, StaysIfBroken};
 ghost use Rattle.station_core.specs.Step.{State};
 ghost use Rattle.http_desk.specs.Reply.{ok_answer};
 ghost use Rattle.http_desk.specs.Serving.{unavailable, StopsServing};
@@ -70,16 +70,13 @@ fn answer_report<K: Keeper, O: ByteOut>(
     writer: &mut O,
     printout: Printout,
 ) -> Result<Served, ServeFault>
-    ensures reads { OnlyReads (keeping K.keeps K.is_clean K.is_sound K.is_broken K.may_find
-        K.may_fail) keeper.old keeper.new }
+    ensures reads { OnlyReads K.keeping keeper.old keeper.new }
     ensures writes { StopsServing (O.taken writer.old) (O.taken writer.new) result }
-    ensures reported { (s : State) → K.keeps keeper.old s → K.is_broken keeper.old ≡ false
-        → K.is_sound keeper.new
-        → HasReported s printout (O.taken writer.old) (O.taken writer.new) result }
-    ensures same { StaysIfBroken (K.is_broken keeper.old) keeper.old keeper.new }
-    ensures shut { K.is_broken keeper.old ≡ true
-        → (reopen : Bool) × HasSent 503 reopen unavailable (O.taken writer.old) (O.taken writer.new)
-        result }
+    ensures reported { IfWorks K.keeping keeper.old keeper.new
+        (λ s. HasReported s printout (O.taken writer.old) (O.taken writer.new) result) }
+    ensures same { StaysIfBroken K.keeping keeper.old keeper.new }
+    ensures shut { K.keeping.is_broken keeper.old ≡ true → (reopen : Bool) × HasSent 503 reopen
+        unavailable (O.taken writer.old) (O.taken writer.new) result }
     ensures read { result ≡ Err ServeFault.Read → ⊥ }
 {
     let Ok(head) = report_head(alloc, &printout) else {
@@ -118,16 +115,15 @@ pub(crate) fn write_told<K: Keeper, O: ByteOut>(
     writer: &mut O,
     told: &Told,
 ) -> Result<Served, ServeFault>
-    ensures reads { OnlyReads (keeping K.keeps K.is_clean K.is_sound K.is_broken K.may_find
-        K.may_fail) keeper.old keeper.new }
+    ensures reads { OnlyReads K.keeping keeper.old keeper.new }
     ensures writes { StopsServing (O.taken writer.old) (O.taken writer.new) result }
-    ensures written { (s : State)
-        → ((name : AnyPrintout) → told.now ≡ Told.Report name → K.keeps keeper.old s
-        × (K.is_broken keeper.old ≡ false)) → K.is_sound keeper.new
-        → HasWritten told.now s (O.taken writer.old) (O.taken writer.new) result }
-    ensures same { StaysIfBroken (K.is_broken keeper.old) keeper.old keeper.new }
-    ensures shut { K.is_broken keeper.old ≡ true
-        → HasWrittenShut told.now (O.taken writer.old) (O.taken writer.new) result }
+    ensures written { (s : State) → ((name : AnyPrintout) → told.now ≡ Told.Report name
+        → K.keeping.keeps keeper.old s × (K.keeping.is_broken keeper.old ≡ false))
+        → K.keeping.is_sound keeper.new → HasWritten told.now s (O.taken writer.old)
+        (O.taken writer.new) result }
+    ensures same { StaysIfBroken K.keeping keeper.old keeper.new }
+    ensures shut { K.keeping.is_broken keeper.old ≡ true → HasWrittenShut told.now
+        (O.taken writer.old) (O.taken writer.new) result }
     ensures read { result ≡ Err ServeFault.Read → ⊥ }
 {
     match told {

@@ -5,6 +5,7 @@ use Rattle.map_state.specs.Kept.{count_under, kept_under}
 use Rattle.map_state.specs.Maps.{cargo_of}
 use Rattle.map_state.specs.Summed.{IsSummed}
 use Rattle.map_state.specs.declared.state.MapState.{MapState}
+use Rattle.state_store.specs.Store.{Storing}
 
 abbrev pub state_of : MapState → State
 state_of k = record { cargo = cargo_of k; kept_keys = kept_under k.kept_keys; kept_texts = count_under k.kept_texts }
@@ -15,3 +16,7 @@ pub record Shows (k : MapState) (s : State) : Type 0 where
   pub is : state_of k ≡ s
   pub room : has_room s.cargo ≡ true
   pub summed : IsSummed k.book
+
+-- memory is sound, and reopening finds nothing, since nothing survives a crash
+abbrev pub in_memory : Storing MapState
+in_memory = record { shows = λ k x. Shows k x.now; is_clean = λ k. Unit {0}; is_sound = λ k. Unit {0}; may_find = λ k found. ⊥ }

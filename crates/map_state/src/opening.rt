@@ -13,8 +13,8 @@ use std::collections::{BTreeMap, HashMap};
 impl MapState {
     /// Returns the state of a new station, outside a transaction.
     pub fn new(alloc: Global, here: Airport) -> MapState
-        ensures shows { ⟦<MapState as StateStore>⟧.shows result (at_rest (opening here)) }
-        ensures sound { ⟦<MapState as StateStore>⟧.is_sound result }
+        ensures shows { ⟦<MapState as StateStore>⟧.storing.shows result (at_rest (opening here)) }
+        ensures sound { ⟦<MapState as StateStore>⟧.storing.is_sound result }
     {
         MapState {
             alloc,

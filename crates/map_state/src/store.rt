@@ -2,7 +2,7 @@
 #![tactic(auto, using(crate::proofs::Surviving::survives_so, crate::proofs::Surviving::leaves_so, crate::proofs::Surviving::cargo_is))]
 
 ghost use Rattle.std.specs.Prelude.{◌≡◌, ◌≤◌};
-ghost use Rattle.map_state.specs.Shown.{Shows};
+ghost use Rattle.map_state.specs.Shown.{in_memory};
 ghost use Rattle.station_core.specs.Step.{most_rows};
 
 use crate::asked::{lines, messages, movements};
@@ -27,14 +27,7 @@ fn count(len: usize) -> u32
 }
 
 impl StateStore for MapState {
-    ghost shows = { λ k x. Shows k x.now };
-
-    ghost is_clean = { λ k. Unit {0} };
-
-    ghost is_sound = { λ k. Unit {0} };
-
-    // Nothing survives a crash, so reopening finds nothing.
-    ghost may_find = { λ k found. ⊥ };
+    ghost storing = { in_memory };
 
     ghost settled = { λ k s shown sound found finds. absurd finds };
 

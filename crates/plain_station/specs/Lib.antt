@@ -1,6 +1,7 @@
 pub mod Aboard
 pub mod Bounds
 pub mod Doing
+pub mod Handing
 pub mod Kept
 pub mod Lists
 pub mod Next

@@ -1,4 +1,6 @@
 -- The state of a plain station.
+use Rattle.std.specs.Prelude.{◌≡◌, false}
+use Rattle.station_core.specs.Keeping.{Keeping}
 use Rattle.station_core.specs.Step.{State}
 use Rattle.plain_station.specs.Lists.{cargo_of}
 use Rattle.plain_station.specs.Kept.{kept_under, kept_of}
@@ -6,3 +8,14 @@ use Rattle.plain_station.specs.declared.station.PlainStation.{PlainStation}
 
 abbrev pub state_of : PlainStation → State
 state_of station = record { cargo = cargo_of station.cargo.lists; kept_keys = kept_under station.kept_keys.items; kept_texts = kept_of station.kept_texts.items }
+
+-- a keeper in memory is never broken, and nothing outlives it
+abbrev pub in_memory : {K : Type 0} → (K → State) → Keeping K
+in_memory state = record {
+  keeps = λ k s. state k ≡ s;
+  is_clean = λ k. Unit {0};
+  is_sound = λ k. Unit {0};
+  is_broken = λ k. false;
+  may_find = λ k found. ⊥;
+  may_fail = ⊥;
+}

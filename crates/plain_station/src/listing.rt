@@ -1,12 +1,9 @@
 //! The readers of flights and expectations. They hand out rows until the sink stops, or none if
 //! memory runs out.
-ghost use Rattle.std.specs.Prelude.{◌≡◌, ◌≤◌, length, sum_by, List, ℕ, take, IsSome, IfOk, OnOk, OnErr, IfErr};
-ghost use Rattle.row_sinks.specs.Handed.{HandedOut};
+ghost use Rattle.std.specs.Prelude.{◌≡◌, ◌≤◌, length, sum_by, IsSome, IfOk};
 ghost use Rattle.shipment_machine.specs.Book.{built};
-ghost use Rattle.station_core.specs.Keeping.{IsMemory};
 ghost use Rattle.station_core.specs.Readers.{AreNoted, flight_row, AreFlightRows, AreExpectations, expected_row, AreExpectedBy};
-ghost use Rattle.station_core.specs.declared.rows.ExpectedRow.{ExpectedRow as AnyExpected};
-ghost use Rattle.station_core.specs.declared.rows.FlightRow.{FlightRow as AnyFlight};
+ghost use Rattle.plain_station.specs.Handing.{HandsRows};
 ghost use Rattle.plain_station.specs.Lists.{cargo_of};
 ghost use Rattle.imp_fields.specs.Flight.{most_waybills};
 
@@ -75,14 +72,8 @@ impl PlainCargo {
 
     /// Hands out the noted flights with their loads, by written form and then by day.
     pub(crate) fn flights<S: Sink<FlightRow>>(&self, sink: &mut S) -> Result<(), ActFault>
-        ensures rows { OnOk result ((rows : List AnyFlight)
-            × AreFlightRows (cargo_of self.now.lists) rows
-            × HandedOut S.takes rows sink.old sink.new) }
-        ensures beginning { OnErr result ((rows : List AnyFlight)
-            → AreFlightRows (cargo_of self.now.lists) rows → (n : ℕ)
-            × HandedOut S.takes (take n rows) sink.old sink.new) }
-        ensures memory { IfErr result IsMemory }
-        ensures none { OnErr result (sink.new ≡ sink.old) }
+        ensures { HandsRows S.takes (AreFlightRows (cargo_of self.now.lists)) sink.old sink.new
+            result }
     {
         let Ok(flights) = self.flight_rows() else {
             return Err(ActFault::Memory);
@@ -135,14 +126,8 @@ impl PlainCargo {
         query: &ExpectedQuery,
         sink: &mut S,
     ) -> Result<(), ActFault>
-        ensures rows { OnOk result ((rows : List AnyExpected)
-            × AreExpectedBy query.now (cargo_of self.now.lists) rows
-            × HandedOut S.takes rows sink.old sink.new) }
-        ensures beginning { OnErr result ((rows : List AnyExpected)
-            → AreExpectedBy query.now (cargo_of self.now.lists) rows → (n : ℕ)
-            × HandedOut S.takes (take n rows) sink.old sink.new) }
-        ensures memory { IfErr result IsMemory }
-        ensures none { OnErr result (sink.new ≡ sink.old) }
+        ensures { HandsRows S.takes (AreExpectedBy query.now (cargo_of self.now.lists)) sink.old
+            sink.new result }
     {
         let Ok(expected) = self.expected_rows(query) else {
             return Err(ActFault::Memory);

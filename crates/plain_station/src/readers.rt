@@ -1,13 +1,12 @@
 //! The readers of the cargo. Those of rows hand them out until the sink stops, or hand out none if
 //! memory runs out.
-ghost use Rattle.std.specs.Prelude.{◌≡◌, List, ◌<◌, ℕ, ◌+◌, ◌++◌, [], ◌∷◌, if◌then◌else◌, length, get_or, take, IsSome, IfOk, OnOk, OnErr, IfErr};
+ghost use Rattle.std.specs.Prelude.{◌≡◌, ◌<◌, ◌+◌, ◌++◌, [], ◌∷◌, if◌then◌else◌, length, get_or, IsSome, IfOk, OnOk};
 ghost use Rattle.agent_stock.specs.Runs.{AreStockRuns};
 ghost use Rattle.agent_stock.specs.declared.runs.StockRun.{StockRun};
-ghost use Rattle.row_sinks.specs.Handed.{HandedOut};
 ghost use Rattle.shipment_machine.specs.Amount.{less};
 ghost use Rattle.shipment_machine.specs.Book.{store};
-ghost use Rattle.station_core.specs.Keeping.{IsMemory};
 ghost use Rattle.station_core.specs.Readers.{told_of, waybill_of, is_irregular, irregular_row, irregular_rows, book_by, is_in_shed, shed_row, shed_rows, book_rows, message, pending_messages, trail_row, trail_rows, trail_by};
+ghost use Rattle.plain_station.specs.Handing.{HandsRows};
 ghost use Rattle.plain_station.specs.Lists.{cargo_of, trail_row as kept_line, texts_in};
 
 use crate::asked::{keep_lines, keep_movements};
@@ -32,14 +31,8 @@ impl PlainCargo {
 
     /// Hands out the stock as maximal runs of one holder, ascending.
     pub(crate) fn stock<S: Sink<StockRun>>(&self, sink: &mut S) -> Result<(), ActFault>
-        ensures rows { OnOk result ((rows : List StockRun)
-            × AreStockRuns (cargo_of self.now.lists).holders rows
-            × HandedOut S.takes rows sink.old sink.new) }
-        ensures beginning { OnErr result ((rows : List StockRun)
-            → AreStockRuns (cargo_of self.now.lists).holders rows → (n : ℕ)
-            × HandedOut S.takes (take n rows) sink.old sink.new) }
-        ensures memory { IfErr result IsMemory }
-        ensures none { OnErr result (sink.new ≡ sink.old) }
+        ensures { HandsRows S.takes (AreStockRuns (cargo_of self.now.lists).holders) sink.old
+            sink.new result }
     {
         let Ok(runs) = self.lists.stock.runs(self.lists.alloc) else {
             return Err(ActFault::Memory);
@@ -114,13 +107,8 @@ impl PlainCargo {
 
     /// Hands out the waybills with missing or found pieces, ascending.
     pub(crate) fn irregular<S: Sink<IrregularRow>>(&self, sink: &mut S) -> Result<(), ActFault>
-        ensures rows { OnOk result
-            (HandedOut S.takes (irregular_rows (cargo_of self.now.lists)) sink.old sink.new) }
-        ensures beginning { OnErr result ((n : ℕ)
-            × HandedOut S.takes (take n (irregular_rows (cargo_of self.now.lists))) sink.old
-            sink.new) }
-        ensures memory { IfErr result IsMemory }
-        ensures none { OnErr result (sink.new ≡ sink.old) }
+        ensures { HandsRows S.takes (λ rows. rows ≡ irregular_rows (cargo_of self.now.lists))
+            sink.old sink.new result }
     {
         let Ok(waybills) = self.irregular_rows() else {
             return Err(ActFault::Memory);
@@ -188,12 +176,8 @@ impl PlainCargo {
 
     /// Hands out the waybills with pieces in store, ascending.
     pub(crate) fn shed<S: Sink<ShedRow>>(&self, sink: &mut S) -> Result<(), ActFault>
-        ensures rows { OnOk result
-            (HandedOut S.takes (shed_rows (cargo_of self.now.lists)) sink.old sink.new) }
-        ensures beginning { OnErr result ((n : ℕ)
-            × HandedOut S.takes (take n (shed_rows (cargo_of self.now.lists))) sink.old sink.new) }
-        ensures memory { IfErr result IsMemory }
-        ensures none { OnErr result (sink.new ≡ sink.old) }
+        ensures { HandsRows S.takes (λ rows. rows ≡ shed_rows (cargo_of self.now.lists)) sink.old
+            sink.new result }
     {
         let Ok(stored) = self.shed_rows() else {
             return Err(ActFault::Memory);
@@ -233,12 +217,8 @@ impl PlainCargo {
         query: &BookQuery,
         sink: &mut S,
     ) -> Result<(), ActFault>
-        ensures rows { OnOk result
-            (HandedOut S.takes (book_by query.now (cargo_of self.now.lists)) sink.old sink.new) }
-        ensures beginning { OnErr result ((n : ℕ) × HandedOut S.takes
-            (take n (book_by query.now (cargo_of self.now.lists))) sink.old sink.new) }
-        ensures memory { IfErr result IsMemory }
-        ensures none { OnErr result (sink.new ≡ sink.old) }
+        ensures { HandsRows S.takes (λ rows. rows ≡ book_by query.now (cargo_of self.now.lists))
+            sink.old sink.new result }
     {
         let Ok(moves) = self.movements(query) else {
             return Err(ActFault::Memory);
@@ -271,13 +251,8 @@ impl PlainCargo {
 
     /// Hands out the unconfirmed messages, with their numbers from 1.
     pub(crate) fn pending<S: Sink<Message>>(&self, sink: &mut S) -> Result<(), ActFault>
-        ensures rows { OnOk result
-            (HandedOut S.takes (pending_messages (cargo_of self.now.lists)) sink.old sink.new) }
-        ensures beginning { OnErr result ((n : ℕ)
-            × HandedOut S.takes (take n (pending_messages (cargo_of self.now.lists))) sink.old
-            sink.new) }
-        ensures memory { IfErr result IsMemory }
-        ensures none { OnErr result (sink.new ≡ sink.old) }
+        ensures { HandsRows S.takes (λ rows. rows ≡ pending_messages (cargo_of self.now.lists))
+            sink.old sink.new result }
     {
         let Ok(messages) = self.pending_rows() else {
             return Err(ActFault::Memory);
@@ -322,12 +297,8 @@ impl PlainCargo {
         query: &TrailQuery,
         sink: &mut S,
     ) -> Result<(), ActFault>
-        ensures rows { OnOk result
-            (HandedOut S.takes (trail_by query.now (cargo_of self.now.lists)) sink.old sink.new) }
-        ensures beginning { OnErr result ((n : ℕ) × HandedOut S.takes
-            (take n (trail_by query.now (cargo_of self.now.lists))) sink.old sink.new) }
-        ensures memory { IfErr result IsMemory }
-        ensures none { OnErr result (sink.new ≡ sink.old) }
+        ensures { HandsRows S.takes (λ rows. rows ≡ trail_by query.now (cargo_of self.now.lists))
+            sink.old sink.new result }
     {
         let Ok(lines) = self.lines(query) else {
             return Err(ActFault::Memory);

@@ -1,14 +1,11 @@
-ghost use Rattle.std.specs.Prelude.{◌≡◌, ℕ, List, take, false, None, Ok, IfOk, IfErr, OnOk, OnErr, string_bytes};
+ghost use Rattle.std.specs.Prelude.{◌≡◌, false, None, Ok, string_bytes};
 ghost use Rattle.agent_stock.specs.Runs.{AreStockRuns};
-ghost use Rattle.agent_stock.specs.declared.runs.StockRun.{StockRun as AnyRun};
 ghost use Rattle.desk_commands.specs.Command.{command_text};
-ghost use Rattle.plain_station.specs.State.{state_of};
-ghost use Rattle.station_core.specs.Keeping.{Acts, Breaks, IsMemory};
-ghost use Rattle.row_sinks.specs.Handed.{HandedOut};
+ghost use Rattle.plain_station.specs.Handing.{HandsRows};
+ghost use Rattle.plain_station.specs.State.{in_memory, state_of};
+ghost use Rattle.station_core.specs.Keeping.{Acts, Breaks};
 ghost use Rattle.station_core.specs.Readers.{waybill_of, shed_rows, AreFlightRows, AreExpectedBy, irregular_rows, book_by, pending_messages, trail_by};
 ghost use Rattle.station_core.specs.Step.{opening};
-ghost use Rattle.station_core.specs.declared.rows.ExpectedRow.{ExpectedRow as AnyExpected};
-ghost use Rattle.station_core.specs.declared.rows.FlightRow.{FlightRow as AnyFlight};
 ghost use Rattle.station_core.specs.declared.input.Input.TheVariants.{Keyed, Wire};
 
 use crate::cargo::PlainCargo;
@@ -140,17 +137,7 @@ impl PlainStation {
 }
 
 impl Keeper for PlainStation {
-    ghost keeps = { λ k s. state_of k ≡ s };
-
-    ghost is_clean = { λ k. Unit {0} };
-
-    ghost is_sound = { λ k. Unit {0} };
-
-    ghost is_broken = { λ k. false };
-
-    ghost may_find = { λ k found. ⊥ };
-
-    ghost may_fail = { ⊥ };
+    ghost keeping = { in_memory state_of };
 
     ghost settled = { λ k s keeps sound found finds. absurd finds };
 
@@ -180,40 +167,24 @@ impl Keeper for PlainStation {
     }
 
     fn stock<S: Sink<StockRun>>(&mut self, sink: &mut S) -> Result<(), ActFault>
-        ensures rows { OnOk result ((rows : List AnyRun)
-            × AreStockRuns (state_of self.old).cargo.holders rows
-            × HandedOut S.takes rows sink.old sink.new) }
-        ensures beginning { OnErr result ((rows : List AnyRun)
-            → AreStockRuns (state_of self.old).cargo.holders rows → (n : ℕ)
-            × HandedOut S.takes (take n rows) sink.old sink.new) }
-        ensures memory { IfErr result IsMemory }
-        ensures none { OnErr result (sink.new ≡ sink.old) }
+        ensures hands { HandsRows S.takes (AreStockRuns (state_of self.old).cargo.holders) sink.old
+            sink.new result }
         ensures as_before { self.new ≡ self.old }
     {
         self.cargo.stock(sink)
     }
 
     fn shed<S: Sink<ShedRow>>(&mut self, sink: &mut S) -> Result<(), ActFault>
-        ensures rows { OnOk result
-            (HandedOut S.takes (shed_rows (state_of self.old).cargo) sink.old sink.new) }
-        ensures beginning { OnErr result ((n : ℕ)
-            × HandedOut S.takes (take n (shed_rows (state_of self.old).cargo)) sink.old sink.new) }
-        ensures memory { IfErr result IsMemory }
-        ensures none { OnErr result (sink.new ≡ sink.old) }
+        ensures hands { HandsRows S.takes (λ rows. rows ≡ shed_rows (state_of self.old).cargo)
+            sink.old sink.new result }
         ensures as_before { self.new ≡ self.old }
     {
         self.cargo.shed(sink)
     }
 
     fn flights<S: Sink<FlightRow>>(&mut self, sink: &mut S) -> Result<(), ActFault>
-        ensures rows { OnOk result ((rows : List AnyFlight)
-            × AreFlightRows (state_of self.old).cargo rows
-            × HandedOut S.takes rows sink.old sink.new) }
-        ensures beginning { OnErr result ((rows : List AnyFlight)
-            → AreFlightRows (state_of self.old).cargo rows → (n : ℕ)
-            × HandedOut S.takes (take n rows) sink.old sink.new) }
-        ensures memory { IfErr result IsMemory }
-        ensures none { OnErr result (sink.new ≡ sink.old) }
+        ensures hands { HandsRows S.takes (AreFlightRows (state_of self.old).cargo) sink.old
+            sink.new result }
         ensures as_before { self.new ≡ self.old }
     {
         self.cargo.flights(sink)
@@ -224,52 +195,32 @@ impl Keeper for PlainStation {
         query: &ExpectedQuery,
         sink: &mut S,
     ) -> Result<(), ActFault>
-        ensures rows { OnOk result ((rows : List AnyExpected)
-            × AreExpectedBy query.now (state_of self.old).cargo rows
-            × HandedOut S.takes rows sink.old sink.new) }
-        ensures beginning { OnErr result ((rows : List AnyExpected)
-            → AreExpectedBy query.now (state_of self.old).cargo rows → (n : ℕ)
-            × HandedOut S.takes (take n rows) sink.old sink.new) }
-        ensures memory { IfErr result IsMemory }
-        ensures none { OnErr result (sink.new ≡ sink.old) }
+        ensures hands { HandsRows S.takes (AreExpectedBy query.now (state_of self.old).cargo)
+            sink.old sink.new result }
         ensures as_before { self.new ≡ self.old }
     {
         self.cargo.expected_by(query, sink)
     }
 
     fn irregular<S: Sink<IrregularRow>>(&mut self, sink: &mut S) -> Result<(), ActFault>
-        ensures rows { OnOk result
-            (HandedOut S.takes (irregular_rows (state_of self.old).cargo) sink.old sink.new) }
-        ensures beginning { OnErr result ((n : ℕ)
-            × HandedOut S.takes (take n (irregular_rows (state_of self.old).cargo)) sink.old
-            sink.new) }
-        ensures memory { IfErr result IsMemory }
-        ensures none { OnErr result (sink.new ≡ sink.old) }
+        ensures hands { HandsRows S.takes (λ rows. rows ≡ irregular_rows (state_of self.old).cargo)
+            sink.old sink.new result }
         ensures as_before { self.new ≡ self.old }
     {
         self.cargo.irregular(sink)
     }
 
     fn book_by<S: Sink<BookRow>>(&mut self, query: &BookQuery, sink: &mut S) -> Result<(), ActFault>
-        ensures rows { OnOk result
-            (HandedOut S.takes (book_by query.now (state_of self.old).cargo) sink.old sink.new) }
-        ensures beginning { OnErr result ((n : ℕ) × HandedOut S.takes
-            (take n (book_by query.now (state_of self.old).cargo)) sink.old sink.new) }
-        ensures memory { IfErr result IsMemory }
-        ensures none { OnErr result (sink.new ≡ sink.old) }
+        ensures hands { HandsRows S.takes
+            (λ rows. rows ≡ book_by query.now (state_of self.old).cargo) sink.old sink.new result }
         ensures as_before { self.new ≡ self.old }
     {
         self.cargo.book_by(query, sink)
     }
 
     fn pending<S: Sink<Message>>(&mut self, sink: &mut S) -> Result<(), ActFault>
-        ensures rows { OnOk result
-            (HandedOut S.takes (pending_messages (state_of self.old).cargo) sink.old sink.new) }
-        ensures beginning { OnErr result ((n : ℕ)
-            × HandedOut S.takes (take n (pending_messages (state_of self.old).cargo)) sink.old
-            sink.new) }
-        ensures memory { IfErr result IsMemory }
-        ensures none { OnErr result (sink.new ≡ sink.old) }
+        ensures hands { HandsRows S.takes
+            (λ rows. rows ≡ pending_messages (state_of self.old).cargo) sink.old sink.new result }
         ensures as_before { self.new ≡ self.old }
     {
         self.cargo.pending(sink)
@@ -280,12 +231,8 @@ impl Keeper for PlainStation {
         query: &TrailQuery,
         sink: &mut S,
     ) -> Result<(), ActFault>
-        ensures rows { OnOk result
-            (HandedOut S.takes (trail_by query.now (state_of self.old).cargo) sink.old sink.new) }
-        ensures beginning { OnErr result ((n : ℕ) × HandedOut S.takes
-            (take n (trail_by query.now (state_of self.old).cargo)) sink.old sink.new) }
-        ensures memory { IfErr result IsMemory }
-        ensures none { OnErr result (sink.new ≡ sink.old) }
+        ensures hands { HandsRows S.takes
+            (λ rows. rows ≡ trail_by query.now (state_of self.old).cargo) sink.old sink.new result }
         ensures as_before { self.new ≡ self.old }
     {
         self.cargo.trail_by(query, sink)

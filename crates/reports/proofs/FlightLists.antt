@@ -1,6 +1,6 @@
 -- A cargo's noted flights, and what flights are to bring, are one list each, and so their reports have
 -- one text.
-use Rattle.std.proofs.Common.{◌≡◌, ◌∙◌, ap, sym, refl, ℕ, Bool, true, false, cond, Option, List, [], ◌∷◌}
+use Rattle.std.proofs.Common.{◌≡◌, ◌∙◌, ap, sym, refl, ℕ, true, false, cond, Option, List, [], ◌∷◌}
 use Rattle.std.specs.Prelude.{not, filter, map}
 use Rattle.shipment_machine.specs.Cargo.{Cargo}
 use Rattle.shipment_machine.specs.Flights.{same_flight_date}

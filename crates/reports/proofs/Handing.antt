@@ -1,17 +1,19 @@
 -- How a listing ends, by how a keeper handed out its rows.
-use Rattle.std.proofs.Common.{◌≡◌, ◌∙◌, ap, sym, subst, refl, inl, inr, ℕ, ◌<◌, Bool, Some, None, Result, Ok, Err, List, length, take, OnOk, OnErr, IfErr, true}
+use Rattle.std.proofs.Common.{◌≡◌, ◌∙◌, ap, sym, subst, refl, inl, inr, ℕ, ◌<◌, Bool, Some, None, Result, Ok, Err, List, length, take, OnOk, OnErr, IfErr, true, false}
 use Rattle.std.specs.Prelude.{filter}
 use Rattle.serde_json.specs.Data.{Data}
 use Rattle.row_sinks.specs.Handed.{HandedOut}
 use Rattle.station_core.specs.Given.{Given}
-use Rattle.station_core.specs.Keeping.{IsReadersFault}
+use Rattle.station_core.specs.Keeping.{IsReadersFault, Keeping}
+use Rattle.station_core.specs.Step.{State}
 use Rattle.station_core.specs.declared.answer.ActFault.{ActFault}
 use Rattle.reports.specs.declared.fault.ReportCause.{ReportCause}
 use Rattle.reports.specs.declared.fault.ReportCause.TheVariants as cause
 use Rattle.reports.specs.declared.fault.ReportFault.{ReportFault}
 use Rattle.reports.specs.declared.form.Form.{Form}
-use Rattle.reports.specs.Ended.{HasEndedBy, HasEndedEach, StopsWriting}
+use Rattle.reports.specs.Ended.{HasEndedBy, HasEndedEach, WritesReport, WritesRows, StopsWriting}
 use Rattle.reports.specs.Listings.{IsTextOf, rows_text}
+use Rattle.reports.specs.Picking.{AreOne, HaveBytes}
 use Rattle.reports.specs.Pieces.{end_piece}
 use Rattle.reports.specs.Progress.{Progress, Ends}
 use Rattle.reports.proofs.Choosing.{TakesRow, Hands, wanted_rows, same_form, beginning, all_rows}
@@ -142,59 +144,56 @@ module _ {P Row : Type 0} (line : Row → List ℕ) (json : Row → Data) (AreRo
   pub new_ended_each : HasEndedEach Open May (IsTextOf f line json AreRows (filter (wants p))) waiting old new r → HasEndedEach Open May (IsTextOf g line json AreRows (filter (wants q))) front given new r
   new_ended_each h = subst (λ (T : Type 0). T) (λ i. HasEndedEach Open May (IsTextOf (form_is i) line json AreRows (filter (wants (pick_is i)))) (waiting_is i) (given_is i) new r) h
 
--- every row of a reader
-module _ {Row : Type 0} (line : Row → List ℕ) (json : Row → Data) (f : Form) (AreRows : List Row → Type 0) (Open May : Type 0) (front : List ℕ) (old new : Given) (r : Result (Unit {0}) ReportFault) where
-  abbrev Wanted : List ℕ → Type 0
-  Wanted = IsTextOf f line json AreRows (filter (λ row. true))
-
-  abbrev Every : List ℕ → Type 0
-  Every = IsTextOf f line json AreRows (λ rows. rows)
-
-  to_every : (t : List ℕ) → Wanted t → Every t
-  to_every t (rows, are, text) = (rows, are, text ∙ ap (rows_text f line json) (all_rows rows))
-
-  from_every : (t : List ℕ) → Every t → Wanted t
-  from_every t (rows, are, text) = (rows, are, text ∙ sym (ap (rows_text f line json) (all_rows rows)))
-
-  pub every_ended : HasEndedBy Open May Wanted front old new r → HasEndedBy Open May Every front old new r
-  every_ended = known_as Open May Wanted Every front old new r to_every from_every
-
-  pub every_each : HasEndedEach Open May Wanted front old new r → HasEndedEach Open May Every front old new r
-  every_each = each_known_as Open May Wanted Every front old new r from_every
-
--- those that are picked of rows that are one list
-module _ {Row : Type 0} (line : Row → List ℕ) (json : Row → Data) (picked : List Row → List Row) (f : Form) (these : List Row) (Open May : Type 0) (front : List ℕ) (old new : Given) (r : Result (Unit {0}) ReportFault) where
-  abbrev These : List ℕ → Type 0
-  These = IsTextOf f line json (λ rows. rows ≡ these) picked
-
-  abbrev IsOne : List ℕ → Type 0
-  IsOne t = t ≡ rows_text f line json (picked these)
-
-  to_one : (t : List ℕ) → These t → IsOne t
-  to_one t (rows, are, text) = text ∙ ap (λ (list : List Row). rows_text f line json (picked list)) are
-
-  from_one : (t : List ℕ) → IsOne t → These t
-  from_one t text = (these, refl, text)
-
-  pub picked_ended : HasEndedBy Open May These front old new r → HasEndedBy Open May IsOne front old new r
-  picked_ended = known_as Open May These IsOne front old new r to_one from_one
-
-  pub picked_each : HasEndedEach Open May These front old new r → HasEndedEach Open May IsOne front old new r
-  picked_each = each_known_as Open May These IsOne front old new r from_one
-
--- rows that are one list, all of them
-module _ {Row : Type 0} (line : Row → List ℕ) (json : Row → Data) (f : Form) (these : List Row) (Open May : Type 0) (front : List ℕ) (old new : Given) (r : Result (Unit {0}) ReportFault) where
-  abbrev AllThese : List ℕ → Type 0
-  AllThese = IsTextOf f line json (λ rows. rows ≡ these) (λ rows. rows)
-
-  abbrev AreAll : List ℕ → Type 0
-  AreAll t = t ≡ rows_text f line json these
-
-  pub one_ended : HasEndedBy Open May AllThese front old new r → HasEndedBy Open May AreAll front old new r
-  one_ended = picked_ended line json (λ rows. rows) f these Open May front old new r
-
-  pub one_each : HasEndedEach Open May AllThese front old new r → HasEndedEach Open May AreAll front old new r
-  one_each = picked_each line json (λ rows. rows) f these Open May front old new r
-
 pub only : {Row : Type 0} (list : List Row) (these others : List Row) → these ≡ list → others ≡ list → these ≡ others
 only list these others are are_too = are ∙ sym are_too
+
+-- texts of a report that are known as others
+pub reported : {K : Type 0} (k : Keeping K) (Bytes : Type 0) (One : State → Type 0) (Is Are : State → List ℕ → Type 0) (front : List ℕ) (old new : K × Given) (r : Result (Unit {0}) ReportFault)
+    → Bytes → ((s : State) → One s) → ((s : State) (t : List ℕ) → Is s t → Are s t) → ((s : State) (t : List ℕ) → Are s t → Is s t)
+    → WritesRows k Bytes One Is front old new r → WritesReport k Are front old new r
+reported k Bytes One Is Are front old new r some one to from has = record {
+  reads = has.reads;
+  reopen = has.reopen;
+  writes = has.writes some;
+  ended = λ s keeps sound. known_as (k.is_broken old.0 ≡ false) k.may_fail (Is s) (Are s) front old.1 new.1 r (to s) (from s) (has.ended s keeps sound);
+  each = λ s keeps sound. each_known_as (k.is_broken old.0 ≡ false) k.may_fail (Is s) (Are s) front old.1 new.1 r (from s) (has.each s keeps sound (one s));
+}
+
+-- rows of which there is one list
+pub reported_rows : {K : Type 0} (k : Keeping K) (Bytes : Type 0) (One : State → Type 0) (Is : State → List ℕ → Type 0) (front : List ℕ) (old new : K × Given) (r : Result (Unit {0}) ReportFault)
+    → Bytes → ((s : State) → One s) → WritesRows k Bytes One Is front old new r → WritesReport k Is front old new r
+reported_rows k Bytes One Is front old new r some one has = reported k Bytes One Is Is front old new r some one (λ s t is. is) (λ s t is. is) has
+
+-- those that are picked of rows that are one list
+pub reported_these : {K Row : Type 0} (k : Keeping K) (line : Row → List ℕ) (json : Row → Data) (f : Form) (picked : List Row → List Row) (these : State → List Row) (front : List ℕ) (old new : K × Given) (r : Result (Unit {0}) ReportFault)
+    → HaveBytes line
+    → WritesRows k (HaveBytes line) (λ s. AreOne (λ rows. rows ≡ these s)) (λ s. IsTextOf f line json (λ rows. rows ≡ these s) picked) front old new r
+    → WritesReport k (λ s t. t ≡ rows_text f line json (picked (these s))) front old new r
+reported_these {Row = Row} k line json f picked these front old new r some has =
+    reported k (HaveBytes line) (λ s. AreOne (λ rows. rows ≡ these s)) (λ s. IsTextOf f line json (λ rows. rows ≡ these s) picked) (λ s t. t ≡ rows_text f line json (picked (these s))) front old new r some (λ s. only (these s))
+    (λ s t is. is.2 ∙ ap (λ (list : List Row). rows_text f line json (picked list)) is.1)
+    (λ s t text. (these s, refl, text)) has
+
+-- every row of a reader
+module _ {Row : Type 0} (line : Row → List ℕ) (json : Row → Data) (f : Form) (AreRows : List Row → Type 0) where
+  pub to_every : (t : List ℕ) → IsTextOf f line json AreRows (filter (λ row. true)) t → IsTextOf f line json AreRows (λ rows. rows) t
+  to_every t (rows, are, text) = (rows, are, text ∙ ap (rows_text f line json) (all_rows rows))
+
+  pub from_every : (t : List ℕ) → IsTextOf f line json AreRows (λ rows. rows) t → IsTextOf f line json AreRows (filter (λ row. true)) t
+  from_every t (rows, are, text) = (rows, are, text ∙ sym (ap (rows_text f line json) (all_rows rows)))
+
+pub reported_all : {K : Type 0} (k : Keeping K) (Bytes : Type 0) (One : State → Type 0) (Is Are : State → List ℕ → Type 0) (front : List ℕ) (old new : K × Given) (r : Result (Unit {0}) ReportFault)
+    → ((s : State) (t : List ℕ) → Is s t → Are s t) → ((s : State) (t : List ℕ) → Are s t → Is s t)
+    → WritesRows k Bytes One Is front old new r → WritesRows k Bytes One Are front old new r
+reported_all k Bytes One Is Are front old new r to from has = record {
+  reads = has.reads;
+  reopen = has.reopen;
+  writes = has.writes;
+  ended = λ s keeps sound. known_as (k.is_broken old.0 ≡ false) k.may_fail (Is s) (Are s) front old.1 new.1 r (to s) (from s) (has.ended s keeps sound);
+  each = λ s keeps sound one. each_known_as (k.is_broken old.0 ≡ false) k.may_fail (Is s) (Are s) front old.1 new.1 r (from s) (has.each s keeps sound one);
+}
+
+-- a report under another name
+pub reported_as : {K L : Type 0} (k : Keeping K) (Is : State → L → List ℕ → Type 0) {asked named : L} (front : List ℕ) (old new : K × Given) (r : Result (Unit {0}) ReportFault)
+    → asked ≡ named → WritesReport k (λ s. Is s named) front old new r → WritesReport k (λ s. Is s asked) front old new r
+reported_as k Is front old new r is has = subst (λ it. WritesReport k (λ s. Is s it) front old new r) (sym is) has

@@ -1,8 +1,9 @@
 -- Reports that broke off.
-use Rattle.std.specs.Prelude.{◌≡◌, ◌⊎◌, ℕ, ◌<◌, Bool, true, Result, Ok, Err, List, ◌++◌, length}
+use Rattle.std.specs.Prelude.{◌≡◌, ◌⊎◌, ℕ, ◌<◌, true, false, Result, Ok, Err, List, ◌++◌, length}
 use Rattle.station_core.specs.Given.{Given}
 use Rattle.station_core.specs.Ends.{Sent, HasCause, NoneFailed, OneFailed}
-use Rattle.station_core.specs.Keeping.{IsReadersFault}
+use Rattle.station_core.specs.Keeping.{IfSound, IsReadersFault, Keeping, OnlyReads}
+use Rattle.station_core.specs.Step.{State}
 use Rattle.station_core.specs.declared.answer.ActFault.TheVariants as act
 use Rattle.reports.specs.declared.fault.ReportCause.{ReportCause}
 use Rattle.reports.specs.declared.fault.ReportCause.TheVariants as cause
@@ -13,8 +14,10 @@ abbrev pub IsReopen : Result (Unit {0}) ReportFault → Type 0
 IsReopen result = result ≡ Err (record { sent = 0; cause = cause.Act act.Reopen })
 
 -- a broken station stays as it is, and so does the writer
-abbrev pub OnlyReopens : {K : Type 0} → Bool → Result (Unit {0}) ReportFault → K → K → Given → Given → Type 0
-OnlyReopens is_broken result old new from to = is_broken ≡ true → IsReopen result × (new ≡ old) × (to ≡ from)
+abbrev pub OnlyReopens : {K : Type 0} → Keeping K → K × Given → K × Given → Result (Unit {0}) ReportFault
+    → Type 0
+OnlyReopens k old new result =
+    k.is_broken old.0 ≡ true → IsReopen result × (new.0 ≡ old.0) × (new.1 ≡ old.1)
 
 -- on a station that isn't broken: the writer's fault, memory ran out, or the store's fault, if it
 -- may fail
@@ -74,3 +77,24 @@ HasEndedBy open_station may_fail Is front old new (Err e) =
 pub record HasEndedEach (open_station may_fail : Type 0) (Is : List ℕ → Type 0) (front : List ℕ) (old new : Given) (result : Result (Unit {0}) ReportFault) : Type 0 where
   pub text : (text : List ℕ) → Is text
       → HasEnded open_station may_fail (front ++ text) old new result
+
+-- A report with these texts, behind the text before it: the keeper is only read, a broken one
+-- reopens, and the writer got a text of the report or a prefix.
+pub record WritesReport {K : Type 0} (k : Keeping K) (Is : State → List ℕ → Type 0) (front : List ℕ) (old new : K × Given) (result : Result (Unit {0}) ReportFault) : Type 0 where
+  pub reads : OnlyReads k old.0 new.0
+  pub reopen : OnlyReopens k old new result
+  pub writes : StopsWriting front old.1 new.1 result
+  pub ended : IfSound k old.0 new.0 (λ s. HasEndedBy (k.is_broken old.0 ≡ false) k.may_fail (Is s)
+      front old.1 new.1 result)
+  pub each : IfSound k old.0 new.0 (λ s. HasEndedEach (k.is_broken old.0 ≡ false) k.may_fail (Is s)
+      front old.1 new.1 result)
+
+-- the same of rows of any kind, if each has a byte and there is one list of them
+pub record WritesRows {K : Type 0} (k : Keeping K) (HaveBytes : Type 0) (AreOne : State → Type 0) (Is : State → List ℕ → Type 0) (front : List ℕ) (old new : K × Given) (result : Result (Unit {0}) ReportFault) : Type 0 where
+  pub reads : OnlyReads k old.0 new.0
+  pub reopen : OnlyReopens k old new result
+  pub writes : HaveBytes → StopsWriting front old.1 new.1 result
+  pub ended : IfSound k old.0 new.0 (λ s. HasEndedBy (k.is_broken old.0 ≡ false) k.may_fail (Is s)
+      front old.1 new.1 result)
+  pub each : IfSound k old.0 new.0 (λ s. AreOne s
+      → HasEndedEach (k.is_broken old.0 ≡ false) k.may_fail (Is s) front old.1 new.1 result)

@@ -1,7 +1,7 @@
 //! Manifests of flights.
 ghost use Rattle.std.specs.Prelude.{◌≡◌, true, false, IfErr, IfOk, Err};
 ghost use Rattle.reports.specs.Manifest.{has_pieces, manifest_rows};
-ghost use Rattle.station_core.specs.Keeping.{IsReadersFault, OnlyReads, keeping};
+ghost use Rattle.station_core.specs.Keeping.{IfSound, IsReadersFault, OnlyReads, Reopens};
 ghost use Rattle.station_core.specs.Step.{State};
 
 use crate::readings::Reading;
@@ -35,13 +35,12 @@ fn manifest_of<K: Keeper>(
     keeper: &mut K,
     flight: &FlightDate,
 ) -> Result<Vec<ManifestRow>, ActFault>
-    ensures reopen { K.is_broken keeper.old ≡ true
-        → (result ≡ Err ActFault.Reopen) × (keeper.new ≡ keeper.old) }
-    ensures fault { K.is_broken keeper.old ≡ false → IfErr result (IsReadersFault K.may_fail) }
-    ensures reads { OnlyReads (keeping K.keeps K.is_clean K.is_sound K.is_broken K.may_find
-        K.may_fail) keeper.old keeper.new }
-    ensures rows { (s : State) → K.keeps keeper.old s → K.is_sound keeper.new
-        → IfOk result (λ rows. rows.items ≡ manifest_rows s.cargo flight.now) }
+    ensures reopen { Reopens K.keeping keeper.old keeper.new result }
+    ensures fault { K.keeping.is_broken keeper.old ≡ false → IfErr result
+        (IsReadersFault K.keeping.may_fail) }
+    ensures reads { OnlyReads K.keeping keeper.old keeper.new }
+    ensures rows { IfSound K.keeping keeper.old keeper.new
+        (λ s. IfOk result (λ rows. rows.items ≡ manifest_rows s.cargo flight.now)) }
 {
     let mut tallies = Tallies::new(alloc, flight);
     match keeper.book_by(&BookQuery::On(*flight), &mut tallies) {

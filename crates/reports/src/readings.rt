@@ -13,7 +13,7 @@ use station_core::{
 pub(crate) trait Reading<Row> {
     ghost use Rattle.std.specs.Prelude.{List};
     ghost use Rattle.shipment_machine.specs.Cargo.{Cargo};
-    ghost use Rattle.station_core.specs.Keeping.{HandsOut, keeping};
+    ghost use Rattle.station_core.specs.Keeping.{HandsOut};
 
     /// The relation of a cargo to its rows.
     ghost rows: { Self → Cargo → List Row → Type 0 };
@@ -24,8 +24,8 @@ pub(crate) trait Reading<Row> {
         keeper: &mut K,
         sink: &mut S,
     ) -> Result<(), ActFault>
-        ensures { HandsOut (keeping K.keeps K.is_clean K.is_sound K.is_broken K.may_find K.may_fail)
-            keeper.old keeper.new result S.takes (rows self.now) sink.old sink.new };
+        ensures { HandsOut K.keeping keeper.old keeper.new result S.takes (rows self.now) sink.old
+            sink.new };
 }
 
 #[derive(Drop)]

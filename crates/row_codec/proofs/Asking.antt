@@ -10,9 +10,9 @@ use Rattle.station_core.specs.declared.rows.BookQuery.{BookQuery}
 use Rattle.station_core.specs.declared.rows.BookQuery.TheVariants as query
 use Rattle.station_core.specs.declared.rows.TrailQuery.{TrailQuery}
 use Rattle.station_core.specs.declared.rows.TrailQuery.TheVariants as trail
-use Rattle.table_rows.specs.Meant.{is_move_after, is_flown, is_of, is_line_after, is_line_of}
-use Rattle.table_rows.specs.declared.moves.MoveQuery.TheVariants as asked
-use Rattle.table_rows.specs.declared.trail.LineQuery.TheVariants as lines
+use Rattle.station_rows.specs.Meant.{is_move_after, is_flown, is_of, is_line_after, is_line_of}
+use Rattle.station_rows.specs.declared.moves.MoveQuery.TheVariants as asked
+use Rattle.station_rows.specs.declared.trail.LineQuery.TheVariants as lines
 use Rattle.row_codec.specs.Flights.{is_designator}
 use Rattle.row_codec.specs.Logs.{trail_row_by}
 use Rattle.row_codec.specs.Moves.{book_row_by}

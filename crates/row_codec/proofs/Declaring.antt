@@ -10,7 +10,7 @@ use Rattle.shipment_machine.specs.Cargo.{written}
 use Rattle.station_core.specs.Step.{State}
 use Rattle.station_core.specs.Told.{on_cargo}
 use Rattle.station_schema.specs.Tables.{Tables, Waybill, waybill_id}
-use Rattle.table_rows.specs.Meant.{with_waybill, changing_waybill}
+use Rattle.station_rows.specs.Meant.{with_waybill, changing_waybill}
 use Rattle.row_codec.specs.Numbers.{flag, is_set}
 use Rattle.row_codec.specs.Waybills.{since_of, since_column, declared_by, waybill_row, declared_in, is_waybill_row}
 use Rattle.row_codec.specs.Meaning.{meaning_of, Means}

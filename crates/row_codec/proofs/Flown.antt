@@ -14,7 +14,7 @@ use Rattle.shipment_machine.specs.Places.{same_place}
 use Rattle.shipment_machine.specs.declared.flight.FlightDate.{FlightDate}
 use Rattle.shipment_machine.specs.declared.moves.Place.TheVariants.{Hand, Surplus, Free, Built, Departed, Delivered, Missing, Transferred}
 use Rattle.station_core.specs.Readers.{is_named, is_of_flight}
-use Rattle.table_rows.specs.Meant.{is_flown}
+use Rattle.station_rows.specs.Meant.{is_flown}
 use Rattle.row_laws.proofs.Keys.{texts_total}
 use Rattle.station_schema.specs.Tables.{Move}
 use Rattle.row_codec.specs.Numbers.{natural, is_day, is_number, is_within}

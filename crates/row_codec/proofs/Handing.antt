@@ -9,7 +9,7 @@ use Rattle.imp_fields.specs.Flight.{flight_text}
 use Rattle.shipment_machine.specs.declared.flight.FlightDate.{FlightDate}
 use Rattle.station_core.specs.Readers.{numbered, book_row, book_rows, last_of, is_of_flight, message, pending_messages, trail_row, trail_rows}
 use Rattle.station_core.specs.Step.{State}
-use Rattle.table_rows.specs.Meant.{is_move_after, is_flown, is_of, is_message_after, is_line_after, is_line_of}
+use Rattle.station_rows.specs.Meant.{is_move_after, is_flown, is_of, is_message_after, is_line_after, is_line_of}
 use Rattle.station_core.specs.declared.rows.Message as reader
 use Rattle.station_schema.specs.Tables.{Tables, Move, move_id, trail_id, Message, message_id}
 use Rattle.row_codec.specs.Numbers.{natural, is_number}

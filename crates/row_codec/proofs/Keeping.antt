@@ -11,7 +11,7 @@ use Rattle.station_core.specs.Step as step
 use Rattle.station_core.specs.Told.{IsRequest, with_key, with_text}
 use Rattle.station_schema.specs.Tables.{Tables, Kept, kept_cmp, kept_text_cmp}
 use Rattle.station_schema.proofs.Keys.{kept_total, kept_same, kept_text_total, kept_text_same}
-use Rattle.table_rows.specs.Meant.{with_kept, with_kept_text}
+use Rattle.station_rows.specs.Meant.{with_kept, with_kept_text}
 use Rattle.row_codec.specs.Numbers.{natural, is_count}
 use Rattle.row_codec.specs.Replies.{kept_by, kept_row, kept_keys_in, is_kept_row, kept_texts_in, is_kept_text_row}
 use Rattle.row_codec.specs.Meaning.{meaning_of, Means}

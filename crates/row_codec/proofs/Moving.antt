@@ -4,7 +4,7 @@ use Rattle.std.specs.List.{list_all}
 use Rattle.std.proofs.lemmas.List.{map-append}
 use Rattle.shipment_machine.specs.declared.moves.Move.{Move}
 use Rattle.station_schema.specs.Tables.{Tables, move_id}
-use Rattle.table_rows.specs.Meant.{with_move}
+use Rattle.station_rows.specs.Meant.{with_move}
 use Rattle.row_codec.specs.Numbers.{AreNumbered}
 use Rattle.row_codec.specs.Moves.{move_by, move_row, book_in, is_move_row}
 use Rattle.row_codec.proofs.Listed.{list_all-insert_by, next_row, still_numbered}

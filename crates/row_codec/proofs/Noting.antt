@@ -12,7 +12,7 @@ use Rattle.station_core.specs.Step.{State}
 use Rattle.station_core.specs.Told.{on_cargo}
 use Rattle.station_schema.specs.Tables.{Tables, Flight, flight_cmp, Expected, expected_cmp, part_cmp}
 use Rattle.station_schema.proofs.Keys.{flight_total, flight_same, expected_total, expected_same, part_total, part_same}
-use Rattle.table_rows.specs.Meant.{with_flight, changing_flight, with_expected, changing_expected, with_part}
+use Rattle.station_rows.specs.Meant.{with_flight, changing_flight, with_expected, changing_expected, with_part}
 use Rattle.row_codec.specs.Flights.{is_designator, flight_key, outbound_by, outbound_row, flights_in, is_flight_row}
 use Rattle.row_codec.specs.Manifests.{expected_key, expected_by, expected_row, expected_in, is_expected_row, part_key, parts_in, is_part_row}
 use Rattle.row_codec.specs.Meaning.{meaning_of, Means}

@@ -8,7 +8,7 @@ use Rattle.shipment_machine.specs.declared.plans.Change.TheVariants.{Trail}
 use Rattle.station_core.specs.Step.{State}
 use Rattle.station_core.specs.Told.{on_cargo, with_messages}
 use Rattle.station_schema.specs.Tables.{Tables, trail_id, Message, message_id}
-use Rattle.table_rows.specs.Meant.{with_trail_line, with_message}
+use Rattle.station_rows.specs.Meant.{with_trail_line, with_message}
 use Rattle.row_codec.specs.Logs.{line_by, line_row, trail_in, is_trail_row, message_row, is_message_row, outbox_in}
 use Rattle.row_codec.specs.Meaning.{meaning_of, Means}
 use Rattle.row_codec.proofs.Listed.{list_all-insert_by, next_row, still_numbered}

@@ -6,11 +6,11 @@ use Rattle.shipment_machine.specs.declared.flight.FlightDate.{FlightDate}
 use Rattle.shipment_machine.specs.declared.moves.Part.{Part}
 use Rattle.station_core.specs.Step.{State}
 use Rattle.station_schema.specs.Tables.{Tables, Station, station_id, waybill_id}
-use Rattle.table_rows.specs.declared.waybills.WaybillRow.{WaybillRow}
-use Rattle.table_rows.specs.declared.flights.FlightRow.{FlightRow}
-use Rattle.table_rows.specs.declared.expected.ExpectedRow.{ExpectedRow}
-use Rattle.table_rows.specs.declared.kept.KeptRow.{KeptRow}
-use Rattle.table_rows.specs.Meant.{waybill_meant, flight_meant, expected_meant, kept_meant}
+use Rattle.station_rows.specs.declared.waybills.WaybillRow.{WaybillRow}
+use Rattle.station_rows.specs.declared.flights.FlightRow.{FlightRow}
+use Rattle.station_rows.specs.declared.expected.ExpectedRow.{ExpectedRow}
+use Rattle.station_rows.specs.declared.kept.KeptRow.{KeptRow}
+use Rattle.station_rows.specs.Meant.{waybill_meant, flight_meant, expected_meant, kept_meant}
 use Rattle.row_codec.specs.Numbers.{natural}
 use Rattle.row_codec.specs.Waybills.{declared_by}
 use Rattle.row_codec.specs.Flights.{is_designator, flight_key, outbound_by}

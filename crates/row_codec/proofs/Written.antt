@@ -16,8 +16,7 @@ use Rattle.station_core.specs.Step.{State}
 use Rattle.station_core.specs.Step as step
 use Rattle.station_core.specs.Told.{IsRequest, on_cargo, with_key, with_text, with_messages}
 use Rattle.station_schema.specs.Tables.{Tables, Waybill, waybill_id, Flight, FlightKey, Expected, ExpectedKey, PartKey, Kept, TrailLine, Message, Move}
-use Rattle.table_rows.specs.Meant.{with_waybill, changing_waybill, with_flight, with_expected, with_move, with_part, with_trail_line, with_message, with_kept, with_kept_text}
-use Rattle.station_rows.specs.Meant.{confirming}
+use Rattle.station_rows.specs.Meant.{with_waybill, changing_waybill, with_flight, with_expected, with_move, with_part, with_trail_line, with_message, with_kept, with_kept_text, confirming}
 use Rattle.row_codec.specs.Numbers.{is_count}
 use Rattle.row_codec.specs.Waybills.{waybill_row, is_waybill_row}
 use Rattle.row_codec.specs.Flights.{is_designator, flight_key, outbound_row, is_flight_row}

@@ -2,7 +2,7 @@ ghost use Rattle.std.specs.Prelude.{◌≡◌, ◌&&◌, pos, is_some, IsTrue, I
 ghost use Rattle.std.specs.Str.{bytes_eq};
 ghost use Rattle.imp_fields.specs.Airport.{is_airport};
 ghost use Rattle.imp_fields.specs.Flight.{flight_of, flight_text};
-ghost use Rattle.table_rows.specs.Meant.{flight_meant, noted_flight_meant};
+ghost use Rattle.station_rows.specs.Meant.{flight_meant, noted_flight_meant};
 ghost use Rattle.station_schema.specs.Tables.{FlightKey};
 ghost use Rattle.row_codec.specs.Numbers.{is_number, is_day, is_flag};
 ghost use Rattle.row_codec.specs.Flights.{is_designator, is_flight_text, flight_date_of, is_flight_key, noted_by, outbound_by, outbound_row, is_flight_row};

@@ -1,5 +1,5 @@
 ghost use Rattle.std.specs.Prelude.{◌≡◌, ◌&&◌, is_some, IsTrue, IfSome, Some};
-ghost use Rattle.table_rows.specs.Meant.{expected_meant, listed_waybill_meant};
+ghost use Rattle.station_rows.specs.Meant.{expected_meant, listed_waybill_meant};
 ghost use Rattle.station_schema.specs.Tables.{ExpectedKey};
 ghost use Rattle.row_codec.specs.Numbers.{is_within, is_flag};
 ghost use Rattle.row_codec.specs.Manifests.{is_expected_key, expectation_by, expected_by, expected_row, is_expected_row, is_part_key, part_by};

@@ -1,5 +1,5 @@
 ghost use Rattle.std.specs.Prelude.{◌≡◌, List, ℕ, is_some, IsTrue, IfSome};
-ghost use Rattle.table_rows.specs.Meant.{kept_meant};
+ghost use Rattle.station_rows.specs.Meant.{kept_meant};
 ghost use Rattle.station_core.specs.Key.{is_key};
 ghost use Rattle.row_codec.specs.Replies.{kept_by, is_kept_row};
 ghost use Rattle.station_core.specs.Told.{kept_of};

@@ -1,6 +1,6 @@
 -- The balances of all waybills: the rows of one waybill stand behind those of another.
 use Rattle.std.proofs.Common.{◌≡◌, ℕ, suc, zero, ◌+◌, ◌-◌, ◌<◌, get_or, length, ℤ, pos, ◌==◌, Bool, true, false, cond, List, [], ◌∷◌, ◌++◌, take, drop, map, Option, Some, None, option_map, int_cmp, int_eq, refl, sym, ap, subst, ◌∙◌, arith, Ordering, Less, Equal, Greater}
-use Rattle.std.specs.Prelude.{int_le, int_lt, nat_lt, ◌&&◌}
+use Rattle.std.specs.Prelude.{int_le, int_lt, nat_lt}
 use Rattle.std.specs.List.{AllByRecursion, filter, find, prefix_len}
 use Rattle.std.specs.Ordering.{nat_cmp, ordering_then}
 use Rattle.std.specs.FinMap.{FinMap, is_sorted, entries, get}
@@ -20,8 +20,8 @@ use Rattle.station_core.specs.declared.stored.WaybillBalances.{WaybillBalances}
 use Rattle.row_laws.proofs.Maps.{entries_rise}
 use Rattle.station_schema.proofs.Keys.{count_total}
 use Rattle.station_schema.specs.Tables.{Count, CountKey, count_cmp}
-use Rattle.table_rows.specs.Meant.{count_meant, counts_for}
-use Rattle.table_rows.specs.declared.counts.CountRow.{CountRow}
+use Rattle.station_rows.specs.Meant.{count_meant, counts_for}
+use Rattle.station_rows.specs.declared.counts.CountRow.{CountRow}
 use Rattle.row_codec.specs.Counts.{AreCounts, Running, running_in}
 use Rattle.row_codec.specs.Moves.{place_code}
 use Rattle.running_totals.proofs.Amounts.{drawn_nothing, held_nothing}

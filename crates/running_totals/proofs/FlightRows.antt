@@ -25,7 +25,7 @@ use Rattle.station_core.specs.declared.stored.Load.{Load}
 use Rattle.row_laws.proofs.Keys.{texts_total, first_true, second_true}
 use Rattle.row_laws.proofs.Maps.{entries_rise, ascending_where, all_passed}
 use Rattle.station_schema.specs.Tables.{Build, BuildKey, build_cmp}
-use Rattle.table_rows.specs.Meant.{is_on, pieces_in}
+use Rattle.station_rows.specs.Meant.{is_on, pieces_in}
 use Rattle.row_codec.specs.Numbers.{natural}
 use Rattle.row_codec.specs.Counts.{Running, running, running_on, build_row, is_nothing, AreBuilds}
 use Rattle.running_totals.specs.Loaded.{load_said, row_said, is_loaded}

@@ -6,8 +6,8 @@ use Rattle.std.specs.FinMap.{FinMap, entries, get, get-entries}
 use Rattle.std.specs.FinMap as map
 use Rattle.row_laws.proofs.Keys.{pair_eq, int_tied, int_turned}
 use Rattle.station_schema.specs.Tables.{Count, CountKey, count_cmp}
-use Rattle.table_rows.specs.Meant.{count_meant, counts_for}
-use Rattle.table_rows.specs.declared.counts.CountRow.{CountRow}
+use Rattle.station_rows.specs.Meant.{count_meant, counts_for}
+use Rattle.station_rows.specs.declared.counts.CountRow.{CountRow}
 use Rattle.row_codec.specs.Counts.{running_in}
 use Rattle.running_totals.specs.declared.tally.Tally.{Tally}
 use Rattle.running_totals.specs.Stored.{meant}

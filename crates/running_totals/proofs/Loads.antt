@@ -5,8 +5,8 @@ use Rattle.std.specs.Prelude.{ℤ}
 use Rattle.row_codec.specs.Counts.{Running}
 use Rattle.std.proofs.lemmas.List.{take_more}
 use Rattle.station_core.specs.declared.stored.Load.{Load}
-use Rattle.table_rows.specs.Meant.{build_meant}
-use Rattle.table_rows.specs.declared.builds.BuildRow.{BuildRow}
+use Rattle.station_rows.specs.Meant.{build_meant}
+use Rattle.station_rows.specs.declared.builds.BuildRow.{BuildRow}
 use Rattle.running_totals.specs.Loaded.{load_said, row_said, is_loaded}
 
 abbrev pub said_in : List BuildRow → List (ℤ × Running)

@@ -1,12 +1,12 @@
 -- From the calls of a store to what was posted.
 use Rattle.std.proofs.Common.{◌≡◌, Bool, true, false, is_some, Option, Some, None, Result, option_map, refl, sym, ap, ap₂, subst, ◌∙◌}
-use Rattle.std.specs.Prelude.{if◌then◌else◌}
+use Rattle.std.specs.Prelude.{if◌then◌else◌, IfOk, OnOk, Ok, Err}
 use Rattle.std.specs.FinMap.{get, insert, remove}
 use Rattle.row_laws.specs.Columns.{adjust}
-use Rattle.station_schema.specs.Store.{View, Survives, Displays, inside, IsShowing}
+use Rattle.station_schema.specs.Store.{View, Seen, Survives, Displays, inside, IsShowing}
 use Rattle.station_schema.specs.Tables.{Tables, Count, CountKey, Build, BuildKey}
-use Rattle.table_rows.specs.Meant.{without_count, changing_count, with_count, without_build, changing_build, with_build}
-use Rattle.station_rows.specs.Clauses.{ShowsChange}
+use Rattle.station_rows.specs.Meant.{without_count, changing_count, with_count, without_build, changing_build, with_build}
+use Rattle.station_rows.specs.Clauses.{Reads, ShowsChange}
 use Rattle.row_codec.specs.Counts.{Running, is_nothing, running_in, running_on, count_row, build_row}
 use Rattle.running_totals.specs.declared.tally.Tally.{Tally}
 use Rattle.running_totals.specs.Stored.{meant, come_to, storing_count, posting_count, storing_build, posting_build}
@@ -89,3 +89,18 @@ tally_read key p found t is told = told ∙ ap (option_map (λ (e : BuildKey × 
     again : (q : Option Build) → option_map (λ (e : BuildKey × Build). running_on e.1) (option_map (λ v. (key, v)) q) ≡ option_map running_on q
     again None = refl
     again (Some v) = refl
+
+answered : {X E A : Type 0} (r : Result X E) → A → OnOk r A
+answered (Ok x) a = a
+answered (Err e) a = tt
+
+-- what is made of what was read
+pub made_of : {X Y E F : Type 0} (old new : View) (r : Result Y F) (Q : Tables → Y → Type 0) {x : X} {P : Tables → X → Type 0} → Reads {E = E} old new (Ok x) P
+    → ((seen : Seen) → IsShowing old seen → new.IsSound → IfOk r (Q seen.now)) → Reads old new r Q
+made_of old new r Q read value = record {
+  read = value;
+  same = λ seen showing. answered r (read.same seen showing);
+  was_open = answered r read.was_open;
+  rests = read.rests;
+  survives = read.survives;
+}

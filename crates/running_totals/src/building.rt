@@ -1,10 +1,10 @@
-ghost use Rattle.std.specs.Prelude.{◌≡◌, ℕ, ℤ, pos, List, Option, map, filter, option_map, IfOk, IfSome, OnErr, OnOk};
+ghost use Rattle.std.specs.Prelude.{◌≡◌, List, Option, option_map, IfOk, IfSome, OnErr, OnOk};
 ghost use Rattle.std.specs.FinMap.{get};
 ghost use Rattle.shipment_machine.specs.Book.{built};
 ghost use Rattle.station_schema.specs.Store.{Seen, Survives, IsShowing, inside};
 ghost use Rattle.station_schema.specs.Tables.{Tables};
-ghost use Rattle.table_rows.specs.Meant.{build_meant};
-ghost use Rattle.station_rows.specs.Clauses.{RestsIfSound, ShowsChange, ShowsStill, TellsOf, WasOpen};
+ghost use Rattle.station_rows.specs.Meant.{build_meant};
+ghost use Rattle.station_rows.specs.Clauses.{Reads, ShowsChange, ShowsStill};
 ghost use Rattle.row_codec.specs.Counts.{AreBuilds, build_row, running, running_on};
 ghost use Rattle.running_totals.specs.Known.{AreKnown, IsRowOf};
 ghost use Rattle.running_totals.specs.Stored.{meant, pieces_found, storing_build, posting_build};
@@ -49,13 +49,9 @@ fn at_flight<S: TableStore>(
     day: i64,
     awb: i64,
 ) -> Result<Option<Tally>, StoreFault>
-    ensures read { TellsOf (S.view store.old) (S.view store.new) result
+    ensures { Reads (S.view store.old) (S.view store.new) result
         (λ tables found. option_map meant found ≡ option_map running_on
         (get tables.builds (flight.now, (day, awb)))) }
-    ensures same { ShowsStill (S.view store.old) (S.view store.new) result }
-    ensures open { WasOpen (S.view store.old) (S.view store.new) result }
-    ensures rests { RestsIfSound (S.view store.old) (S.view store.new) }
-    ensures survives { Survives (S.view store.old) (S.view store.new) }
 {
     match store.read(BuildOn { flight, day, awb })? {
         Some(row) => Ok(Some(build_tally(&row))),
@@ -146,17 +142,11 @@ pub fn load<S: TableStore>(
     awb: &Awb,
     flight: &FlightDate,
 ) -> Result<Amount, StoreFault>
-    ensures value { (x : Seen) → IsShowing (S.view store.old) x → (S.view store.new).IsSound
-        → (book : List Move) → AreBuilds x.now.builds book
-        → IfOk result (λ load. load ≡ built book awb.now flight.now) }
-    ensures known { (x : Seen) → IsShowing (S.view store.old) x → (S.view store.new).IsSound
-        → (book : List Move) → AreBuilds x.now.builds book → AreKnown known.old (running book)
-        → OnOk result (AreKnown known.new (running book)) }
+    ensures reads { Reads (S.view store.old) (S.view store.new) result
+        (λ tables load. (book : List Move) → AreBuilds tables.builds book
+        → (load ≡ built book awb.now flight.now)
+        × (AreKnown known.old (running book) → AreKnown known.new (running book))) }
     ensures known_at_err { OnErr result (known.new ≡ known.old) }
-    ensures same { ShowsStill (S.view store.old) (S.view store.new) result }
-    ensures open { WasOpen (S.view store.old) (S.view store.new) result }
-    ensures rests { RestsIfSound (S.view store.old) (S.view store.new) }
-    ensures survives { Survives (S.view store.old) (S.view store.new) }
 {
     let text = written(alloc, &flight.flight)?;
     let day = whole(flight.day.number());

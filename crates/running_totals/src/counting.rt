@@ -5,8 +5,8 @@ ghost use Rattle.std.specs.Ordering.{int_eq};
 ghost use Rattle.shipment_machine.specs.Book.{balances_of, drawn, held, same_place};
 ghost use Rattle.station_schema.specs.Store.{Seen, Survives, IsShowing, inside};
 ghost use Rattle.station_schema.specs.Tables.{Count, Tables, count_cmp};
-ghost use Rattle.table_rows.specs.Meant.{count_meant, counts_for};
-ghost use Rattle.station_rows.specs.Clauses.{RestsIfSound, ShowsChange, ShowsStill, TellsOf, WasOpen};
+ghost use Rattle.station_rows.specs.Meant.{count_meant, counts_for};
+ghost use Rattle.station_rows.specs.Clauses.{Reads, ShowsChange, ShowsStill};
 ghost use Rattle.row_codec.specs.Counts.{AreCounts, count_row, running, running_in};
 ghost use Rattle.running_totals.specs.Known.{AreKnown, AreSumsOf, IsRowOf};
 ghost use Rattle.running_totals.specs.Sums.{is_built};
@@ -227,17 +227,11 @@ pub fn balances<S: TableStore>(
     known: &mut KnownSums,
     awb: &Awb,
 ) -> Result<Balances, StoreFault>
-    ensures value { (x : Seen) → IsShowing (S.view store.old) x → (S.view store.new).IsSound
-        → (book : List Move) → AreCounts x.now.counts book
-        → IfOk result (λ balances. balances ≡ balances_of book awb.now) }
-    ensures known { (x : Seen) → IsShowing (S.view store.old) x → (S.view store.new).IsSound
-        → (book : List Move) → AreCounts x.now.counts book → AreKnown known.old (running book)
-        → OnOk result (AreKnown known.new (running book)) }
+    ensures reads { Reads (S.view store.old) (S.view store.new) result
+        (λ tables balances. (book : List Move) → AreCounts tables.counts book
+        → (balances ≡ balances_of book awb.now)
+        × (AreKnown known.old (running book) → AreKnown known.new (running book))) }
     ensures known_at_err { OnErr result (known.new ≡ known.old) }
-    ensures same { ShowsStill (S.view store.old) (S.view store.new) result }
-    ensures open { WasOpen (S.view store.old) (S.view store.new) result }
-    ensures rests { RestsIfSound (S.view store.old) (S.view store.new) }
-    ensures survives { Survives (S.view store.old) (S.view store.new) }
 {
     let number = number_of(awb);
     let rows = store.read(CountsOf { awb: number })?;

@@ -4,10 +4,9 @@ ghost use Rattle.std.specs.List.{prefix_len};
 ghost use Rattle.std.specs.Ordering.{int_eq};
 ghost use Rattle.shipment_machine.specs.Book.{balances_of};
 ghost use Rattle.station_core.specs.Told.{AreAllBalances};
-ghost use Rattle.station_schema.specs.Store.{Seen, Survives, IsShowing};
 ghost use Rattle.station_schema.specs.Tables.{Count, count_cmp};
-ghost use Rattle.table_rows.specs.Meant.{count_meant, counts_for};
-ghost use Rattle.station_rows.specs.Clauses.{RestsIfSound, ShowsStill, WasOpen};
+ghost use Rattle.station_rows.specs.Meant.{count_meant, counts_for};
+ghost use Rattle.station_rows.specs.Clauses.{Reads};
 ghost use Rattle.row_codec.specs.Counts.{AreCounts};
 
 use crate::counting::balances_by;
@@ -76,13 +75,9 @@ pub fn all_balances<S: TableStore>(
     alloc: Global,
     store: &mut S,
 ) -> Result<Vec<WaybillBalances>, StoreFault>
-    ensures value { (x : Seen) → IsShowing (S.view store.old) x → (S.view store.new).IsSound
-        → (book : List Move) → AreCounts x.now.counts book
-        → IfOk result (λ rows. AreAllBalances book rows.items) }
-    ensures same { ShowsStill (S.view store.old) (S.view store.new) result }
-    ensures open { WasOpen (S.view store.old) (S.view store.new) result }
-    ensures rests { RestsIfSound (S.view store.old) (S.view store.new) }
-    ensures survives { Survives (S.view store.old) (S.view store.new) }
+    ensures { Reads (S.view store.old) (S.view store.new) result
+        (λ tables rows. (book : List Move) → AreCounts tables.counts book
+        → AreAllBalances book rows.items) }
 {
     let rows = store.read(AllCounts)?;
     Ok(waybills_by(alloc, &rows)?)

@@ -1,9 +1,8 @@
 ghost use Rattle.std.specs.Prelude.{◌≡◌, ◌∷◌, ◌++◌, [], pos, int_lt, length, List, map, filter, IfOk, OnOk};
 ghost use Rattle.shipment_machine.specs.Book.{waybills_on};
 ghost use Rattle.station_core.specs.Told.{loads_on};
-ghost use Rattle.station_schema.specs.Store.{Seen, Survives, IsShowing};
-ghost use Rattle.table_rows.specs.Meant.{build_meant};
-ghost use Rattle.station_rows.specs.Clauses.{RestsIfSound, ShowsStill, WasOpen};
+ghost use Rattle.station_rows.specs.Meant.{build_meant};
+ghost use Rattle.station_rows.specs.Clauses.{Reads};
 ghost use Rattle.row_codec.specs.Counts.{AreBuilds};
 ghost use Rattle.running_totals.specs.Loaded.{load_said, row_said, is_loaded};
 
@@ -63,13 +62,9 @@ pub fn aboard<S: TableStore>(
     store: &mut S,
     flight: &FlightDate,
 ) -> Result<Vec<Load>, StoreFault>
-    ensures value { (x : Seen) → IsShowing (S.view store.old) x → (S.view store.new).IsSound
-        → (book : List Move) → AreBuilds x.now.builds book
-        → IfOk result (λ loads. loads.items ≡ loads_on book flight.now) }
-    ensures same { ShowsStill (S.view store.old) (S.view store.new) result }
-    ensures open { WasOpen (S.view store.old) (S.view store.new) result }
-    ensures rests { RestsIfSound (S.view store.old) (S.view store.new) }
-    ensures survives { Survives (S.view store.old) (S.view store.new) }
+    ensures { Reads (S.view store.old) (S.view store.new) result
+        (λ tables loads. (book : List Move) → AreBuilds tables.builds book
+        → loads.items ≡ loads_on book flight.now) }
 {
     let text = written(alloc, &flight.flight)?;
     let day = whole(flight.day.number());
@@ -97,13 +92,9 @@ pub fn waybills_on<S: TableStore>(
     store: &mut S,
     flight: &FlightDate,
 ) -> Result<usize, StoreFault>
-    ensures value { (x : Seen) → IsShowing (S.view store.old) x → (S.view store.new).IsSound
-        → (book : List Move) → AreBuilds x.now.builds book
-        → IfOk result (λ number. number ≡ length (waybills_on book flight.now)) }
-    ensures same { ShowsStill (S.view store.old) (S.view store.new) result }
-    ensures open { WasOpen (S.view store.old) (S.view store.new) result }
-    ensures rests { RestsIfSound (S.view store.old) (S.view store.new) }
-    ensures survives { Survives (S.view store.old) (S.view store.new) }
+    ensures { Reads (S.view store.old) (S.view store.new) result
+        (λ tables number. (book : List Move) → AreBuilds tables.builds book
+        → number ≡ length (waybills_on book flight.now)) }
 {
     let text = written(alloc, &flight.flight)?;
     let day = whole(flight.day.number());

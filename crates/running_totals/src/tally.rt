@@ -1,5 +1,5 @@
 ghost use Rattle.std.specs.Prelude.{◌≡◌, ℤ, pos, ◌+ℤ◌, ◌-ℤ◌, option_map, IfOk};
-ghost use Rattle.table_rows.specs.Meant.{build_meant, count_meant};
+ghost use Rattle.station_rows.specs.Meant.{build_meant, count_meant};
 ghost use Rattle.row_codec.specs.Counts.{Running, is_nothing, running_in, running_on, unless_nothing};
 ghost use Rattle.running_totals.specs.Sums.{plus};
 ghost use Rattle.running_totals.specs.Stored.{come_to, meant, pieces_found};

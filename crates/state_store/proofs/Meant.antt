@@ -1,10 +1,11 @@
 -- The day that a date means.
-use Rattle.std.proofs.Common.{◌≡◌, ℕ, true, Option, Some, sym, ap, ◌∙◌}
+use Rattle.std.proofs.Common.{◌≡◌, ℕ, true, false, [], Option, Some, sym, ap, ◌∙◌}
 use Rattle.std.specs.Option.{unwrap_or}
-use Rattle.std.proofs.lemmas.Bool.{cond-true}
+use Rattle.std.proofs.lemmas.Bool.{cond-false, cond-true}
 use Rattle.station_days.specs.Date.{LocalMinute, resolved}
 use Rattle.shipment_machine.specs.declared.command.InboundPart.{InboundPart}
 use Rattle.shipment_machine.specs.declared.command.ShipmentCommand.TheVariants as order
+use Rattle.shipment_machine.specs.declared.view.Rows.TheVariants as rows
 use Rattle.shipment_machine.specs.Agreement.{rows_for}
 use Rattle.shipment_machine.specs.Cargo.{Cargo}
 use Rattle.state_store.specs.Lines.{part_rows_on}
@@ -13,3 +14,7 @@ use Rattle.shipment_machine.specs.Effect.{is_day}
 -- the rows of a part whose date means a day
 pub on_day : (s : Cargo) (f : InboundPart) (at : LocalMinute) (day : ℕ) → resolved f.date at.day ≡ Some day → is_day (resolved f.date at.day) ≡ true → part_rows_on s f day ≡ rows_for s (order.Ffm f) at
 on_day s f at day is real = ap (λ (o : Option ℕ). part_rows_on s f (unwrap_or o 0)) (sym is) ∙ sym (cond-true (is_day (resolved f.date at.day)) _ _ real)
+
+-- and of a part whose date means none
+pub no_day : (s : Cargo) (f : InboundPart) (at : LocalMinute) → is_day (resolved f.date at.day) ≡ false → rows.Lines false [] ≡ rows_for s (order.Ffm f) at
+no_day s f at none = sym (cond-false (is_day (resolved f.date at.day)) _ _ none)

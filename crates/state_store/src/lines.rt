@@ -1,12 +1,12 @@
 //! The rows of a flight: its loads, and the rows for each line of its manifest.
-ghost use Rattle.std.specs.Prelude.{◌≡◌, ◌++◌, ◌∷◌, [], false, None, Some, OnOk, IfOk, map};
+ghost use Rattle.std.specs.Prelude.{◌≡◌, ◌++◌, ◌∷◌, [], false, None, Some, map};
 ghost use Rattle.shipment_machine.specs.Agreement.{rows_for};
 ghost use Rattle.shipment_machine.specs.Effect.{lines_for};
 ghost use Rattle.shipment_machine.specs.Views.{loads_of, line_view_of};
 ghost use Rattle.shipment_machine.specs.declared.command.ShipmentCommand.TheVariants as order;
 ghost use Rattle.shipment_machine.specs.declared.view.Rows.TheVariants as rows;
 ghost use Rattle.state_store.specs.Lines.{aboard_of, part_rows_on};
-ghost use Rattle.state_store.specs.Store.{Seen, GoesOnShowing, Survives};
+ghost use Rattle.state_store.specs.Store.{Reads};
 
 use crate::store::StateStore;
 use awb_number::Awb;
@@ -21,10 +21,8 @@ use station_days::{LocalDay, Moment};
 use std::alloc::Global;
 
 fn declared_load<S: StateStore>(store: &mut S, load: &Load) -> Result<FlightLoad, StoreFault>
-    ensures value { (x : Seen) → S.shows store.old x → S.is_sound store.new
-        → IfOk result (λ row. row ≡ aboard_of x.now.cargo load.now) }
-    ensures same { GoesOnShowing S.shows store.old store.new result }
-    ensures survives { Survives S.is_clean S.is_sound S.may_find store.old store.new }
+    ensures { Reads S.storing store.old store.new result
+        (λ s row. row ≡ aboard_of s.cargo load.now) }
 {
     match store.declared(&load.awb)? {
         None => Err(StoreFault),
@@ -41,10 +39,8 @@ fn declared_loads<S: StateStore>(
     store: &mut S,
     loads: &[Load],
 ) -> Result<Vec<FlightLoad>, StoreFault>
-    ensures value { (x : Seen) → S.shows store.old x → S.is_sound store.new
-        → IfOk result (λ rows. rows.items ≡ map (aboard_of x.now.cargo) loads.now) }
-    ensures same { GoesOnShowing S.shows store.old store.new result }
-    ensures survives { Survives S.is_clean S.is_sound S.may_find store.old store.new }
+    ensures { Reads S.storing store.old store.new result
+        (λ s rows. rows.items ≡ map (aboard_of s.cargo) loads.now) }
 {
     let mut rows = Vec::new(alloc);
     for load in loads {
@@ -58,10 +54,8 @@ pub(crate) fn loads_of<S: StateStore>(
     store: &mut S,
     flight: &FlightDate,
 ) -> Result<Loads, StoreFault>
-    ensures value { (x : Seen) → S.shows store.old x → S.is_sound store.new
-        → IfOk result (λ loads. loads ≡ loads_of x.now.cargo flight.now) }
-    ensures same { GoesOnShowing S.shows store.old store.new result }
-    ensures survives { Survives S.is_clean S.is_sound S.may_find store.old store.new }
+    ensures { Reads S.storing store.old store.new result
+        (λ s loads. loads ≡ loads_of s.cargo flight.now) }
 {
     let aboard = store.aboard(flight)?;
     let rows = declared_loads(alloc, store, &aboard)?;
@@ -77,10 +71,8 @@ fn line_view<S: StateStore>(
     flight: &FlightDate,
     line: &InboundLine,
 ) -> Result<LineView, StoreFault>
-    ensures value { (x : Seen) → S.shows store.old x → S.is_sound store.new
-        → IfOk result (λ row. row ≡ line_view_of x.now.cargo flight.now line.now.cargo) }
-    ensures same { GoesOnShowing S.shows store.old store.new result }
-    ensures survives { Survives S.is_clean S.is_sound S.may_find store.old store.new }
+    ensures { Reads S.storing store.old store.new result
+        (λ s row. row ≡ line_view_of s.cargo flight.now line.now.cargo) }
 {
     let awb = &line.cargo.awb;
     let declared = store.declared(awb)?;
@@ -101,12 +93,9 @@ fn put_line<S: StateStore>(
     flight: &FlightDate,
     line: &InboundLine,
 ) -> Result<(), StoreFault>
-    ensures value { (x : Seen) → S.shows store.old x → S.is_sound store.new
-        → OnOk result (rows.new.items
-        ≡ rows.old.items ++ map (line_view_of x.now.cargo flight.now) (lines_for here
-        (line.now ∷ []))) }
-    ensures same { GoesOnShowing S.shows store.old store.new result }
-    ensures survives { Survives S.is_clean S.is_sound S.may_find store.old store.new }
+    ensures { Reads S.storing store.old store.new result
+        (λ s done. rows.new.items ≡ rows.old.items
+        ++ map (line_view_of s.cargo flight.now) (lines_for here (line.now ∷ []))) }
 {
     if line.unload == here {
         rows.push(line_view(store, flight, line)?)?;
@@ -122,11 +111,8 @@ fn line_rows<S: StateStore>(
     flight: &FlightDate,
     lines: &[InboundLine],
 ) -> Result<LineViews, StoreFault>
-    ensures value { (x : Seen) → S.shows store.old x → S.is_sound store.new
-        → IfOk result
-        (λ rows. rows ≡ map (line_view_of x.now.cargo flight.now) (lines_for here lines.now)) }
-    ensures same { GoesOnShowing S.shows store.old store.new result }
-    ensures survives { Survives S.is_clean S.is_sound S.may_find store.old store.new }
+    ensures { Reads S.storing store.old store.new result
+        (λ s rows. rows ≡ map (line_view_of s.cargo flight.now) (lines_for here lines.now)) }
 {
     let mut rows = Vec::new(alloc);
     for line in lines {
@@ -152,10 +138,8 @@ fn rows_on<S: StateStore>(
     part: &InboundPart<'_>,
     day: LocalDay,
 ) -> Result<Rows, StoreFault>
-    ensures value { (x : Seen) → S.shows store.old x → S.is_sound store.new
-        → IfOk result (λ made. made ≡ part_rows_on x.now.cargo part.now day) }
-    ensures same { GoesOnShowing S.shows store.old store.new result }
-    ensures survives { Survives S.is_clean S.is_sound S.may_find store.old store.new }
+    ensures { Reads S.storing store.old store.new result
+        (λ s made. made ≡ part_rows_on s.cargo part.now day) }
 {
     let flight = FlightDate {
         flight: part.flight,
@@ -178,10 +162,8 @@ pub(crate) fn part_rows<S: StateStore>(
     part: &InboundPart<'_>,
     at: Moment,
 ) -> Result<Rows, StoreFault>
-    ensures value { (x : Seen) → S.shows store.old x → S.is_sound store.new
-        → IfOk result (λ made. made ≡ rows_for x.now.cargo (order.Ffm part.now) at) }
-    ensures same { GoesOnShowing S.shows store.old store.new result }
-    ensures survives { Survives S.is_clean S.is_sound S.may_find store.old store.new }
+    ensures { Reads S.storing store.old store.new result
+        (λ s made. made ≡ rows_for s.cargo (order.Ffm part.now) at) }
 {
     match day_meant(part.date, at) {
         None => Ok(no_lines(alloc)),

@@ -6,8 +6,7 @@ ghost use Rattle.shipment_machine.specs.Cargo.{Cargo as AnyCargo};
 ghost use Rattle.shipment_machine.specs.Lawful.{IsLawful};
 ghost use Rattle.shipment_machine.specs.Views.{declaration};
 ghost use Rattle.station_core.specs.Readers.{told_of, waybill_of, irregular_rows, shed_rows, flight_row, AreFlightRows, expected_row, AreExpectedBy};
-ghost use Rattle.station_core.specs.Step.{State};
-ghost use Rattle.state_store.specs.Store.{StaysAtRest, Survives, at_rest};
+ghost use Rattle.state_store.specs.Store.{ReadsAtRest};
 ghost use Rattle.station_core.specs.Told.{stored_of, irregular_by, shed_by};
 
 use crate::query::WaybillQuery;
@@ -108,10 +107,8 @@ fn told_of(declared: Declared, balances: &Balances) -> Result<Waybill, StoreFaul
 /// from the other balances. Fails if a call of the store fails, or returned what no lawful state
 /// has.
 pub fn waybill_in<S: StateStore>(store: &mut S, number: &Awb) -> Result<Option<Waybill>, StoreFault>
-    ensures value { (s : State) → S.shows store.old (at_rest s) → IsLawful s.cargo
-        → S.is_sound store.new → IfOk result (λ waybill. waybill ≡ waybill_of s.cargo number.now) }
-    ensures rests { StaysAtRest S.shows store.old store.new }
-    ensures survives { Survives S.is_clean S.is_sound S.may_find store.old store.new }
+    ensures { ReadsAtRest S.storing store.old store.new result
+        (λ s waybill. IsLawful s.cargo → waybill ≡ waybill_of s.cargo number.now) }
 {
     match store.declared(number)? {
         None => Ok(None),
@@ -124,10 +121,8 @@ pub fn waybill_in<S: StateStore>(store: &mut S, number: &Awb) -> Result<Option<W
 
 /// Returns the declaration of a known waybill.
 fn declaration<S: StateStore>(store: &mut S, number: &Awb) -> Result<Declared, StoreFault>
-    ensures value { (s : State) → S.shows store.old (at_rest s) → S.is_sound store.new
-        → IfOk result (λ declared. declared ≡ declaration s.cargo number.now) }
-    ensures rests { StaysAtRest S.shows store.old store.new }
-    ensures survives { Survives S.is_clean S.is_sound S.may_find store.old store.new }
+    ensures { ReadsAtRest S.storing store.old store.new result
+        (λ s declared. declared ≡ declaration s.cargo number.now) }
 {
     match store.declared(number)? {
         None => Err(StoreFault),
@@ -140,10 +135,8 @@ fn irregular_row<S: StateStore>(
     store: &mut S,
     waybill: &WaybillBalances,
 ) -> Result<IrregularRow, StoreFault>
-    ensures value { (s : State) → S.shows store.old (at_rest s) → S.is_sound store.new
-        → IfOk result (λ row. row ≡ irregular_by s.cargo waybill.now) }
-    ensures rests { StaysAtRest S.shows store.old store.new }
-    ensures survives { Survives S.is_clean S.is_sound S.may_find store.old store.new }
+    ensures { ReadsAtRest S.storing store.old store.new result
+        (λ s row. row ≡ irregular_by s.cargo waybill.now) }
 {
     let declared = declaration(store, &waybill.awb)?;
     Ok(IrregularRow {
@@ -161,10 +154,8 @@ fn irregular_among<S: StateStore>(
     store: &mut S,
     waybills: &[WaybillBalances],
 ) -> Result<Vec<IrregularRow>, StoreFault>
-    ensures value { (s : State) → S.shows store.old (at_rest s) → S.is_sound store.new
-        → IfOk result (λ rows. rows.items ≡ map (irregular_by s.cargo) waybills.now) }
-    ensures rests { StaysAtRest S.shows store.old store.new }
-    ensures survives { Survives S.is_clean S.is_sound S.may_find store.old store.new }
+    ensures { ReadsAtRest S.storing store.old store.new result
+        (λ s rows. rows.items ≡ map (irregular_by s.cargo) waybills.now) }
 {
     let mut rows = Vec::new(alloc);
     for waybill in waybills {
@@ -180,10 +171,8 @@ pub fn irregular_rows<S: StateStore>(
     alloc: Global,
     store: &mut S,
 ) -> Result<Vec<IrregularRow>, StoreFault>
-    ensures value { (s : State) → S.shows store.old (at_rest s) → S.is_sound store.new
-        → IfOk result (λ rows. rows.items ≡ irregular_rows s.cargo) }
-    ensures rests { StaysAtRest S.shows store.old store.new }
-    ensures survives { Survives S.is_clean S.is_sound S.may_find store.old store.new }
+    ensures { ReadsAtRest S.storing store.old store.new result
+        (λ s rows. rows.items ≡ irregular_rows s.cargo) }
 {
     let waybills = store.waybills(WaybillQuery::Irregular)?;
     irregular_among(alloc, store, &waybills)
@@ -191,10 +180,8 @@ pub fn irregular_rows<S: StateStore>(
 
 /// Returns a waybill with its free and its built amount, which is the rest of the store.
 fn shed_row<S: StateStore>(store: &mut S, waybill: &WaybillBalances) -> Result<ShedRow, StoreFault>
-    ensures value { (s : State) → S.shows store.old (at_rest s) → S.is_sound store.new
-        → IfOk result (λ row. row ≡ shed_by s.cargo waybill.now) }
-    ensures rests { StaysAtRest S.shows store.old store.new }
-    ensures survives { Survives S.is_clean S.is_sound S.may_find store.old store.new }
+    ensures { ReadsAtRest S.storing store.old store.new result
+        (λ s row. row ≡ shed_by s.cargo waybill.now) }
 {
     let stored = stored(&waybill.balances)?;
     let declared = declaration(store, &waybill.awb)?;
@@ -214,10 +201,8 @@ fn shed_among<S: StateStore>(
     store: &mut S,
     waybills: &[WaybillBalances],
 ) -> Result<Vec<ShedRow>, StoreFault>
-    ensures value { (s : State) → S.shows store.old (at_rest s) → S.is_sound store.new
-        → IfOk result (λ rows. rows.items ≡ map (shed_by s.cargo) waybills.now) }
-    ensures rests { StaysAtRest S.shows store.old store.new }
-    ensures survives { Survives S.is_clean S.is_sound S.may_find store.old store.new }
+    ensures { ReadsAtRest S.storing store.old store.new result
+        (λ s rows. rows.items ≡ map (shed_by s.cargo) waybills.now) }
 {
     let mut rows = Vec::new(alloc);
     for waybill in waybills {
@@ -230,10 +215,8 @@ fn shed_among<S: StateStore>(
 /// each. Fails if a call of the store fails or returned what no lawful state has, or if memory runs
 /// out.
 pub fn shed_rows<S: StateStore>(alloc: Global, store: &mut S) -> Result<Vec<ShedRow>, StoreFault>
-    ensures value { (s : State) → S.shows store.old (at_rest s) → IsLawful s.cargo
-        → S.is_sound store.new → IfOk result (λ rows. rows.items ≡ shed_rows s.cargo) }
-    ensures rests { StaysAtRest S.shows store.old store.new }
-    ensures survives { Survives S.is_clean S.is_sound S.may_find store.old store.new }
+    ensures { ReadsAtRest S.storing store.old store.new result
+        (λ s rows. IsLawful s.cargo → rows.items ≡ shed_rows s.cargo) }
 {
     conservation_law();
     let waybills = store.waybills(WaybillQuery::Stored)?;
@@ -264,10 +247,8 @@ fn tenths_in(loads: &[Load]) -> u64
 }
 
 fn flight_row<S: StateStore>(store: &mut S, noted: &NotedFlight) -> Result<FlightRow, StoreFault>
-    ensures value { (s : State) → S.shows store.old (at_rest s) → S.is_sound store.new
-        → IfOk result (λ row. row ≡ flight_row s.cargo noted.now) }
-    ensures rests { StaysAtRest S.shows store.old store.new }
-    ensures survives { Survives S.is_clean S.is_sound S.may_find store.old store.new }
+    ensures { ReadsAtRest S.storing store.old store.new result
+        (λ s row. row ≡ flight_row s.cargo noted.now) }
 {
     let loads = store.aboard(&noted.flight)?;
     let Ok(waybills) = u16::try_from(loads.len()) else {
@@ -286,10 +267,8 @@ fn flights_among<S: StateStore>(
     store: &mut S,
     flights: &[NotedFlight],
 ) -> Result<Vec<FlightRow>, StoreFault>
-    ensures value { (s : State) → S.shows store.old (at_rest s) → S.is_sound store.new
-        → IfOk result (λ rows. rows.items ≡ map (flight_row s.cargo) flights.now) }
-    ensures rests { StaysAtRest S.shows store.old store.new }
-    ensures survives { Survives S.is_clean S.is_sound S.may_find store.old store.new }
+    ensures { ReadsAtRest S.storing store.old store.new result
+        (λ s rows. rows.items ≡ map (flight_row s.cargo) flights.now) }
 {
     let mut rows = Vec::new(alloc);
     for noted in flights {
@@ -304,10 +283,8 @@ pub fn flight_rows<S: StateStore>(
     alloc: Global,
     store: &mut S,
 ) -> Result<Vec<FlightRow>, StoreFault>
-    ensures value { (s : State) → S.shows store.old (at_rest s) → S.is_sound store.new
-        → IfOk result (λ rows. AreFlightRows s.cargo rows.items) }
-    ensures rests { StaysAtRest S.shows store.old store.new }
-    ensures survives { Survives S.is_clean S.is_sound S.may_find store.old store.new }
+    ensures { ReadsAtRest S.storing store.old store.new result
+        (λ s rows. AreFlightRows s.cargo rows.items) }
 {
     let all = store.noted()?;
     flights_among(alloc, store, &all)
@@ -318,10 +295,8 @@ fn expected_row<S: StateStore>(
     store: &mut S,
     expectation: &Expectation,
 ) -> Result<ExpectedRow, StoreFault>
-    ensures value { (s : State) → S.shows store.old (at_rest s) → S.is_sound store.new
-        → IfOk result (λ row. row ≡ expected_row s.cargo expectation.now) }
-    ensures rests { StaysAtRest S.shows store.old store.new }
-    ensures survives { Survives S.is_clean S.is_sound S.may_find store.old store.new }
+    ensures { ReadsAtRest S.storing store.old store.new result
+        (λ s row. row ≡ expected_row s.cargo expectation.now) }
 {
     let declared = declaration(store, &expectation.awb)?;
     Ok(ExpectedRow {
@@ -337,10 +312,8 @@ fn expected_among<S: StateStore>(
     store: &mut S,
     expectations: &[Expectation],
 ) -> Result<Vec<ExpectedRow>, StoreFault>
-    ensures value { (s : State) → S.shows store.old (at_rest s) → S.is_sound store.new
-        → IfOk result (λ rows. rows.items ≡ map (expected_row s.cargo) expectations.now) }
-    ensures rests { StaysAtRest S.shows store.old store.new }
-    ensures survives { Survives S.is_clean S.is_sound S.may_find store.old store.new }
+    ensures { ReadsAtRest S.storing store.old store.new result
+        (λ s rows. rows.items ≡ map (expected_row s.cargo) expectations.now) }
 {
     let mut rows = Vec::new(alloc);
     for expectation in expectations {
@@ -357,10 +330,8 @@ pub fn expected_rows<S: StateStore>(
     store: &mut S,
     query: &ExpectedQuery,
 ) -> Result<Vec<ExpectedRow>, StoreFault>
-    ensures value { (s : State) → S.shows store.old (at_rest s) → S.is_sound store.new
-        → IfOk result (λ rows. AreExpectedBy query.now s.cargo rows.items) }
-    ensures rests { StaysAtRest S.shows store.old store.new }
-    ensures survives { Survives S.is_clean S.is_sound S.may_find store.old store.new }
+    ensures { ReadsAtRest S.storing store.old store.new result
+        (λ s rows. AreExpectedBy query.now s.cargo rows.items) }
 {
     let asked = store.expectations(query)?;
     expected_among(alloc, store, &asked)

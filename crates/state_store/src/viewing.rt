@@ -1,10 +1,10 @@
 //! The views from which commands are planned. Each asks the store only for what its command reads.
-ghost use Rattle.std.specs.Prelude.{◌≡◌, OnOk, IfOk, length};
+ghost use Rattle.std.specs.Prelude.{◌≡◌, IfOk, length};
 ghost use Rattle.shipment_machine.specs.Agreement.{rows_for, view_of};
 ghost use Rattle.shipment_machine.specs.Book.{built};
 ghost use Rattle.shipment_machine.specs.Views.{declaration_view, waybill_view, flight_view, loads_of, rows_of};
 ghost use Rattle.shipment_machine.specs.declared.view.Rows.TheVariants as rows;
-ghost use Rattle.state_store.specs.Store.{Seen, GoesOnShowing, Survives};
+ghost use Rattle.state_store.specs.Store.{Reads, Says};
 
 use crate::lines::{loads_of, part_rows};
 use crate::store::StateStore;
@@ -18,10 +18,8 @@ use std::alloc::Global;
 
 /// Returns the rows for a booking or an FWB.
 fn declaration_rows<S: StateStore>(store: &mut S, awb: &Awb) -> Result<Rows, StoreFault>
-    ensures value { (x : Seen) → S.shows store.old x → S.is_sound store.new
-        → IfOk result (λ made. made ≡ rows.Declaration (declaration_view x.now.cargo awb.now)) }
-    ensures same { GoesOnShowing S.shows store.old store.new result }
-    ensures survives { Survives S.is_clean S.is_sound S.may_find store.old store.new }
+    ensures { Reads S.storing store.old store.new result
+        (λ s made. made ≡ rows.Declaration (declaration_view s.cargo awb.now)) }
 {
     let declared = store.declared(awb)?;
     let has_moves = store.has_moves(awb)?;
@@ -36,10 +34,8 @@ fn declaration_rows<S: StateStore>(store: &mut S, awb: &Awb) -> Result<Rows, Sto
 }
 
 fn waybill_view<S: StateStore>(store: &mut S, awb: &Awb) -> Result<WaybillView, StoreFault>
-    ensures value { (x : Seen) → S.shows store.old x → S.is_sound store.new
-        → IfOk result (λ view. view ≡ waybill_view x.now.cargo awb.now) }
-    ensures same { GoesOnShowing S.shows store.old store.new result }
-    ensures survives { Survives S.is_clean S.is_sound S.may_find store.old store.new }
+    ensures { Reads S.storing store.old store.new result
+        (λ s view. view ≡ waybill_view s.cargo awb.now) }
 {
     let declared = store.declared(awb)?;
     let balances = store.balances(awb)?;
@@ -47,10 +43,8 @@ fn waybill_view<S: StateStore>(store: &mut S, awb: &Awb) -> Result<WaybillView, 
 }
 
 fn waybill_rows<S: StateStore>(store: &mut S, awb: &Awb) -> Result<Rows, StoreFault>
-    ensures value { (x : Seen) → S.shows store.old x → S.is_sound store.new
-        → IfOk result (λ made. made ≡ rows.Waybill (waybill_view x.now.cargo awb.now)) }
-    ensures same { GoesOnShowing S.shows store.old store.new result }
-    ensures survives { Survives S.is_clean S.is_sound S.may_find store.old store.new }
+    ensures { Reads S.storing store.old store.new result
+        (λ s made. made ≡ rows.Waybill (waybill_view s.cargo awb.now)) }
 {
     let waybill = waybill_view(store, awb)?;
     Ok(Rows::Waybill { waybill })
@@ -72,10 +66,8 @@ fn flight_view<S: StateStore>(
     awb: &Awb,
     flight: &FlightDate,
 ) -> Result<FlightView, StoreFault>
-    ensures value { (x : Seen) → S.shows store.old x → S.is_sound store.new
-        → IfOk result (λ view. view ≡ flight_view x.now.cargo awb.now flight.now) }
-    ensures same { GoesOnShowing S.shows store.old store.new result }
-    ensures survives { Survives S.is_clean S.is_sound S.may_find store.old store.new }
+    ensures { Reads S.storing store.old store.new result
+        (λ s view. view ≡ flight_view s.cargo awb.now flight.now) }
 {
     let outbound = store.outbound(flight)?;
     let waybills = store.waybills_on(flight)?;
@@ -92,13 +84,9 @@ fn manifest_rows<S: StateStore>(
     awb: &Awb,
     flight: &FlightDate,
 ) -> Result<Rows, StoreFault>
-    ensures value { (x : Seen) → S.shows store.old x → S.is_sound store.new
-        → IfOk result
-        (λ made. made
-        ≡ rows.Manifest (waybill_view x.now.cargo awb.now)
-        (flight_view x.now.cargo awb.now flight.now)) }
-    ensures same { GoesOnShowing S.shows store.old store.new result }
-    ensures survives { Survives S.is_clean S.is_sound S.may_find store.old store.new }
+    ensures { Reads S.storing store.old store.new result
+        (λ s made. made ≡ rows.Manifest (waybill_view s.cargo awb.now)
+        (flight_view s.cargo awb.now flight.now)) }
 {
     let waybill = waybill_view(store, awb)?;
     let beside = flight_view(store, awb, flight)?;
@@ -113,13 +101,9 @@ fn offload_rows<S: StateStore>(
     awb: &Awb,
     flight: &FlightDate,
 ) -> Result<Rows, StoreFault>
-    ensures value { (x : Seen) → S.shows store.old x → S.is_sound store.new
-        → IfOk result
-        (λ made. made
-        ≡ rows.Offload (x.now.cargo.declared awb.now) (x.now.cargo.flights flight.now)
-        (built x.now.cargo.book awb.now flight.now)) }
-    ensures same { GoesOnShowing S.shows store.old store.new result }
-    ensures survives { Survives S.is_clean S.is_sound S.may_find store.old store.new }
+    ensures { Reads S.storing store.old store.new result
+        (λ s made. made ≡ rows.Offload (s.cargo.declared awb.now) (s.cargo.flights flight.now)
+        (built s.cargo.book awb.now flight.now)) }
 {
     let declared = store.declared(awb)?;
     let outbound = store.outbound(flight)?;
@@ -136,12 +120,9 @@ fn departure_rows<S: StateStore>(
     store: &mut S,
     flight: &FlightDate,
 ) -> Result<Rows, StoreFault>
-    ensures value { (x : Seen) → S.shows store.old x → S.is_sound store.new
-        → IfOk result
-        (λ made. made
-        ≡ rows.Departure (x.now.cargo.flights flight.now) (loads_of x.now.cargo flight.now)) }
-    ensures same { GoesOnShowing S.shows store.old store.new result }
-    ensures survives { Survives S.is_clean S.is_sound S.may_find store.old store.new }
+    ensures { Reads S.storing store.old store.new result
+        (λ s made. made ≡ rows.Departure (s.cargo.flights flight.now)
+        (loads_of s.cargo flight.now)) }
 {
     let outbound = store.outbound(flight)?;
     let loads = loads_of(alloc, store, flight)?;
@@ -153,13 +134,9 @@ fn check_in_rows<S: StateStore>(
     awb: &Awb,
     flight: &FlightDate,
 ) -> Result<Rows, StoreFault>
-    ensures value { (x : Seen) → S.shows store.old x → S.is_sound store.new
-        → IfOk result
-        (λ made. made
-        ≡ rows.CheckIn (waybill_view x.now.cargo awb.now)
-        (x.now.cargo.expected flight.now awb.now)) }
-    ensures same { GoesOnShowing S.shows store.old store.new result }
-    ensures survives { Survives S.is_clean S.is_sound S.may_find store.old store.new }
+    ensures { Reads S.storing store.old store.new result
+        (λ s made. made ≡ rows.CheckIn (waybill_view s.cargo awb.now)
+        (s.cargo.expected flight.now awb.now)) }
 {
     let waybill = waybill_view(store, awb)?;
     let expected = store.expected(flight, awb)?;
@@ -167,18 +144,16 @@ fn check_in_rows<S: StateStore>(
 }
 
 fn status_rows<S: StateStore>(store: &mut S, awb: &Awb) -> Result<Rows, StoreFault>
-    ensures value { (x : Seen) → S.shows store.old x → S.is_sound store.new
-        → IfOk result (λ made. made ≡ rows.Status (x.now.cargo.declared awb.now)) }
-    ensures same { GoesOnShowing S.shows store.old store.new result }
-    ensures survives { Survives S.is_clean S.is_sound S.may_find store.old store.new }
+    ensures { Reads S.storing store.old store.new result
+        (λ s made. made ≡ rows.Status (s.cargo.declared awb.now)) }
 {
     let declared = store.declared(awb)?;
     Ok(Rows::Status { declared })
 }
 
 fn message_rows<S: StateStore>(store: &S) -> Rows
-    ensures { (x : Seen) → S.shows store.now x → S.is_sound store.now
-        → result ≡ rows.Messages x.now.cargo.confirmed (length x.now.cargo.outbox) }
+    ensures { Says S.storing store.now
+        (λ s. result ≡ rows.Messages s.cargo.confirmed (length s.cargo.outbox)) }
 {
     let sizes = store.sizes();
     Rows::Messages {
@@ -188,10 +163,8 @@ fn message_rows<S: StateStore>(store: &S) -> Rows
 }
 
 fn desk_rows<S: StateStore>(alloc: Global, store: &mut S, key: &RowsKey) -> Result<Rows, StoreFault>
-    ensures value { (x : Seen) → S.shows store.old x → S.is_sound store.new
-        → IfOk result (λ made. made ≡ rows_of x.now.cargo key.now) }
-    ensures same { GoesOnShowing S.shows store.old store.new result }
-    ensures survives { Survives S.is_clean S.is_sound S.may_find store.old store.new }
+    ensures { Reads S.storing store.old store.new result
+        (λ s made. made ≡ rows_of s.cargo key.now) }
 {
     match key {
         RowsKey::Declaration(awb) => declaration_rows(store, awb),
@@ -210,10 +183,8 @@ fn rows_for<S: StateStore>(
     command: &ShipmentCommand<'_>,
     at: Moment,
 ) -> Result<Rows, StoreFault>
-    ensures value { (x : Seen) → S.shows store.old x → S.is_sound store.new
-        → IfOk result (λ made. made ≡ rows_for x.now.cargo command.now at) }
-    ensures same { GoesOnShowing S.shows store.old store.new result }
-    ensures survives { Survives S.is_clean S.is_sound S.may_find store.old store.new }
+    ensures { Reads S.storing store.old store.new result
+        (λ s made. made ≡ rows_for s.cargo command.now at) }
 {
     match command {
         ShipmentCommand::Desk(desk) => desk_rows(alloc, store, &desk.get().reads()),
@@ -231,10 +202,8 @@ pub fn view<S: StateStore>(
     command: &ShipmentCommand<'_>,
     at: Moment,
 ) -> Result<View, StoreFault>
-    ensures value { (x : Seen) → S.shows store.old x → S.is_sound store.new
-        → IfOk result (λ view. view ≡ view_of x.now.cargo command.now at) }
-    ensures same { GoesOnShowing S.shows store.old store.new result }
-    ensures survives { Survives S.is_clean S.is_sound S.may_find store.old store.new }
+    ensures { Reads S.storing store.old store.new result
+        (λ s view. view ≡ view_of s.cargo command.now at) }
 {
     let rows = rows_for(alloc, store, command, at)?;
     Ok(View {

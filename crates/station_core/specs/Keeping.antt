@@ -1,5 +1,5 @@
 -- The effect of an input on a station, whatever the answer.
-use Rattle.std.specs.Prelude.{◌≡◌, ◌⊎◌, ℕ, ◌+◌, ◌<◌, Bool, true, false, Result, Ok, Err, IfErr, OnOk, OnErr, List, take, length, Option, Some, None}
+use Rattle.std.specs.Prelude.{◌≡◌, ◌⊎◌, ℕ, ◌+◌, ◌<◌, Bool, true, false, Result, Ok, Err, IfErr, IfOk, OnOk, OnErr, List, take, length, Option, Some, None}
 use Rattle.shipment_machine.specs.Cargo.{Cargo}
 use Rattle.station_core.specs.declared.answer.Reply.{Reply}
 use Rattle.station_core.specs.declared.answer.Answer.{Answer}
@@ -84,26 +84,30 @@ IsAfterAnswered s inputs answered ended found =
     (found ≡ Some (after_all s (take answered inputs)))
     ⊎ ((ended ≡ Some fault.Store) × (answered < length inputs) × (found ≡ Some (after_all s (take (answered + 1) inputs))))
 
--- The ghost members of a keeper: the state, whether the disk is clean, whether the storage is
--- sound, whether it is broken, the states that reopening may find, and what holds if its store
--- fails, which is absurd in memory.
+-- What a contract sees of a keeper.
 pub record Keeping (K : Type 0) : Type 1 where
+  -- it keeps this state
   pub keeps : K → State → Type 0
+  -- the disk has returned what was written, and kept what it confirmed
   pub is_clean : K → Type 0
+  -- the premise of the contracts: the keeper is clean, and nothing else is wrong with its storage
   pub is_sound : K → Type 0
+  -- every call returns Reopen
   pub is_broken : K → Bool
+  -- the states that reopening may find after a crash at this moment; None if the tables mean none
   pub may_find : K → Option State → Type 0
+  -- a consequence of Store from a keeper that isn't broken: absurd in memory
   pub may_fail : Type 0
 
-abbrev pub keeping : {K : Type 0} → (K → State → Type 0) → (K → Type 0) → (K → Type 0) → (K → Bool)
-    → (K → Option State → Type 0) → Type 0 → Keeping K
-keeping keeps is_clean is_sound is_broken may_find may_fail = record {
-  keeps = keeps;
-  is_clean = is_clean;
-  is_sound = is_sound;
-  is_broken = is_broken;
-  may_find = may_find;
-  may_fail = may_fail;
+-- what a contract sees of a value with a keeper inside
+abbrev pub around : {W K : Type 0} → (W → K) → Keeping K → Keeping W
+around keeper k = record {
+  keeps = λ w. k.keeps (keeper w);
+  is_clean = λ w. k.is_clean (keeper w);
+  is_sound = λ w. k.is_sound (keeper w);
+  is_broken = λ w. k.is_broken (keeper w);
+  may_find = λ w. k.may_find (keeper w);
+  may_fail = k.may_fail;
 }
 
 -- A call ends cleanliness and soundness only if the disk fails.
@@ -112,21 +116,53 @@ pub record KeepsPremise {K : Type 0} (is_clean is_sound : K → Type 0) (old new
   pub still : is_sound old → is_clean new → is_sound new
   pub sound : is_sound new → is_sound old
 
--- a call that is answered leaves a working keeper working
-abbrev pub KeepsWorking : {A E : Type 0} → Bool → Bool → Result A E → Type 0
-KeepsWorking was_broken is_broken result = was_broken ≡ false → OnOk result (is_broken ≡ false)
+abbrev pub KeepsSound : {K : Type 0} → Keeping K → K → K → Type 0
+KeepsSound k old new = KeepsPremise k.is_clean k.is_sound old new
 
-abbrev pub StaysIfBroken : {K : Type 0} → Bool → K → K → Type 0
-StaysIfBroken is_broken old new = is_broken ≡ true → new ≡ old
+-- a call that is answered leaves a working keeper working
+abbrev pub KeepsWorking : {K A E : Type 0} → Keeping K → K → K → Result A E → Type 0
+KeepsWorking k old new result = k.is_broken old ≡ false → OnOk result (k.is_broken new ≡ false)
+
+-- what every call leaves of a keeper
+pub record StaysInService {K A E : Type 0} (k : Keeping K) (old new : K) (result : Result A E) : Type 0 where
+  pub premise : KeepsSound k old new
+  pub works : KeepsWorking k old new result
+
+abbrev pub StaysIfBroken : {K : Type 0} → Keeping K → K → K → Type 0
+StaysIfBroken k old new = k.is_broken old ≡ true → new ≡ old
+
+-- A broken keeper does nothing until the station is opened again.
+abbrev pub Reopens : {K A : Type 0} → Keeping K → K → K → Result A ActFault → Type 0
+Reopens k old new result = k.is_broken old ≡ true → (result ≡ Err fault.Reopen) × (new ≡ old)
 
 -- A reader changes nothing: the state, what reopening finds, and what other calls return stay the
 -- same.
 pub record OnlyReads {K : Type 0} (k : Keeping K) (old new : K) : Type 0 where
   pub breaks : k.is_broken new ≡ k.is_broken old
-  pub premise : KeepsPremise k.is_clean k.is_sound old new
+  pub premise : KeepsSound k old new
   pub same : (s : State) → k.keeps old s → k.is_sound new → k.keeps new s
   pub leaves :
       k.is_sound new → (found : Option State) → k.may_find new found → k.may_find old found
+
+-- This holds of the state that the keeper kept, if its storage is still sound; the same of a keeper
+-- that works.
+abbrev pub IfSound : {K : Type 0} → Keeping K → K → K → (State → Type 0) → Type 0
+IfSound k old new Holds = (s : State) → k.keeps old s → k.is_sound new → Holds s
+
+abbrev pub IfWorks : {K : Type 0} → Keeping K → K → K → (State → Type 0) → Type 0
+IfWorks k old new Holds =
+    (s : State) → k.keeps old s → k.is_broken old ≡ false → k.is_sound new → Holds s
+
+-- whatever reopening may find is this
+abbrev pub FindsOnly : {K : Type 0} → Keeping K → K → (Option State → Type 0) → Type 0
+FindsOnly k keeper Is = (found : Option State) → k.may_find keeper found → Is found
+
+-- A reader of one value changes nothing and returns this of the state.
+pub record Reads {K A : Type 0} (k : Keeping K) (old new : K) (result : Result A ActFault) (Is : State → A → Type 0) : Type 0 where
+  pub reopen : Reopens k old new result
+  pub fault : k.is_broken old ≡ false → IfErr result (IsReadersFault k.may_fail)
+  pub reads : OnlyReads k old new
+  pub value : IfSound k old new (λ s. IfOk result (Is s))
 
 -- A reader of rows changes nothing. At Ok its sink took all rows in order, or those up to the row
 -- at which it stopped; at Err a prefix. A broken station hands out nothing.

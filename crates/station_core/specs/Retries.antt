@@ -1,5 +1,5 @@
 -- A caller that repeats its inputs, and a station whose power may fail at any moment.
-use Rattle.std.specs.Prelude.{◌≡◌, ℕ, Bool, true, false, ◌&&◌, IsTrue, is_none, if◌then◌else◌, ◌⊎◌, List, [], ◌∷◌, ◌++◌, Option, Some}
+use Rattle.std.specs.Prelude.{◌≡◌, Bool, true, false, ◌&&◌, IsTrue, is_none, if◌then◌else◌, ◌⊎◌, List, [], ◌∷◌, ◌++◌, Some}
 use Rattle.std.specs.List.{AllByRecursion, list_any}
 use Rattle.std.specs.Str.{bytes_eq}
 use Rattle.station_days.specs.Date.{LocalMinute}

@@ -1,5 +1,5 @@
 -- Values that a store returns from a state, and the changes that its calls make.
-use Rattle.std.specs.Prelude.{◌≡◌, ℕ, ◌+◌, ◌-◌, ◌==◌, ◌||◌, nat_lt, if◌then◌else◌, IsTrue, string_bytes, List, [], ◌∷◌, ◌++◌, length, map}
+use Rattle.std.specs.Prelude.{◌≡◌, ℕ, ◌+◌, ◌-◌, ◌==◌, IsTrue, string_bytes, List, ◌++◌, length, map}
 use Rattle.std.specs.FinMap.{is_sorted}
 use Rattle.std.specs.List.{find}
 use Rattle.std.specs.Option.{option_map, unwrap_or}

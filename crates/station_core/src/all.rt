@@ -3,7 +3,7 @@ ghost use Rattle.station_days.specs.Date.{LocalMinute};
 ghost use Rattle.station_core.specs.declared.input.Input.{Input as AnyInput};
 ghost use Rattle.station_core.specs.declared.answer.ActFault.{ActFault};
 ghost use Rattle.station_core.specs.Step.{State, after_all, answers_of};
-ghost use Rattle.station_core.specs.Keeping.{Answers, KeepsWorking, KeepsPremise, MayLeave, IsMemoryOrStore, IsMemoryOrReopen, IsBrokenAfter, IsBrokenAtEnd, IsAfterAnswered};
+ghost use Rattle.station_core.specs.Keeping.{Answers, FindsOnly, IfWorks, IsAfterAnswered, IsBrokenAfter, IsBrokenAtEnd, IsMemoryOrReopen, IsMemoryOrStore, KeepsSound, KeepsWorking, MayLeave, Reopens};
 
 use crate::answer::{ActFault, AllAnswers, Answer};
 use crate::input::Input;
@@ -17,18 +17,16 @@ pub fn answer_one<K: Keeper>(
     input: &Input<'_>,
     at: Moment,
 ) -> Result<Answer, ActFault>
-    ensures premise { KeepsPremise K.is_clean K.is_sound keeper.old keeper.new }
-    ensures works { KeepsWorking (K.is_broken keeper.old) (K.is_broken keeper.new) result }
-    ensures reopen { K.is_broken keeper.old ≡ true → (result ≡ Err ActFault.Reopen)
-        × (keeper.new ≡ keeper.old) }
-    ensures fault { K.is_broken keeper.old ≡ false → IfErr result IsMemoryOrStore }
-    ensures breaks { K.is_broken keeper.old ≡ false
-        → IfErr result (λ e. IsBrokenAfter e (K.is_broken keeper.new)) }
-    ensures answers { (s : State) → K.keeps keeper.old s → K.is_broken keeper.old ≡ false
-        → K.is_sound keeper.new → Answers s input.now at result (K.keeps keeper.new) }
-    ensures leaves { (s : State) → K.keeps keeper.old s → K.is_broken keeper.old ≡ false
-        → K.is_sound keeper.new → (found : Option State) → K.may_find keeper.new found
-        → MayLeave s input.now at result found }
+    ensures premise { KeepsSound K.keeping keeper.old keeper.new }
+    ensures works { KeepsWorking K.keeping keeper.old keeper.new result }
+    ensures reopen { Reopens K.keeping keeper.old keeper.new result }
+    ensures fault { K.keeping.is_broken keeper.old ≡ false → IfErr result IsMemoryOrStore }
+    ensures breaks { K.keeping.is_broken keeper.old ≡ false → IfErr result
+        (λ e. IsBrokenAfter e (K.keeping.is_broken keeper.new)) }
+    ensures answers { IfWorks K.keeping keeper.old keeper.new
+        (λ s. Answers s input.now at result (K.keeping.keeps keeper.new)) }
+    ensures leaves { IfWorks K.keeping keeper.old keeper.new
+        (λ s. FindsOnly K.keeping keeper.new (MayLeave s input.now at result)) }
 {
     match keeper.act(input, at) {
         Ok(reply) => Ok(Answer::Done(reply)),
@@ -46,31 +44,29 @@ pub fn act_all<K: Keeper>(
     keeper: &mut K,
     inputs: &[(Input<'_>, Moment)],
 ) -> AllAnswers
-    ensures answers { (s : State) → K.keeps keeper.old s → K.is_broken keeper.old ≡ false
-        → K.is_sound keeper.new
-        → result.answers.items ≡ answers_of s (take (length result.answers.items) inputs.now) }
+    ensures answers { IfWorks K.keeping keeper.old keeper.new (λ s. result.answers.items
+        ≡ answers_of s (take (length result.answers.items) inputs.now)) }
     ensures all { result.fault ≡ None → length result.answers.items ≡ length inputs.now }
-    ensures state { (s : State) → K.keeps keeper.old s → K.is_broken keeper.old ≡ false
-        → K.is_sound keeper.new → (result.fault ≡ Some ActFault.Store → ⊥)
-        → K.keeps keeper.new (after_all s (take (length result.answers.items) inputs.now)) }
+    ensures state { IfWorks K.keeping keeper.old keeper.new (λ s.
+        (result.fault ≡ Some ActFault.Store → ⊥) → K.keeping.keeps keeper.new
+        (after_all s (take (length result.answers.items) inputs.now))) }
     // After a fault, at least one input isn't answered.
     ensures part { (e : ActFault) → result.fault ≡ Some e
         → length result.answers.items < length inputs.now }
-    ensures fault { K.is_broken keeper.old ≡ false → (e : ActFault) → result.fault ≡ Some e
+    ensures fault { K.keeping.is_broken keeper.old ≡ false → (e : ActFault) → result.fault ≡ Some e
         → IsMemoryOrStore e }
-    ensures breaks { K.is_broken keeper.old ≡ false
-        → IsBrokenAtEnd result.fault (K.is_broken keeper.new) }
-    ensures reopen { K.is_broken keeper.old ≡ true → (result.answers.items ≡ [])
+    ensures breaks { K.keeping.is_broken keeper.old ≡ false → IsBrokenAtEnd result.fault
+        (K.keeping.is_broken keeper.new) }
+    ensures reopen { K.keeping.is_broken keeper.old ≡ true → (result.answers.items ≡ [])
         × (keeper.new ≡ keeper.old) }
-    ensures reopen_fault { K.is_broken keeper.old ≡ true → (e : ActFault) → result.fault ≡ Some e
-        → IsMemoryOrReopen e }
-    ensures premise { KeepsPremise K.is_clean K.is_sound keeper.old keeper.new }
+    ensures reopen_fault { K.keeping.is_broken keeper.old ≡ true → (e : ActFault) → result.fault
+        ≡ Some e → IsMemoryOrReopen e }
+    ensures premise { KeepsSound K.keeping keeper.old keeper.new }
 
     // Reopening finds the state after the answered inputs or, if `Store` ended them, perhaps after
     // one more.
-    ensures leaves { (s : State) → K.keeps keeper.old s → K.is_broken keeper.old ≡ false
-        → K.is_sound keeper.new → (found : Option State) → K.may_find keeper.new found
-        → IsAfterAnswered s inputs.now (length result.answers.items) result.fault found }
+    ensures leaves { IfWorks K.keeping keeper.old keeper.new (λ s. FindsOnly K.keeping keeper.new
+        (IsAfterAnswered s inputs.now (length result.answers.items) result.fault)) }
 {
     let mut answers = Vec::new(alloc);
     for input in inputs {

@@ -1,4 +1,4 @@
-ghost use Rattle.std.specs.Prelude.{◌≡◌, ℕ, Bool, true, false, List, Option, Some, Err, IfOk, IfErr};
+ghost use Rattle.std.specs.Prelude.{◌≡◌, false, Option, Some};
 
 use crate::answer::{ActFault, Reply};
 use crate::input::Input;
@@ -18,85 +18,56 @@ use station_days::Moment;
 pub trait Keeper {
     ghost use Rattle.agent_stock.specs.Runs.{AreStockRuns};
     ghost use Rattle.station_core.specs.Step.{State, IsLawfulState};
-    ghost use Rattle.station_core.specs.Keeping.{Breaks, Acts, Leaves, IsReadersFault, KeepsPremise, OnlyReads, HandsOut, keeping};
+    ghost use Rattle.station_core.specs.Keeping.{Acts, Breaks, FindsOnly, HandsOut, IfWorks, Keeping, KeepsSound, Leaves, Reads, Reopens};
     ghost use Rattle.station_core.specs.Readers.{waybill_of, shed_rows, AreFlightRows, AreExpectedBy, AreExpectedRows, irregular_rows, book_rows, book_by, pending_messages, trail_rows, trail_by};
 
-    /// The keeper keeps this state.
-    ghost keeps: { Self → State → Type 0 };
-
-    /// The disk has returned what was written, and kept what it confirmed.
-    ghost is_clean: { Self → Type 0 };
-
-    /// The premise of the contracts: the keeper is clean, and nothing else is wrong with its
-    /// storage. A call ends it only if the disk fails.
-    ghost is_sound: { Self → Type 0 };
-
-    /// True if the keeper is broken: every call returns `Reopen`.
-    ghost is_broken: { Self → Bool };
-
-    /// The states that reopening may find after a crash at this moment; `None` if the tables mean
-    /// no state.
-    ghost may_find: { Self → Option State → Type 0 };
-
-    /// A consequence of a `Store` from a keeper that isn't broken: absurd in memory, and trivial if
-    /// the store may fail.
-    ghost may_fail: { Type 0 };
+    /// What a contract sees of the keeper: the state that it keeps, whether its disk and its storage
+    /// hold what they confirmed, whether it is broken, and what reopening may find.
+    ghost keeping: { Keeping Self };
 
     /// Acts on one input at a moment.
     fn act(&mut self, input: &Input<'_>, at: Moment) -> Result<Reply, ActFault>
         // After a failure of the store, nothing happens until the station is opened again.
-        ensures reopen { is_broken self.old ≡ true → (result ≡ Err ActFault.Reopen)
-            × (self.new ≡ self.old) }
-        ensures breaks { is_broken self.old ≡ false → Breaks result (is_broken self.new) }
-        ensures premise { KeepsPremise is_clean is_sound self.old self.new }
+        ensures reopen { Reopens keeping self.old self.new result }
+        ensures breaks { keeping.is_broken self.old ≡ false → Breaks result
+            (keeping.is_broken self.new) }
+        ensures premise { KeepsSound keeping self.old self.new }
 
         // The answer and the state are those of the step.
-        ensures acts { (s : State) → keeps self.old s → is_broken self.old ≡ false
-            → is_sound self.new → Acts s input.now at result (keeps self.new) }
-        ensures leaves { (s : State) → keeps self.old s → is_broken self.old ≡ false
-            → is_sound self.new → (found : Option State) → may_find self.new found
-            → Leaves s input.now at result found };
+        ensures acts { IfWorks keeping self.old self.new
+            (λ s. Acts s input.now at result (keeping.keeps self.new)) }
+        ensures leaves { IfWorks keeping self.old self.new
+            (λ s. FindsOnly keeping self.new (Leaves s input.now at result)) };
 
     /// Returns the holder of a number.
     fn holder(&mut self, number: &Awb) -> Result<Option<Holder>, ActFault>
-        ensures reopen { is_broken self.old ≡ true → (result ≡ Err ActFault.Reopen)
-            × (self.new ≡ self.old) }
-        ensures fault { is_broken self.old ≡ false → IfErr result (IsReadersFault may_fail) }
-        ensures reads { OnlyReads (keeping keeps is_clean is_sound is_broken may_find may_fail)
-            self.old self.new }
-        ensures holder { (s : State) → keeps self.old s → is_sound self.new
-            → IfOk result (λ holder. holder ≡ s.cargo.holders number.now) };
+        ensures { Reads keeping self.old self.new result
+            (λ s holder. holder ≡ s.cargo.holders number.now) };
 
     /// Returns the record of a waybill.
     fn waybill(&mut self, number: &Awb) -> Result<Option<Waybill>, ActFault>
-        ensures reopen { is_broken self.old ≡ true → (result ≡ Err ActFault.Reopen)
-            × (self.new ≡ self.old) }
-        ensures fault { is_broken self.old ≡ false → IfErr result (IsReadersFault may_fail) }
-        ensures reads { OnlyReads (keeping keeps is_clean is_sound is_broken may_find may_fail)
-            self.old self.new }
-        ensures waybill { (s : State) → keeps self.old s → is_sound self.new
-            → IfOk result (λ waybill. waybill ≡ waybill_of s.cargo number.now) };
+        ensures { Reads keeping self.old self.new result
+            (λ s waybill. waybill ≡ waybill_of s.cargo number.now) };
 
     /// Hands out the stock as maximal runs of one holder, ascending.
     fn stock<S: Sink<StockRun>>(&mut self, sink: &mut S) -> Result<(), ActFault>
-        ensures { HandsOut (keeping keeps is_clean is_sound is_broken may_find may_fail)
-            self.old self.new result S.takes (λ s rows. AreStockRuns s.holders rows)
-            sink.old sink.new };
+        ensures { HandsOut keeping self.old self.new result S.takes
+            (λ s rows. AreStockRuns s.holders rows) sink.old sink.new };
 
     /// Hands out the waybills with pieces in store, ascending.
     fn shed<S: Sink<ShedRow>>(&mut self, sink: &mut S) -> Result<(), ActFault>
-        ensures { HandsOut (keeping keeps is_clean is_sound is_broken may_find may_fail)
-            self.old self.new result S.takes (λ s rows. rows ≡ shed_rows s) sink.old sink.new };
+        ensures { HandsOut keeping self.old self.new result S.takes (λ s rows. rows ≡ shed_rows s)
+            sink.old sink.new };
 
     /// Hands out the noted flights with their loads, ordered by written form and then by day.
     fn flights<S: Sink<FlightRow>>(&mut self, sink: &mut S) -> Result<(), ActFault>
-        ensures { HandsOut (keeping keeps is_clean is_sound is_broken may_find may_fail)
-            self.old self.new result S.takes (λ s rows. AreFlightRows s rows) sink.old sink.new };
+        ensures { HandsOut keeping self.old self.new result S.takes (λ s rows. AreFlightRows s rows)
+            sink.old sink.new };
 
     /// Hands out all expectations, ordered by flight as in `flights` and then by waybill.
     fn expected<S: Sink<ExpectedRow>>(&mut self, sink: &mut S) -> Result<(), ActFault>
-        ensures { HandsOut (keeping keeps is_clean is_sound is_broken may_find may_fail)
-            self.old self.new result S.takes (λ s rows. AreExpectedRows s rows) sink.old sink.new }
+        ensures { HandsOut keeping self.old self.new result S.takes
+            (λ s rows. AreExpectedRows s rows) sink.old sink.new }
     {
         self.expected_by(&ExpectedQuery::All, sink)
     }
@@ -107,40 +78,36 @@ pub trait Keeper {
         query: &ExpectedQuery,
         sink: &mut S,
     ) -> Result<(), ActFault>
-        ensures { HandsOut (keeping keeps is_clean is_sound is_broken may_find may_fail)
-            self.old self.new result S.takes (λ s rows. AreExpectedBy query.now s rows)
-            sink.old sink.new };
+        ensures { HandsOut keeping self.old self.new result S.takes
+            (λ s rows. AreExpectedBy query.now s rows) sink.old sink.new };
 
     /// Hands out the waybills with missing or found pieces, ascending.
     fn irregular<S: Sink<IrregularRow>>(&mut self, sink: &mut S) -> Result<(), ActFault>
-        ensures { HandsOut (keeping keeps is_clean is_sound is_broken may_find may_fail)
-            self.old self.new result S.takes (λ s rows. rows ≡ irregular_rows s)
-            sink.old sink.new };
+        ensures { HandsOut keeping self.old self.new result S.takes
+            (λ s rows. rows ≡ irregular_rows s) sink.old sink.new };
 
     /// Hands out the movement book, in order.
     fn book<S: Sink<BookRow>>(&mut self, sink: &mut S) -> Result<(), ActFault>
-        ensures { HandsOut (keeping keeps is_clean is_sound is_broken may_find may_fail)
-            self.old self.new result S.takes (λ s rows. rows ≡ book_rows s) sink.old sink.new }
+        ensures { HandsOut keeping self.old self.new result S.takes (λ s rows. rows ≡ book_rows s)
+            sink.old sink.new }
     {
         self.book_by(&BookQuery::All, sink)
     }
 
     /// Hands out the queried movements, in order, with their numbers in the book.
     fn book_by<S: Sink<BookRow>>(&mut self, query: &BookQuery, sink: &mut S) -> Result<(), ActFault>
-        ensures { HandsOut (keeping keeps is_clean is_sound is_broken may_find may_fail)
-            self.old self.new result S.takes (λ s rows. rows ≡ book_by query.now s)
-            sink.old sink.new };
+        ensures { HandsOut keeping self.old self.new result S.takes
+            (λ s rows. rows ≡ book_by query.now s) sink.old sink.new };
 
     /// Hands out the unconfirmed messages, in order.
     fn pending<S: Sink<Message>>(&mut self, sink: &mut S) -> Result<(), ActFault>
-        ensures { HandsOut (keeping keeps is_clean is_sound is_broken may_find may_fail)
-            self.old self.new result S.takes (λ s rows. rows ≡ pending_messages s)
-            sink.old sink.new };
+        ensures { HandsOut keeping self.old self.new result S.takes
+            (λ s rows. rows ≡ pending_messages s) sink.old sink.new };
 
     /// Hands out the trail, in order.
     fn trail<S: Sink<TrailRow>>(&mut self, sink: &mut S) -> Result<(), ActFault>
-        ensures { HandsOut (keeping keeps is_clean is_sound is_broken may_find may_fail)
-            self.old self.new result S.takes (λ s rows. rows ≡ trail_rows s) sink.old sink.new }
+        ensures { HandsOut keeping self.old self.new result S.takes (λ s rows. rows ≡ trail_rows s)
+            sink.old sink.new }
     {
         self.trail_by(&TrailQuery::All, sink)
     }
@@ -151,14 +118,14 @@ pub trait Keeper {
         query: &TrailQuery,
         sink: &mut S,
     ) -> Result<(), ActFault>
-        ensures { HandsOut (keeping keeps is_clean is_sound is_broken may_find may_fail)
-            self.old self.new result S.takes (λ s rows. rows ≡ trail_by query.now s)
-            sink.old sink.new };
+        ensures { HandsOut keeping self.old self.new result S.takes
+            (λ s rows. rows ≡ trail_by query.now s) sink.old sink.new };
 
     /// Reopening finds the state that is kept.
-    ghost settled: { (k : Self) (s : State) → keeps k s → is_sound k → (found : Option State)
-        → may_find k found → found ≡ Some s };
+    ghost settled: { (k : Self) (s : State) → keeping.keeps k s → keeping.is_sound k
+        → (found : Option State) → keeping.may_find k found → found ≡ Some s };
 
     /// Each state that reopening may find is lawful.
-    ghost lawful: { (k : Self) (s : State) → is_sound k → may_find k (Some s) → IsLawfulState s };
+    ghost lawful: { (k : Self) (s : State) → keeping.is_sound k → keeping.may_find k (Some s)
+        → IsLawfulState s };
 }

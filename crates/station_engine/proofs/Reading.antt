@@ -6,11 +6,11 @@ use Rattle.shipment_machine.specs.Cargo.{Cargo}
 use Rattle.station_core.specs.declared.answer.ActFault.{ActFault}
 use Rattle.station_days.specs.Date.{LocalMinute}
 use Rattle.station_core.specs.declared.input.Input.{Input}
-use Rattle.station_core.specs.Keeping.{HandsOut, IsReadersFault, OnlyReads, keeping}
+use Rattle.station_core.specs.Keeping.{HandsOut, IsReadersFault, OnlyReads}
 use Rattle.station_core.specs.Step.{State, IsLawfulState, step}
-use Rattle.station_engine.specs.Found.{Finds}
+use Rattle.station_engine.specs.Found.{Finds, station_over}
 use Rattle.station_engine.specs.Serving.{IsAfter}
-use Rattle.state_store.specs.Store.{Seen, at_rest, Survives}
+use Rattle.state_store.specs.Store.{StaysAtRest, Storing, Survives, at_rest}
 
 abbrev option_value : State → Option State → State
 option_value s None = s
@@ -19,32 +19,32 @@ option_value s (Some t) = t
 found_one : (s t : State) → Some t ≡ Some s → IsLawfulState s → IsLawfulState t
 found_one s t e law = subst IsLawfulState (sym (ap (option_value s) e)) law
 
-finds_on : {St : Type 0} (is_clean is_sound : St → Type 0) (may_find : St → Option State → Type 0) (old new : St) → Survives is_clean is_sound may_find old new → is_sound new → (found : Option State) → Finds (may_find new) found → Finds (may_find old) found
-finds_on is_clean is_sound may_find old new survives sound None (inl finds) = inl (survives.leaves sound None finds)
-finds_on is_clean is_sound may_find old new survives sound None (inr other) = inr (other.0, survives.leaves sound (Some other.0) other.1, other.2)
-finds_on is_clean is_sound may_find old new survives sound (Some t) finds = (survives.leaves sound (Some t) finds.0, finds.1)
+finds_on : {St : Type 0} (k : Storing St) (old new : St) → Survives k old new → k.is_sound new → (found : Option State) → Finds (k.may_find new) found → Finds (k.may_find old) found
+finds_on k old new survives sound None (inl finds) = inl (survives.leaves sound None finds)
+finds_on k old new survives sound None (inr other) = inr (other.0, survives.leaves sound (Some other.0) other.1, other.2)
+finds_on k old new survives sound (Some t) finds = (survives.leaves sound (Some t) finds.0, finds.1)
 
 -- a reader changes nothing
-pub reads_only : {K St : Type 0} (store : K → St) (is_broken : K → Bool) (shows : St → Seen → Type 0) (is_clean is_sound : St → Type 0) (may_find : St → Option State → Type 0) (old new : K) → is_broken new ≡ is_broken old
-    → ((s : State) → shows (store old) (at_rest s) → shows (store new) (at_rest s)) → Survives is_clean is_sound may_find (store old) (store new)
-    → OnlyReads (keeping (λ k s. IsLawfulState s × shows (store k) (at_rest s)) (λ k. is_clean (store k)) (λ k. is_sound (store k)) is_broken (λ k found. Finds (may_find (store k)) found) (Unit {0})) old new
-reads_only store is_broken shows is_clean is_sound may_find old new broken rests survives = record {
+pub reads_only : {K St : Type 0} (store : K → St) (is_broken : K → Bool) (k : Storing St) (old new : K) → is_broken new ≡ is_broken old
+    → StaysAtRest k (store old) (store new) → Survives k (store old) (store new)
+    → OnlyReads (station_over store is_broken k) old new
+reads_only store is_broken k old new broken rests survives = record {
   breaks = broken;
   premise = record { clean = survives.clean; still = survives.still; sound = survives.sound };
   same = λ s keeps sound. (keeps.0, rests s keeps.1);
-  leaves = λ sound found finds. finds_on is_clean is_sound may_find (store old) (store new) survives sound found finds;
+  leaves = λ sound found finds. finds_on k (store old) (store new) survives sound found finds;
 }
 
 -- a reader of rows changes nothing, and its sink takes them
-pub hands_out : {K St S Row : Type 0} (store : K → St) (is_broken : K → Bool) (shows : St → Seen → Type 0) (is_clean is_sound : St → Type 0) (may_find : St → Option State → Type 0) (old new : K)
+pub hands_out : {K St S Row : Type 0} (store : K → St) (is_broken : K → Bool) (k : Storing St) (old new : K)
     (r : Result (Unit {0}) ActFault) (takes : S → Row → Bool → S → Type 0) (rows_of : Cargo → List Row) (from to : S) → is_broken old ≡ false → is_broken new ≡ is_broken old → IfErr r (IsReadersFault (Unit {0}))
-    → ((s : State) → shows (store old) (at_rest s) → shows (store new) (at_rest s)) → Survives is_clean is_sound may_find (store old) (store new)
-    → ((s : State) → shows (store old) (at_rest s) → is_sound (store new) → Hands takes (rows_of s.cargo) from to r) → (rows : List Row) × HandedOut takes rows from to
-    → HandsOut (keeping (λ k s. IsLawfulState s × shows (store k) (at_rest s)) (λ k. is_clean (store k)) (λ k. is_sound (store k)) is_broken (λ k found. Finds (may_find (store k)) found) (Unit {0})) old new r takes (λ s rows. rows ≡ rows_of s) from to
-hands_out {Row = Row} store is_broken shows is_clean is_sound may_find old new r takes rows_of from to works broken fault rests survives hands took = record {
+    → StaysAtRest k (store old) (store new) → Survives k (store old) (store new)
+    → ((s : State) → k.shows (store old) (at_rest s) → k.is_sound (store new) → Hands takes (rows_of s.cargo) from to r) → (rows : List Row) × HandedOut takes rows from to
+    → HandsOut (station_over store is_broken k) old new r takes (λ s rows. rows ≡ rows_of s) from to
+hands_out {Row = Row} store is_broken k old new r takes rows_of from to works broken fault rests survives hands took = record {
   reopen = λ is. absurd (let no = sym works ∙ is in cc);
   fault = λ _. fault;
-  reads = reads_only store is_broken shows is_clean is_sound may_find old new broken rests survives;
+  reads = reads_only store is_broken k old new broken rests survives;
   rows = λ s keeps sound. all s r (hands s keeps.1 sound);
   beginning = λ s keeps sound. part s r (hands s keeps.1 sound);
   took = took;

@@ -6,11 +6,11 @@ use Rattle.station_days.specs.Date.{LocalMinute}
 use Rattle.agent_stock.specs.Stock.{run_of, order_refusal, after_order}
 use Rattle.agent_stock.specs.declared.stock.Order.{Order}
 use Rattle.shipment_machine.specs.declared.command.DeskCommand.{DeskCommand}
+use Rattle.shipment_machine.specs.declared.command.ShipmentCommand.{ShipmentCommand}
 use Rattle.shipment_machine.specs.declared.command.ShipmentCommand.TheVariants as shipment
 use Rattle.shipment_machine.specs.declared.plans.Plan.{Plan}
 use Rattle.shipment_machine.specs.declared.plans.Refusal.{Refusal}
-use Rattle.shipment_machine.specs.Agreement.{outcome_of}
-use Rattle.shipment_machine.specs.Cargo.{Cargo}
+use Rattle.shipment_machine.specs.Agreement.{StaysLawful, outcome_of}
 use Rattle.shipment_machine.specs.Effect.{Outcome, effect, carried_out}
 use Rattle.shipment_machine.specs.Lawful.{IsLawful}
 use Rattle.telegrams.specs.NoticeText.{notice_text}
@@ -21,7 +21,7 @@ use Rattle.station_core.specs.declared.input.Input.{Input}
 use Rattle.station_core.specs.declared.input.Input.TheVariants.{Keyed, Wire}
 use Rattle.station_core.proofs.StepLaw.{AreKept, Quiet, all_written_kept, desk_quiet, if_more, kept_now, ordered_lawful, same_parts, sent_lawful, texts_after}
 use Rattle.station_core.specs.Step.{State, IsLawfulState, Stepped, stepped, accepted, refused, waybill_or_nothing, Acted, stock_acted, cargo_acted, shipment_of, acted, sent, with_notices, has_room, keeping_text, kept_with, first_time, answered, repeated, step}
-use Rattle.station_engine.specs.Serving.{IsAfter, IsPlanned, Serves}
+use Rattle.station_engine.specs.Serving.{IfPlanned, IsAfter, IsEffect, IsNewTo, IsPlanned, Serves}
 use Rattle.station_core.specs.Told.{with_order}
 use Rattle.station_engine.specs.Written.{with_plan}
 
@@ -94,6 +94,12 @@ pub lawful_after : (s : State) (i : Input) (at : LocalMinute) (a : Acted) → Is
 lawful_after s i at a law is cargo = lawful_with s i a cargo (parts_after s i at a is law.parts)
 
 -- A plan that is carried out.
+
+pub planned_by : (s : State) (i : Input) (at : LocalMinute) (text : List ℕ) (command : ShipmentCommand) (made : Result Plan Refusal) (plan : Plan) → made ≡ Ok plan → IsNewTo i s → acted s.cargo i at ≡ cargo_acted text s.cargo (effect s.cargo command at)
+    → IsEffect (effect s.cargo command at) made × IfPlanned (StaysLawful s.cargo) made → IsPlanned s i at text plan
+planned_by s i at text command made plan is new does so =
+    let known = subst (λ m. IsEffect (effect s.cargo command at) m × IfPlanned (StaysLawful s.cargo) m) is so in
+    record { lawful = new.0; unknown = new.1; does = does ∙ ap (cargo_acted text s.cargo) known.0; stays = known.1 text }
 
 module _ (s : State) (i : Input) (at : LocalMinute) (text : List ℕ) (plan : Plan) (messages : List (List ℕ)) (planned : IsPlanned s i at text plan) (sends : messages ≡ map notice_text plan.notices.items) where
   abbrev does : Acted

@@ -1,5 +1,5 @@
 -- Answers to inputs.
-use Rattle.std.specs.Prelude.{◌≡◌, ℕ, List, [], Option, Some, None, Result, Ok, Err}
+use Rattle.std.specs.Prelude.{◌≡◌, ◌⊎◌, ℕ, List, [], Option, Some, None, Result, Ok, Err, IfOk}
 use Rattle.station_days.specs.Date.{LocalMinute}
 use Rattle.desk_commands.specs.Command.{command_text, IsCommand}
 use Rattle.shipment_machine.specs.declared.plans.Plan.{Plan}
@@ -10,7 +10,9 @@ use Rattle.shipment_machine.specs.Lawful.{IsLawful}
 use Rattle.station_core.specs.declared.answer.Answer.{Answer}
 use Rattle.station_core.specs.declared.input.Input.{Input}
 use Rattle.station_core.specs.declared.input.Input.TheVariants.{Keyed, Wire}
+use Rattle.station_core.specs.Keeping.{KeepsPremise}
 use Rattle.station_core.specs.Step.{State, IsLawfulState, acted, cargo_acted, repeated, step}
+use Rattle.state_store.specs.Store.{Storing, at_rest}
 
 -- the text by which a command is compared with the stored one; empty for a telegram
 abbrev pub request_of : Input → List ℕ
@@ -53,3 +55,14 @@ pub record IsPlanned (s : State) (i : Input) (at : LocalMinute) (text : List ℕ
 pub record IsAfter (s : State) (i : Input) (at : LocalMinute) (found : Option State) : Type 0 where
   pub lawful : IsLawfulState (step s i at).state
   pub is : found ≡ Some (step s i at).state
+
+-- an input is new to a lawful state
+abbrev pub IsNewTo : Input → State → Type 0
+IsNewTo i s = IsLawfulState s × (repeated s i ≡ None)
+
+-- from each state that is known like this, an input is served: the store shows the state after the
+-- step, which is lawful, and a reopening finds that state or what it found before
+pub record Served {K E : Type 0} (k : Storing K) (old new : K) (result : Result Answer E) (i : Input) (at : LocalMinute) (IsKnown : State → Type 0) : Type 0 where
+  pub serves : (s : State) → k.shows old (at_rest s) → IsKnown s → k.is_sound new → IfOk result (Serves s i at (λ t. IsLawfulState t × k.shows new (at_rest t)))
+  pub premise : KeepsPremise k.is_clean k.is_sound old new
+  pub leaves : (s : State) → k.shows old (at_rest s) → IsKnown s → k.is_sound new → (found : Option State) → k.may_find new found → k.may_find old found ⊎ IsAfter s i at found

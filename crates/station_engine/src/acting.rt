@@ -1,16 +1,15 @@
 //! Acting once on an input, over any store.
-ghost use Rattle.std.specs.Prelude.{◌≡◌, ◌⊎◌, ◌++◌, ◌∷◌, [], List, ℕ, Option, None, Ok, IfOk, OnOk, string_bytes, map};
+ghost use Rattle.std.specs.Prelude.{◌≡◌, ◌++◌, ◌∷◌, [], None, Ok, IfOk, OnOk, map};
 ghost use Rattle.station_days.specs.Date.{LocalMinute};
 ghost use Rattle.agent_stock.specs.Stock.{order_refusal};
-ghost use Rattle.shipment_machine.specs.Agreement.{outcome_of, StaysLawful};
+ghost use Rattle.shipment_machine.specs.Agreement.{StaysLawful};
 ghost use Rattle.shipment_machine.specs.Cargo.{Cargo as AnyCargo};
 ghost use Rattle.shipment_machine.specs.Effect.{effect};
 ghost use Rattle.shipment_machine.specs.Lawful.{IsLawful};
 ghost use Rattle.telegrams.specs.NoticeText.{notice_text};
-ghost use Rattle.station_core.specs.Keeping.{KeepsPremise};
-ghost use Rattle.station_core.specs.Step.{State, IsLawfulState, acted, stock_acted, cargo_acted, repeated};
-ghost use Rattle.station_engine.specs.Serving.{IsRequestOf, IsEffect, IfPlanned, IsPlanned, IsAfter, Serves};
-ghost use Rattle.state_store.specs.Store.{Seen, GoesOnShowing, Survives, at_rest};
+ghost use Rattle.station_core.specs.Step.{IsLawfulState, acted, stock_acted, cargo_acted};
+ghost use Rattle.station_engine.specs.Serving.{IfPlanned, IsEffect, IsNewTo, IsPlanned, IsRequestOf, Served};
+ghost use Rattle.state_store.specs.Store.{Reads};
 ghost use Rattle.station_engine.specs.Written.{texts_in};
 
 use crate::carrying::{commit_plan, keep_and_commit};
@@ -53,12 +52,9 @@ fn plan_on<'a, S: StateStore>(
     command: &ShipmentCommand<'a>,
     at: Moment,
 ) -> Result<Result<Plan<'a>, Refusal>, StoreFault>
-    ensures effect { (x : Seen) → S.shows store.old x → IsLawful x.now.cargo
-        → S.is_sound store.new → IfOk result (IsEffect (effect x.now.cargo command.now at)) }
-    ensures stays_lawful { (x : Seen) → S.shows store.old x → IsLawful x.now.cargo
-        → S.is_sound store.new → IfOk result (IfPlanned (StaysLawful x.now.cargo)) }
-    ensures same { GoesOnShowing S.shows store.old store.new result }
-    ensures survives { Survives S.is_clean S.is_sound S.may_find store.old store.new }
+    ensures { Reads S.storing store.old store.new result
+        (λ s made. IsLawful s.cargo → IsEffect (effect s.cargo command.now at) made
+        × IfPlanned (StaysLawful s.cargo) made) }
 {
     let view = view(alloc, store, command, at)?;
     match plan(alloc, &view, command, at) {
@@ -80,15 +76,8 @@ fn do_plan<S: StateStore>(
     plan: &Plan<'_>,
 ) -> Result<Answer, StoreFault>
     requires { IsRequestOf input.now request.now }
-    ensures serves { (s : State) (at : LocalMinute) → S.shows store.old (at_rest s)
-        → IsPlanned s input.now at text.now plan.now → S.is_sound store.new
-        → IfOk result (Serves s input.now at (λ t. IsLawfulState t
-        × S.shows store.new (at_rest t))) }
-    ensures premise { KeepsPremise S.is_clean S.is_sound store.old store.new }
-    ensures leaves { (s : State) (at : LocalMinute) → S.shows store.old (at_rest s)
-        → IsPlanned s input.now at text.now plan.now → S.is_sound store.new
-        → (found : Option State) → S.may_find store.new found → S.may_find store.old found
-        ⊎ IsAfter s input.now at found }
+    ensures { (at : LocalMinute) → Served S.storing store.old store.new result input.now at
+        (λ s. IsPlanned s input.now at text.now plan.now) }
 {
     let messages = texts_of(alloc, &plan.notices)?;
     if !has_room(&store.sizes(), plan, &messages) {
@@ -111,14 +100,8 @@ fn do_shipment<S: StateStore>(
     requires request { IsRequestOf input.now request.now }
     requires command { (c : AnyCargo)
         → acted c input.now at ≡ cargo_acted text.now c (effect c command.now at) }
-    ensures serves { (s : State) → S.shows store.old (at_rest s) → IsLawfulState s
-        → repeated s input.now ≡ None → S.is_sound store.new
-        → IfOk result (Serves s input.now at (λ t. IsLawfulState t
-        × S.shows store.new (at_rest t))) }
-    ensures premise { KeepsPremise S.is_clean S.is_sound store.old store.new }
-    ensures leaves { (s : State) → S.shows store.old (at_rest s) → IsLawfulState s
-        → repeated s input.now ≡ None → S.is_sound store.new → (found : Option State)
-        → S.may_find store.new found → S.may_find store.old found ⊎ IsAfter s input.now at found }
+    ensures { Served S.storing store.old store.new result input.now at
+        (IsNewTo input.now) }
 {
     match plan_on(alloc, store, command, at)? {
         Err(refusal) => Ok(Answer::Refused(refusal)),
@@ -135,15 +118,8 @@ fn do_order<S: StateStore>(
     requires request { IsRequestOf input.now request.now }
     requires order { (c : AnyCargo) (at : LocalMinute)
         → acted c input.now at ≡ stock_acted c order.now (order_refusal c.holders order.now) }
-    ensures serves { (s : State) (at : LocalMinute) → S.shows store.old (at_rest s)
-        → IsLawfulState s → repeated s input.now ≡ None → S.is_sound store.new
-        → IfOk result (Serves s input.now at (λ t. IsLawfulState t
-        × S.shows store.new (at_rest t))) }
-    ensures premise { KeepsPremise S.is_clean S.is_sound store.old store.new }
-    ensures leaves { (s : State) (at : LocalMinute) → S.shows store.old (at_rest s)
-        → IsLawfulState s → repeated s input.now ≡ None → S.is_sound store.new
-        → (found : Option State) → S.may_find store.new found → S.may_find store.old found
-        ⊎ IsAfter s input.now at found }
+    ensures { (at : LocalMinute) → Served S.storing store.old store.new result input.now at
+        (IsNewTo input.now) }
 {
     match store.carry_out_order(order) {
         Err(StockFault::Rows(fault)) => Err(fault),
@@ -166,14 +142,8 @@ fn act_anew<S: StateStore>(
     at: Moment,
 ) -> Result<Answer, StoreFault>
     requires { IsRequestOf input.now request.now }
-    ensures serves { (s : State) → S.shows store.old (at_rest s) → IsLawfulState s
-        → repeated s input.now ≡ None → S.is_sound store.new
-        → IfOk result (Serves s input.now at (λ t. IsLawfulState t
-        × S.shows store.new (at_rest t))) }
-    ensures premise { KeepsPremise S.is_clean S.is_sound store.old store.new }
-    ensures leaves { (s : State) → S.shows store.old (at_rest s) → IsLawfulState s
-        → repeated s input.now ≡ None → S.is_sound store.new → (found : Option State)
-        → S.may_find store.new found → S.may_find store.old found ⊎ IsAfter s input.now at found }
+    ensures { Served S.storing store.old store.new result input.now at
+        (IsNewTo input.now) }
 {
     match input {
         Input::Keyed(_, Command::Stock(order)) => do_order(store, input, request, order),
@@ -198,13 +168,8 @@ pub(crate) fn serve<S: StateStore>(
     at: Moment,
 ) -> Result<Answer, StoreFault>
     requires { IsRequestOf input.now request.now }
-    ensures serves { (s : State) → S.shows store.old (at_rest s) → IsLawfulState s
-        → S.is_sound store.new → IfOk result (Serves s input.now at (λ t. IsLawfulState t
-        × S.shows store.new (at_rest t))) }
-    ensures premise { KeepsPremise S.is_clean S.is_sound store.old store.new }
-    ensures leaves { (s : State) → S.shows store.old (at_rest s) → IsLawfulState s
-        → S.is_sound store.new → (found : Option State) → S.may_find store.new found
-        → S.may_find store.old found ⊎ IsAfter s input.now at found }
+    ensures { Served S.storing store.old store.new result input.now at
+        IsLawfulState }
 {
     match known(store, input, request)? {
         Some(answer) => Ok(answer),

@@ -3,7 +3,7 @@ ghost use Rattle.std.specs.Prelude.{OnOk};
 ghost use Rattle.station_core.specs.Keeping.{KeepsPremise};
 ghost use Rattle.station_core.specs.Step.{State, kept_with};
 ghost use Rattle.station_engine.specs.Serving.{IsRequestOf};
-ghost use Rattle.state_store.specs.Store.{at_rest, inside, Survives, MayLeave};
+ghost use Rattle.state_store.specs.Store.{Changes, Commits, MayLeave, at_rest};
 ghost use Rattle.station_core.specs.Told.{with_moves, with_messages};
 ghost use Rattle.station_engine.specs.Written.{with_changes, with_plan, texts_in};
 
@@ -13,9 +13,7 @@ use state_store::{StateStore, StoreFault};
 use station_core::Input;
 
 fn add_moves<S: StateStore>(store: &mut S, moves: &[Move]) -> Result<(), StoreFault>
-    ensures done { (before s : State) → S.shows store.old (inside before s)
-        → OnOk result (S.shows store.new (inside before (with_moves moves.now s))) }
-    ensures survives { Survives S.is_clean S.is_sound S.may_find store.old store.new }
+    ensures { Changes S.storing store.old store.new result (with_moves moves.now) }
 {
     for movement in moves {
         store.add_move(movement)?;
@@ -29,9 +27,7 @@ fn write_all<S: StateStore>(
     text: &[u8],
     changes: &[Change<'_>],
 ) -> Result<(), StoreFault>
-    ensures done { (before s : State) → S.shows store.old (inside before s)
-        → OnOk result (S.shows store.new (inside before (with_changes text.now changes.now s))) }
-    ensures survives { Survives S.is_clean S.is_sound S.may_find store.old store.new }
+    ensures { Changes S.storing store.old store.new result (with_changes text.now changes.now) }
 {
     for change in changes {
         store.write(text, change)?;
@@ -40,10 +36,8 @@ fn write_all<S: StateStore>(
 }
 
 fn add_messages<S: StateStore>(store: &mut S, messages: &[Vec<u8>]) -> Result<(), StoreFault>
-    ensures done { (before s : State) → S.shows store.old (inside before s)
-        → OnOk result (S.shows store.new (inside before (with_messages
-        (texts_in messages.now) s))) }
-    ensures survives { Survives S.is_clean S.is_sound S.may_find store.old store.new }
+    ensures { Changes S.storing store.old store.new result
+        (with_messages (texts_in messages.now)) }
 {
     for message in messages {
         store.add_message(message)?;
@@ -58,10 +52,8 @@ fn carry_out<S: StateStore>(
     plan: &Plan<'_>,
     messages: &[Vec<u8>],
 ) -> Result<(), StoreFault>
-    ensures done { (before s : State) → S.shows store.old (inside before s)
-        → OnOk result (S.shows store.new (inside before (with_plan text.now plan.now
-        (texts_in messages.now) s))) }
-    ensures survives { Survives S.is_clean S.is_sound S.may_find store.old store.new }
+    ensures { Changes S.storing store.old store.new result
+        (with_plan text.now plan.now (texts_in messages.now)) }
 {
     add_moves(store, &plan.moves)?;
     write_all(store, text, &plan.changes)?;
@@ -76,11 +68,7 @@ pub(crate) fn keep_and_commit<S: StateStore>(
     count: u32,
 ) -> Result<(), StoreFault>
     requires { IsRequestOf input.now request.now }
-    ensures done { (before s : State) → S.shows store.old (inside before s)
-        → OnOk result (S.shows store.new (at_rest (kept_with input.now count s))) }
-    ensures premise { KeepsPremise S.is_clean S.is_sound store.old store.new }
-    ensures leaves { (before s : State) → S.shows store.old (inside before s)
-        → MayLeave S.is_sound S.may_find (kept_with input.now count s) store.old store.new }
+    ensures { Commits S.storing store.old store.new result (kept_with input.now count) }
 {
     keep(store, input, request, count)?;
     store.commit()?;
@@ -97,12 +85,12 @@ pub(crate) fn commit_plan<S: StateStore>(
     messages: &[Vec<u8>],
 ) -> Result<(), StoreFault>
     requires { IsRequestOf input.now request.now }
-    ensures done { (s : State) → S.shows store.old (at_rest s)
-        → OnOk result (S.shows store.new (at_rest (kept_with input.now plan.now.count
+    ensures done { (s : State) → S.storing.shows store.old (at_rest s)
+        → OnOk result (S.storing.shows store.new (at_rest (kept_with input.now plan.now.count
         (with_plan text.now plan.now (texts_in messages.now) s)))) }
-    ensures premise { KeepsPremise S.is_clean S.is_sound store.old store.new }
-    ensures leaves { (s : State) → S.shows store.old (at_rest s)
-        → MayLeave S.is_sound S.may_find (kept_with input.now plan.now.count
+    ensures premise { KeepsPremise S.storing.is_clean S.storing.is_sound store.old store.new }
+    ensures leaves { (s : State) → S.storing.shows store.old (at_rest s)
+        → MayLeave S.storing (kept_with input.now plan.now.count
         (with_plan text.now plan.now (texts_in messages.now) s)) store.old store.new }
 {
     store.begin()?;

@@ -1,9 +1,9 @@
 //! Known inputs, and storing new ones.
-ghost use Rattle.std.specs.Prelude.{◌≡◌, string_bytes, OnOk, IfOk};
-ghost use Rattle.station_core.specs.Step.{State, repeated, key_answer, text_answer, kept_with};
+ghost use Rattle.std.specs.Prelude.{◌≡◌, string_bytes, IfOk};
+ghost use Rattle.station_core.specs.Step.{repeated, key_answer, text_answer, kept_with};
 ghost use Rattle.std.specs.Option.{option_map};
 ghost use Rattle.station_engine.specs.Serving.{IsRequestOf};
-ghost use Rattle.state_store.specs.Store.{Seen, GoesOnShowing, Survives, inside};
+ghost use Rattle.state_store.specs.Store.{Changes, Reads};
 ghost use Rattle.station_core.specs.Told.{kept_of};
 
 use desk_commands::command_text;
@@ -47,10 +47,8 @@ pub(crate) fn known<S: StateStore>(
     request: &str,
 ) -> Result<Option<Answer>, StoreFault>
     requires { IsRequestOf input.now request.now }
-    ensures value { (x : Seen) → S.shows store.old x → S.is_sound store.new
-        → IfOk result (λ answer. answer ≡ repeated x.now input.now) }
-    ensures same { GoesOnShowing S.shows store.old store.new result }
-    ensures survives { Survives S.is_clean S.is_sound S.may_find store.old store.new }
+    ensures { Reads S.storing store.old store.new result
+        (λ s answer. answer ≡ repeated s input.now) }
 {
     match input {
         Input::Keyed(key, _) => {
@@ -71,9 +69,7 @@ pub(crate) fn keep<S: StateStore>(
     count: u32,
 ) -> Result<(), StoreFault>
     requires { IsRequestOf input.now request.now }
-    ensures done { (before s : State) → S.shows store.old (inside before s)
-        → OnOk result (S.shows store.new (inside before (kept_with input.now count s))) }
-    ensures survives { Survives S.is_clean S.is_sound S.may_find store.old store.new }
+    ensures { Changes S.storing store.old store.new result (kept_with input.now count) }
 {
     match input {
         Input::Keyed(key, _) => store.keep_key(key, request, count),

@@ -1,9 +1,9 @@
 ghost use Rattle.std.specs.Prelude.{◌≡◌, true, false, Err, Option, IfOk, IfErr};
 ghost use Rattle.agent_stock.specs.Runs.{AreStockRuns};
-ghost use Rattle.station_core.specs.Keeping.{Acts, Breaks, IsReadersFault, KeepsPremise, Leaves, OnlyReads, keeping};
+ghost use Rattle.station_core.specs.Keeping.{Acts, Breaks, FindsOnly, IfWorks, KeepsPremise, Leaves, Reads, Reopens};
 ghost use Rattle.station_core.specs.Readers.{AreExpectedBy, AreFlightRows, irregular_rows, shed_rows};
 ghost use Rattle.station_core.specs.Step.{State, IsLawfulState};
-ghost use Rattle.station_engine.specs.Found.{Finds};
+ghost use Rattle.station_engine.specs.Found.{Finds, station_over};
 ghost use Rattle.state_store.specs.Store.{at_rest};
 
 use crate::acting::serve;
@@ -34,10 +34,11 @@ pub struct StoredStation<S: StateStore> {
 impl<S: StateStore> StoredStation<S> {
     /// Returns a station over a store that shows a lawful state, outside a transaction.
     pub fn over(alloc: Global, store: S) -> StoredStation<S>
-        ensures keeps { (s : State) → IsLawfulState s → S.shows store (at_rest s)
-            → ⟦<StoredStation<S> as Keeper>⟧.keeps result s }
-        ensures sound { ⟦<StoredStation<S> as Keeper>⟧.is_sound result → S.is_sound store }
-        ensures works { ⟦<StoredStation<S> as Keeper>⟧.is_broken result ≡ false }
+        ensures keeps { (s : State) → IsLawfulState s → S.storing.shows store (at_rest s)
+            → ⟦<StoredStation<S> as Keeper>⟧.keeping.keeps result s }
+        ensures sound { ⟦<StoredStation<S> as Keeper>⟧.keeping.is_sound result
+            → S.storing.is_sound store }
+        ensures works { ⟦<StoredStation<S> as Keeper>⟧.keeping.is_broken result ≡ false }
         ensures same { result.store ≡ store }
     {
         StoredStation {
@@ -50,22 +51,18 @@ impl<S: StateStore> StoredStation<S> {
     /// Acts on one input at a moment, as a `Keeper` does. Only a disk that fails ends the store's
     /// soundness.
     pub fn act_on(&mut self, input: &Input<'_>, at: Moment) -> Result<Reply, ActFault>
-        ensures reopen { self.old.broken ≡ true → (result ≡ Err ActFault.Reopen)
-            × (self.new ≡ self.old) }
+        ensures reopen { Reopens ⟦<StoredStation<S> as Keeper>⟧.keeping self.old self.new result }
         ensures breaks { self.old.broken ≡ false → Breaks result self.new.broken }
 
         // Memory runs out before the first call of the store, and nothing has changed.
         ensures memory { result ≡ Err ActFault.Memory → self.new ≡ self.old }
-        ensures premise { KeepsPremise S.is_clean S.is_sound self.old.store self.new.store }
-        ensures acts { (s : State) → ⟦<StoredStation<S> as Keeper>⟧.keeps self.old s
-            → self.old.broken ≡ false
-            → S.is_sound self.new.store
-            → Acts s input.now at result (⟦<StoredStation<S> as Keeper>⟧.keeps self.new) }
-        ensures leaves { (s : State) → ⟦<StoredStation<S> as Keeper>⟧.keeps self.old s
-            → self.old.broken ≡ false
-            → S.is_sound self.new.store → (found : Option State)
-            → ⟦<StoredStation<S> as Keeper>⟧.may_find self.new found
-            → Leaves s input.now at result found }
+        ensures premise { KeepsPremise S.storing.is_clean S.storing.is_sound self.old.store
+            self.new.store }
+        ensures acts { IfWorks ⟦<StoredStation<S> as Keeper>⟧.keeping self.old self.new (λ s.
+            Acts s input.now at result (⟦<StoredStation<S> as Keeper>⟧.keeping.keeps self.new)) }
+        ensures leaves { IfWorks ⟦<StoredStation<S> as Keeper>⟧.keeping self.old self.new (λ s.
+            FindsOnly ⟦<StoredStation<S> as Keeper>⟧.keeping self.new
+            (Leaves s input.now at result)) }
     {
         if self.broken {
             return Err(ActFault::Reopen);
@@ -90,11 +87,12 @@ impl<S: StateStore> StoredStation<S> {
     /// Returns the store, whatever its state.
     pub fn into_store(self) -> S
         ensures same { result ≡ self.store }
-        ensures shows { (s : State) → ⟦<StoredStation<S> as Keeper>⟧.keeps self s
-            → S.shows result (at_rest s) }
-        ensures sound { S.is_sound result → ⟦<StoredStation<S> as Keeper>⟧.is_sound self }
-        ensures leaves { (found : Option State) → Finds (S.may_find result) found
-            → ⟦<StoredStation<S> as Keeper>⟧.may_find self found }
+        ensures shows { (s : State) → ⟦<StoredStation<S> as Keeper>⟧.keeping.keeps self s
+            → S.storing.shows result (at_rest s) }
+        ensures sound { S.storing.is_sound result
+            → ⟦<StoredStation<S> as Keeper>⟧.keeping.is_sound self }
+        ensures leaves { (found : Option State) → Finds (S.storing.may_find result) found
+            → ⟦<StoredStation<S> as Keeper>⟧.keeping.may_find self found }
     {
         let StoredStation {
             alloc: _,
@@ -110,17 +108,8 @@ impl<S: StateStore> StoredStation<S> {
     /// Returns the maximal runs of the stock, ascending.
     #[tactic(auto, using(crate::proofs::Reading::reads_only))]
     fn runs(&mut self) -> Result<Vec<StockRun>, ActFault>
-        ensures reopen { self.old.broken ≡ true → (result ≡ Err ActFault.Reopen)
-            × (self.new ≡ self.old) }
-        ensures fault { self.old.broken ≡ false → IfErr result (IsReadersFault (Unit {0})) }
-        ensures reads { OnlyReads (keeping ⟦<StoredStation<S> as Keeper>⟧.keeps
-            ⟦<StoredStation<S> as Keeper>⟧.is_clean
-            ⟦<StoredStation<S> as Keeper>⟧.is_sound
-            ⟦<StoredStation<S> as Keeper>⟧.is_broken ⟦<StoredStation<S> as Keeper>⟧.may_find
-            ⟦<StoredStation<S> as Keeper>⟧.may_fail) self.old self.new }
-        ensures rows { (s : State) → ⟦<StoredStation<S> as Keeper>⟧.keeps self.old s
-            → ⟦<StoredStation<S> as Keeper>⟧.is_sound self.new
-            → IfOk result (λ rows. AreStockRuns s.cargo.holders rows.items) }
+        ensures { Reads ⟦<StoredStation<S> as Keeper>⟧.keeping self.old self.new result
+            (λ s rows. AreStockRuns s.cargo.holders rows.items) }
     {
         if self.broken {
             return Err(ActFault::Reopen);
@@ -134,17 +123,8 @@ impl<S: StateStore> StoredStation<S> {
     /// Returns the waybills with pieces in store, ascending.
     #[tactic(auto, using(crate::proofs::Reading::reads_only))]
     fn shed_rows(&mut self) -> Result<Vec<ShedRow>, ActFault>
-        ensures reopen { self.old.broken ≡ true → (result ≡ Err ActFault.Reopen)
-            × (self.new ≡ self.old) }
-        ensures fault { self.old.broken ≡ false → IfErr result (IsReadersFault (Unit {0})) }
-        ensures reads { OnlyReads (keeping ⟦<StoredStation<S> as Keeper>⟧.keeps
-            ⟦<StoredStation<S> as Keeper>⟧.is_clean
-            ⟦<StoredStation<S> as Keeper>⟧.is_sound
-            ⟦<StoredStation<S> as Keeper>⟧.is_broken ⟦<StoredStation<S> as Keeper>⟧.may_find
-            ⟦<StoredStation<S> as Keeper>⟧.may_fail) self.old self.new }
-        ensures rows { (s : State) → ⟦<StoredStation<S> as Keeper>⟧.keeps self.old s
-            → ⟦<StoredStation<S> as Keeper>⟧.is_sound self.new
-            → IfOk result (λ rows. rows.items ≡ shed_rows s.cargo) }
+        ensures { Reads ⟦<StoredStation<S> as Keeper>⟧.keeping self.old self.new result
+            (λ s rows. rows.items ≡ shed_rows s.cargo) }
     {
         if self.broken {
             return Err(ActFault::Reopen);
@@ -158,17 +138,8 @@ impl<S: StateStore> StoredStation<S> {
     /// Returns the noted flights with their loads.
     #[tactic(auto, using(crate::proofs::Reading::reads_only))]
     fn flight_rows(&mut self) -> Result<Vec<FlightRow>, ActFault>
-        ensures reopen { self.old.broken ≡ true → (result ≡ Err ActFault.Reopen)
-            × (self.new ≡ self.old) }
-        ensures fault { self.old.broken ≡ false → IfErr result (IsReadersFault (Unit {0})) }
-        ensures reads { OnlyReads (keeping ⟦<StoredStation<S> as Keeper>⟧.keeps
-            ⟦<StoredStation<S> as Keeper>⟧.is_clean
-            ⟦<StoredStation<S> as Keeper>⟧.is_sound
-            ⟦<StoredStation<S> as Keeper>⟧.is_broken ⟦<StoredStation<S> as Keeper>⟧.may_find
-            ⟦<StoredStation<S> as Keeper>⟧.may_fail) self.old self.new }
-        ensures rows { (s : State) → ⟦<StoredStation<S> as Keeper>⟧.keeps self.old s
-            → ⟦<StoredStation<S> as Keeper>⟧.is_sound self.new
-            → IfOk result (λ rows. AreFlightRows s.cargo rows.items) }
+        ensures { Reads ⟦<StoredStation<S> as Keeper>⟧.keeping self.old self.new result
+            (λ s rows. AreFlightRows s.cargo rows.items) }
     {
         if self.broken {
             return Err(ActFault::Reopen);
@@ -182,17 +153,8 @@ impl<S: StateStore> StoredStation<S> {
     /// Returns the queried expectations, by flight and then by waybill.
     #[tactic(auto, using(crate::proofs::Reading::reads_only))]
     fn expected_rows(&mut self, query: &ExpectedQuery) -> Result<Vec<ExpectedRow>, ActFault>
-        ensures reopen { self.old.broken ≡ true → (result ≡ Err ActFault.Reopen)
-            × (self.new ≡ self.old) }
-        ensures fault { self.old.broken ≡ false → IfErr result (IsReadersFault (Unit {0})) }
-        ensures reads { OnlyReads (keeping ⟦<StoredStation<S> as Keeper>⟧.keeps
-            ⟦<StoredStation<S> as Keeper>⟧.is_clean
-            ⟦<StoredStation<S> as Keeper>⟧.is_sound
-            ⟦<StoredStation<S> as Keeper>⟧.is_broken ⟦<StoredStation<S> as Keeper>⟧.may_find
-            ⟦<StoredStation<S> as Keeper>⟧.may_fail) self.old self.new }
-        ensures rows { (s : State) → ⟦<StoredStation<S> as Keeper>⟧.keeps self.old s
-            → ⟦<StoredStation<S> as Keeper>⟧.is_sound self.new
-            → IfOk result (λ rows. AreExpectedBy query.now s.cargo rows.items) }
+        ensures { Reads ⟦<StoredStation<S> as Keeper>⟧.keeping self.old self.new result
+            (λ s rows. AreExpectedBy query.now s.cargo rows.items) }
     {
         if self.broken {
             return Err(ActFault::Reopen);
@@ -206,17 +168,8 @@ impl<S: StateStore> StoredStation<S> {
     /// Returns the waybills with missing or found pieces, ascending.
     #[tactic(auto, using(crate::proofs::Reading::reads_only))]
     fn irregular_rows(&mut self) -> Result<Vec<IrregularRow>, ActFault>
-        ensures reopen { self.old.broken ≡ true → (result ≡ Err ActFault.Reopen)
-            × (self.new ≡ self.old) }
-        ensures fault { self.old.broken ≡ false → IfErr result (IsReadersFault (Unit {0})) }
-        ensures reads { OnlyReads (keeping ⟦<StoredStation<S> as Keeper>⟧.keeps
-            ⟦<StoredStation<S> as Keeper>⟧.is_clean
-            ⟦<StoredStation<S> as Keeper>⟧.is_sound
-            ⟦<StoredStation<S> as Keeper>⟧.is_broken ⟦<StoredStation<S> as Keeper>⟧.may_find
-            ⟦<StoredStation<S> as Keeper>⟧.may_fail) self.old self.new }
-        ensures rows { (s : State) → ⟦<StoredStation<S> as Keeper>⟧.keeps self.old s
-            → ⟦<StoredStation<S> as Keeper>⟧.is_sound self.new
-            → IfOk result (λ rows. rows.items ≡ irregular_rows s.cargo) }
+        ensures { Reads ⟦<StoredStation<S> as Keeper>⟧.keeping self.old self.new result
+            (λ s rows. rows.items ≡ irregular_rows s.cargo) }
     {
         if self.broken {
             return Err(ActFault::Reopen);
@@ -231,19 +184,9 @@ impl<S: StateStore> StoredStation<S> {
 impl<S: StateStore> Keeper for StoredStation<S> {
     ghost use Rattle.station_engine.specs.Laws.{found_is};
 
-    ghost keeps = { λ k s. IsLawfulState s × S.shows k.store (at_rest s) };
+    ghost keeping = { station_over (λ k. k.store) (λ k. k.broken) S.storing };
 
-    ghost is_clean = { λ k. S.is_clean k.store };
-
-    ghost is_sound = { λ k. S.is_sound k.store };
-
-    ghost is_broken = { λ k. k.broken };
-
-    ghost may_find = { λ k found. Finds (S.may_find k.store) found };
-
-    ghost may_fail = { Unit {0} };
-
-    ghost settled = { λ k s keeps sound found finds. found_is (S.may_find k.store) s keeps.0
+    ghost settled = { λ k s keeps sound found finds. found_is (S.storing.may_find k.store) s keeps.0
         (S.settled k.store s keeps.1 sound) found finds };
 
     ghost lawful = { λ k s sound finds. finds.1 };

@@ -4,7 +4,7 @@ use Rattle.std.specs.Prelude.{option_to_list}
 use Rattle.std.specs.List.{AllByRecursion, list_all, last_or}
 use Rattle.std.specs.Cmp.{IsTotalOrder}
 use Rattle.std.specs.FinMap.{FinMap, entries}
-use Rattle.std.proofs.lemmas.List.{map-append, reverse-append, length-reverse, length-drop, take-append-drop, take_all, take_at, take-map}
+use Rattle.std.proofs.lemmas.List.{map-append, reverse-append, reverse-reverse, length-reverse, length-drop, take-append-drop, take_all, take_at, take-map}
 use Rattle.std.proofs.lemmas.List.Sorted.{IsPermutation-map, IsPermutation-trans, IsPermutation-sym, IsPermutation-reverse}
 use Rattle.sqlite.specs.declared.types.Value.TheVariants.{Null, Int}
 use Rattle.sqlite.specs.Order.{Row}
@@ -49,12 +49,15 @@ firsts_turned {X} n xs = go (length xs - n) refl
         ap (λ l. take n (reverse l)) (sym (take-append-drop (suc k) xs)) ∙ ap (take n) (reverse-append (take (suc k) xs) (drop (suc k) xs))
         ∙ take_at (reverse (drop (suc k) xs)) (reverse (take (suc k) xs)) n (omega (arith, e, length-reverse (drop (suc k) xs), length-drop (suc k) xs))
 
--- a list turned, as rows, and turned again
-pub turned_back : {X Y : Type 0} (f : X → Y) (xs : List X) → reverse (map f (reverse xs)) ≡ map f xs
+turned_back : {X Y : Type 0} (f : X → Y) (xs : List X) → reverse (map f (reverse xs)) ≡ map f xs
 turned_back f [] = refl
 turned_back f (x ∷ xs) =
     ap (λ l. reverse (map f l)) (reverse-append (x ∷ []) xs) ∙ ap reverse (map-append f (reverse xs) (x ∷ [])) ∙ reverse-append (map f (reverse xs)) (f x ∷ [])
     ∙ ap (λ l. f x ∷ l) (turned_back f xs)
+
+-- a list that was read from the last to the first, turned
+pub turned : {X Y : Type 0} (f : X → Y) (xs : List X) (ys : List Y) → map f xs ≡ reverse ys → map f (reverse xs) ≡ ys
+turned f xs ys is = sym (reverse-reverse (map f (reverse xs))) ∙ ap reverse (turned_back f xs ∙ is) ∙ reverse-reverse ys
 
 -- the first rows alone, in the order of ORDER BY
 abbrev pub last_of : Term → ℕ → List Term → List Term → List (Term × Key) → Query

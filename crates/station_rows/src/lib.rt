@@ -1,40 +1,50 @@
 //! The tables of a station in `sqlite`: a value for each SQL statement.
 //!
-//! A statement says what it does to typed tables, with no word of SQL. `TableStore` runs
-//! statements, and `Rows` is the implementation over a connection.
+//! A statement says what it does to typed tables, with no word of SQL. The file of a table has its
+//! row and its statements. `TableStore` runs statements, and `Rows` is the implementation over a
+//! connection.
 #![tactic(auto)]
 
-mod listings;
+mod builds;
+mod counts;
+mod expected;
+mod flights;
+mod kept;
+mod kept_texts;
 mod memory;
-mod reads;
+mod moves;
+mod outbox;
+mod parts;
+mod queries;
 mod rows;
 mod statements;
 mod station;
 mod stock;
 mod store;
-mod writes;
+mod trail;
+mod waybills;
 
-pub use listings::{LinesFor, MessagesAfter, MovesFor};
-pub use memory::{files_are_sound, memory_is_sound};
-pub use reads::{
-    AllCounts, AllExpected, AllFlights, AllStock, BuildOn, BuildsOn, CountsOf, ExpectedOn,
-    FlightOn, KeptTextCount, KeptUnder, LastStockUpTo, MovesOf, PartBody, PiecesOn, StockBetween,
-    StockUpTo, TheStation, WaybillOf,
+pub use builds::{BuildOn, BuildRow, BuildsOn, DeleteBuild, InsertBuild, PiecesOn, UpdateBuild};
+pub use counts::{AllCounts, CountRow, CountsOf, DeleteCount, InsertCount, UpdateCount};
+pub use expected::{
+    AllExpected, ExpectedOn, ExpectedRow, InsertExpected, ListedWaybillRow, UpdateExpected,
 };
+pub use flights::{AllFlights, FlightOn, FlightRow, InsertFlight, NotedFlightRow, UpdateFlight};
+pub use kept::{InsertKept, KeptRow, KeptUnder};
+pub use kept_texts::{InsertKeptText, KeptTextCount};
+pub use memory::{files_are_sound, memory_is_sound};
+pub use moves::{InsertMove, MoveQuery, MoveRow, MovesFor, MovesOf};
+pub use outbox::{InsertMessage, MessageRow, MessagesAfter};
+pub use parts::{InsertPart, PartBody};
 pub use row_sinks::StoreFault;
 pub use rows::{CreateFault, Rows, crash_leaves_station};
 pub use statements::{Listing, Read, Write};
-pub use station::StationRow;
+pub use station::{StationRow, TheStation, UpdateConfirmed};
 pub use station_schema::open_memory;
-pub use stock::StockRow;
+pub use stock::{
+    AllStock, DeleteStock, InsertStock, LastStockUpTo, StockBetween, StockRow, StockUpTo,
+    UpdateStock,
+};
 pub use store::TableStore;
-pub use table_rows::{
-    BuildRow, CountRow, ExpectedRow, FlightRow, KeptRow, LineQuery, ListedWaybillRow, MessageRow,
-    MoveQuery, MoveRow, NotedFlightRow, TrailRow, WaybillRow,
-};
-pub use writes::{
-    DeleteBuild, DeleteCount, DeleteStock, InsertBuild, InsertCount, InsertExpected, InsertFlight,
-    InsertKept, InsertKeptText, InsertMessage, InsertMove, InsertPart, InsertStock,
-    InsertTrailLine, InsertWaybill, UpdateBuild, UpdateConfirmed, UpdateCount, UpdateExpected,
-    UpdateFlight, UpdateStock, UpdateWaybill,
-};
+pub use trail::{InsertTrailLine, LineQuery, LinesFor, TrailRow};
+pub use waybills::{InsertWaybill, UpdateWaybill, WaybillOf, WaybillRow};

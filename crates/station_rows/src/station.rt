@@ -1,12 +1,13 @@
-ghost use Rattle.std.specs.Prelude.{◌≡◌, pos, map, option_map, option_to_list, IfOk};
+ghost use Rattle.std.specs.Prelude.{◌≡◌, pos, option_map};
 ghost use Rattle.sqlite_keyed.specs.Keyed.{get_by};
-ghost use Rattle.sqlite.specs.Held.{state};
-ghost use Rattle.sqlite.specs.State.{Executes, HasCleanDisk};
-ghost use Rattle.station_schema.specs.Calls.{Alters, CommitsNothing, LeavesAll, Tells};
 ghost use Rattle.station_schema.specs.Tables.{station_id};
-ghost use Rattle.station_rows.specs.Meant.{station_meant, station_shown, station_read, confirming};
-ghost use Rattle.station_rows.specs.Ran.{confirm_params, confirm_text};
+ghost use Rattle.station_rows.specs.Meant.{station_meant, confirming};
+ghost use Rattle.station_rows.specs.Shown.{station_read};
+ghost use Rattle.station_rows.specs.Ran.{confirm_text, confirm_params};
 
+use crate::queries::first_row;
+use crate::statements::{Read, Write};
+use row_laws::ReadRow;
 use sqlite::{Alter, Connection, Error, Row, params};
 
 /// The row of `station`.
@@ -22,56 +23,54 @@ pub struct StationRow {
     pub confirmed: i64,
 }
 
+impl ReadRow for StationRow {
+    ghost reads = { λ row r. station_meant r ≡ station_read row };
+
+    fn read(row: &Row) -> Result<StationRow, Error> {
+        Ok(StationRow {
+            id: row.get(0)?,
+            airport: row.get(1)?,
+            version: row.get(2)?,
+            confirmed: row.get(3)?,
+        })
+    }
+}
+
 /// Sets the number of the last message that was confirmed.
-pub(crate) fn update_confirmed<S: Alter>(
-    conn: &mut Connection<S>,
-    confirmed: i64,
-) -> Result<usize, Error>
-    ensures made { Alters S.Store conn.old conn.new result (confirming confirmed) }
-    ensures ran { HasCleanDisk (state S.Store conn.new)
-        → Executes confirm_text (confirm_params confirmed) (state S.Store conn.old)
-        (state S.Store conn.new) result }
-    ensures survives { CommitsNothing S.Store conn.old conn.new }
-{
-    conn.execute(
-        "UPDATE station SET confirmed = ?1 WHERE id = 1",
-        params![&confirmed],
-    )
+#[derive(Drop)]
+pub struct UpdateConfirmed {
+    /// The number.
+    pub confirmed: i64,
 }
 
-fn shown_station<S: Alter>(conn: &mut Connection<S>) -> Result<Vec<Row>, Error>
-    ensures read { Tells S.Store conn.old conn.new result
-        (λ tables rows. rows.items
-        ≡ map station_shown (option_to_list (get_by station_id tables.stations (pos 1)))) }
-    ensures survives { LeavesAll S.Store conn.old conn.new }
-{
-    conn.query_all(
-        "SELECT id, airport, version, confirmed FROM station WHERE id = 1",
-        &[],
-    )
-}
+impl Write for UpdateConfirmed {
+    ghost change = { λ it. confirming it.confirmed };
 
-fn read_station(row: &Row) -> Result<StationRow, Error>
-    ensures { IfOk result (λ r. station_meant r ≡ station_read row.now) }
-{
-    Ok(StationRow {
-        id: row.get(0)?,
-        airport: row.get(1)?,
-        version: row.get(2)?,
-        confirmed: row.get(3)?,
-    })
+    ghost runs = { λ it Ran. Ran confirm_text (confirm_params it.confirmed) };
+
+    fn run<S: Alter>(self, conn: &mut Connection<S>) -> Result<usize, Error> {
+        conn.execute(
+            "UPDATE station SET confirmed = ?1 WHERE id = 1",
+            params![&self.confirmed],
+        )
+    }
 }
 
 /// The row of `station`.
-pub(crate) fn station_row<S: Alter>(conn: &mut Connection<S>) -> Result<Option<StationRow>, Error>
-    ensures read { Tells S.Store conn.old conn.new result
-        (λ tables found. option_map station_meant found
-        ≡ get_by station_id tables.stations (pos 1)) }
-    ensures survives { LeavesAll S.Store conn.old conn.new }
-{
-    let rows = shown_station(conn)?;
-    match rows.first() {
-        Some(row) => Ok(Some(read_station(row)?)),
-        None => Ok(None),
+#[derive(Drop)]
+pub struct TheStation;
+
+impl Read for TheStation {
+    type Found = Option<StationRow>;
+
+    ghost tells = { λ _ tables found. option_map station_meant found
+        ≡ get_by station_id tables.stations (pos 1) };
+
+    fn run<S: Alter>(self, conn: &mut Connection<S>) -> Result<Option<StationRow>, Error> {
+        first_row(
+            conn,
+            "SELECT id, airport, version, confirmed FROM station WHERE id = 1",
+            &[],
+        )
     }
 }

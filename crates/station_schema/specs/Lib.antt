@@ -6,6 +6,7 @@ pub mod Names
 pub mod Once
 pub mod Own
 pub mod Schema
+pub mod Shapes
 pub mod Store
 pub mod Tables
 pub mod Wanted

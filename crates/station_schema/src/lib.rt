@@ -15,6 +15,7 @@ mod names;
 mod order;
 mod own;
 mod schema;
+mod shapes;
 mod tables;
 
 pub use beside::create_beside;

@@ -1,10 +1,12 @@
 ghost use Rattle.std.specs.Prelude.{◌≡◌, [], ◌∷◌, Some, None, true, false, map, IsTrue};
 ghost use Rattle.sqlite_value.specs.Keys.{plain};
 ghost use Rattle.sqlite.specs.Kind.TheVariants.{Integer};
-ghost use Rattle.station_schema.specs.Schema.{key_column, keyed_table, table_by, station, waybill, waybill2, stock, flight, moves, expected, part, trail, outbox, kept_key, kept_text, counts, build};
+ghost use Rattle.station_schema.specs.Schema.{key_column, keyed_table, table_by};
+ghost use Rattle.station_schema.specs.Shapes.{table_of};
 ghost use Rattle.station_schema.specs.Wanted.{column_as};
 
 use crate::columns::{are_columns, is_key};
+use crate::shapes::{Key, TableShape};
 use sqlite_items::Items;
 use sqlite_schema::code::Terms;
 use sqlite_schema::schema::{Kind, Stamps, Table};
@@ -165,247 +167,29 @@ fn is_keyed_table(table: &Table, tree: u32, name: &str, key: &str, wanted: &[(&s
     }
 }
 
-/// Returns whether the table is `station` as a new station declares it.
-pub(crate) fn is_station(table: &Table) -> bool
-    ensures on { IsTrue result → table.now ≡ station }
-    ensures back { table.now ≡ station → result ≡ true }
+/// Returns whether the table has this shape.
+fn is_table(table: &Table, shape: &TableShape) -> bool
+    ensures on { IsTrue result → table.now ≡ table_of shape.now }
+    ensures back { table.now ≡ table_of shape.now → result ≡ true }
 {
-    is_keyed_table(
-        table,
-        0,
-        "station",
-        "id",
-        &[
-            ("airport", Kind::Text),
-            ("version", Kind::Integer),
-            ("confirmed", Kind::Integer),
-        ],
-    )
+    match shape.key {
+        Key::Number(key) => is_keyed_table(table, shape.tree, shape.name, key, shape.columns),
+        Key::Columns(places) => is_table_by(table, shape.tree, shape.name, places, shape.columns),
+    }
 }
 
-pub(crate) fn is_waybill(table: &Table) -> bool
-    ensures on { IsTrue result → table.now ≡ waybill }
-    ensures back { table.now ≡ waybill → result ≡ true }
+/// Returns whether these are the tables of these shapes, in this order.
+pub(crate) fn are_tables(tables: &[Table], shapes: &[TableShape]) -> bool
+    ensures on { IsTrue result → tables.now ≡ map table_of shapes.now }
+    ensures back { tables.now ≡ map table_of shapes.now → result ≡ true }
 {
-    is_keyed_table(
-        table,
-        1,
-        "waybill",
-        "awb",
-        &[
-            ("origin", Kind::Text),
-            ("destination", Kind::Text),
-            ("pieces", Kind::Integer),
-            ("tenths", Kind::Integer),
-            ("goods", Kind::Text),
-            ("notified", Kind::Integer),
-        ],
-    )
-}
-
-pub(crate) fn is_waybill2(table: &Table) -> bool
-    ensures on { IsTrue result → table.now ≡ waybill2 }
-    ensures back { table.now ≡ waybill2 → result ≡ true }
-{
-    is_keyed_table(
-        table,
-        22,
-        "waybill2",
-        "awb",
-        &[
-            ("origin", Kind::Text),
-            ("destination", Kind::Text),
-            ("pieces", Kind::Integer),
-            ("tenths", Kind::Integer),
-            ("goods", Kind::Text),
-            ("notified", Kind::Integer),
-            ("since", Kind::Integer),
-        ],
-    )
-}
-
-pub(crate) fn is_stock(table: &Table) -> bool
-    ensures on { IsTrue result → table.now ≡ stock }
-    ensures back { table.now ≡ stock → result ≡ true }
-{
-    is_table_by(
-        table,
-        2,
-        "stock",
-        &[1, 2],
-        &[
-            ("prefix", Kind::Integer),
-            ("low", Kind::Integer),
-            ("high", Kind::Integer),
-            ("holder", Kind::Integer),
-            ("agent", Kind::Text),
-        ],
-    )
-}
-
-pub(crate) fn is_flight(table: &Table) -> bool
-    ensures on { IsTrue result → table.now ≡ flight }
-    ensures back { table.now ≡ flight → result ≡ true }
-{
-    is_table_by(
-        table,
-        4,
-        "flight",
-        &[1, 2],
-        &[
-            ("flight", Kind::Text),
-            ("day", Kind::Integer),
-            ("unload", Kind::Text),
-            ("closed", Kind::Integer),
-        ],
-    )
-}
-
-pub(crate) fn is_moves(table: &Table) -> bool
-    ensures on { IsTrue result → table.now ≡ moves }
-    ensures back { table.now ≡ moves → result ≡ true }
-{
-    is_keyed_table(
-        table,
-        6,
-        "moves",
-        "number",
-        &[
-            ("awb", Kind::Integer),
-            ("src", Kind::Integer),
-            ("dst", Kind::Integer),
-            ("pieces", Kind::Integer),
-            ("tenths", Kind::Integer),
-            ("flight", Kind::Text),
-            ("fday", Kind::Integer),
-            ("day", Kind::Integer),
-            ("minute", Kind::Integer),
-        ],
-    )
-}
-
-pub(crate) fn is_expected(table: &Table) -> bool
-    ensures on { IsTrue result → table.now ≡ expected }
-    ensures back { table.now ≡ expected → result ≡ true }
-{
-    is_table_by(
-        table,
-        8,
-        "expected",
-        &[1, 2, 3],
-        &[
-            ("flight", Kind::Text),
-            ("day", Kind::Integer),
-            ("awb", Kind::Integer),
-            ("pieces", Kind::Integer),
-            ("tenths", Kind::Integer),
-            ("checked", Kind::Integer),
-        ],
-    )
-}
-
-pub(crate) fn is_part(table: &Table) -> bool
-    ensures on { IsTrue result → table.now ≡ part }
-    ensures back { table.now ≡ part → result ≡ true }
-{
-    is_table_by(
-        table,
-        10,
-        "part",
-        &[1, 2, 3, 4],
-        &[
-            ("flight", Kind::Text),
-            ("day", Kind::Integer),
-            ("airport", Kind::Text),
-            ("seq", Kind::Integer),
-            ("body", Kind::Text),
-        ],
-    )
-}
-
-pub(crate) fn is_trail(table: &Table) -> bool
-    ensures on { IsTrue result → table.now ≡ trail }
-    ensures back { table.now ≡ trail → result ≡ true }
-{
-    is_keyed_table(
-        table,
-        12,
-        "trail",
-        "number",
-        &[("awb", Kind::Integer), ("line", Kind::Text)],
-    )
-}
-
-pub(crate) fn is_outbox(table: &Table) -> bool
-    ensures on { IsTrue result → table.now ≡ outbox }
-    ensures back { table.now ≡ outbox → result ≡ true }
-{
-    is_keyed_table(table, 13, "outbox", "number", &[("body", Kind::Text)])
-}
-
-pub(crate) fn is_kept_key(table: &Table) -> bool
-    ensures on { IsTrue result → table.now ≡ kept_key }
-    ensures back { table.now ≡ kept_key → result ≡ true }
-{
-    is_table_by(
-        table,
-        14,
-        "kept_key",
-        &[1],
-        &[
-            ("id", Kind::Text),
-            ("command", Kind::Text),
-            ("count", Kind::Integer),
-        ],
-    )
-}
-
-pub(crate) fn is_kept_text(table: &Table) -> bool
-    ensures on { IsTrue result → table.now ≡ kept_text }
-    ensures back { table.now ≡ kept_text → result ≡ true }
-{
-    is_table_by(
-        table,
-        16,
-        "kept_text",
-        &[1],
-        &[("body", Kind::Text), ("count", Kind::Integer)],
-    )
-}
-
-pub(crate) fn is_counts(table: &Table) -> bool
-    ensures on { IsTrue result → table.now ≡ counts }
-    ensures back { table.now ≡ counts → result ≡ true }
-{
-    is_table_by(
-        table,
-        18,
-        "counts",
-        &[1, 2],
-        &[
-            ("awb", Kind::Integer),
-            ("place", Kind::Integer),
-            ("pieces", Kind::Integer),
-            ("tenths", Kind::Integer),
-        ],
-    )
-}
-
-pub(crate) fn is_build(table: &Table) -> bool
-    ensures on { IsTrue result → table.now ≡ build }
-    ensures back { table.now ≡ build → result ≡ true }
-{
-    is_table_by(
-        table,
-        20,
-        "build",
-        &[1, 2, 3],
-        &[
-            ("flight", Kind::Text),
-            ("day", Kind::Integer),
-            ("awb", Kind::Integer),
-            ("pieces", Kind::Integer),
-            ("tenths", Kind::Integer),
-        ],
-    )
+    if tables.len() != shapes.len() {
+        return false;
+    }
+    for i in 0..tables.len() {
+        if !is_table(&tables[i], &shapes[i]) {
+            return false;
+        }
+    }
+    true
 }

@@ -16,14 +16,14 @@ use Rattle.row_codec.specs.Moves.{move_by}
 use Rattle.state_store.specs.Store.{at_rest}
 use Rattle.table_state.specs.Shown.{Knows, HasThese}
 use Rattle.table_audits.proofs.Laws.{lawful_each}
-use Rattle.file_audit.proofs.Declared.{each_lawful, same_tables}
-use Rattle.file_audit.proofs.Judged.{fit}
-use Rattle.file_audit.proofs.Typed.{station_held_whole}
-use Rattle.file_audit.specs.Good.{IsStationOf}
-use Rattle.file_audit.specs.Verdict.{Tells, Judges}
-use Rattle.file_audit.specs.declared.state.FoundState.{FoundState}
-use Rattle.file_audit.specs.declared.unfit.Unfit.{Unfit}
-use Rattle.file_audit.specs.declared.unfit.Unfit.TheVariants as unfit
+use Rattle.table_audits.proofs.Declared.{each_lawful, same_tables}
+use Rattle.table_audits.proofs.Judged.{fit}
+use Rattle.table_audits.proofs.Typed.{station_held_whole}
+use Rattle.table_audits.specs.Good.{IsStationOf}
+use Rattle.table_audits.specs.Verdict.{Tells, Judges}
+use Rattle.table_audits.specs.declared.state.FoundState.{FoundState}
+use Rattle.table_audits.specs.declared.unfit.Unfit.{Unfit}
+use Rattle.table_audits.specs.declared.unfit.Unfit.TheVariants as unfit
 use Rattle.sqlite.specs.declared.error.Error.{Error}
 use Rattle.row_laws.specs.Calls.{Reads}
 use Rattle.station_tables.specs.Attached.{IsStateOf, IsStateIn, IsOldStateIn, IsTypedState, IsFoundIn, IsJudged, RefusesAs, Refuses, IsBreakdown}

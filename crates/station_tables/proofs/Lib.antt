@@ -1,4 +1,3 @@
-mod Around
 mod Again
 mod Attached
 mod Looked

@@ -19,8 +19,8 @@ use Rattle.station_schema.specs.Store as store
 use Rattle.station_schema.specs.Store.{View}
 use Rattle.station_schema.specs.Tables.{Tables, IsStation}
 use Rattle.table_state.specs.Shown as tables
-use Rattle.file_audit.specs.declared.state.FoundState.{FoundState}
-use Rattle.file_audit.specs.declared.unfit.Unfit.{Unfit}
+use Rattle.table_audits.specs.declared.state.FoundState.{FoundState}
+use Rattle.table_audits.specs.declared.unfit.Unfit.{Unfit}
 use Rattle.station_tables.specs.Attached.{IsStateIn, IsTypedState, IsJudged, Refuses, IsBreakdown}
 use Rattle.station_tables.specs.Found.{Finds}
 use Rattle.station_tables.specs.declared.fault.AttachFault.{AttachFault}

@@ -13,9 +13,9 @@ use Rattle.station_schema.specs.Schema.{station_schema}
 use Rattle.station_schema.specs.Tables.{Tables, IsOldStation, tables_of, old_tables_of, upgraded}
 use Rattle.row_codec.specs.Meaning.{Means}
 use Rattle.station_core.specs.Step.{State}
-use Rattle.file_audit.proofs.Declared.{old_same_tables}
-use Rattle.file_audit.specs.declared.state.FoundState.{FoundState}
-use Rattle.file_audit.specs.declared.unfit.Unfit.{Unfit}
+use Rattle.table_audits.proofs.Declared.{old_same_tables}
+use Rattle.table_audits.specs.declared.state.FoundState.{FoundState}
+use Rattle.table_audits.specs.declared.unfit.Unfit.{Unfit}
 use Rattle.table_upgrade.specs.Upgrade.{IsUpgraded, MeansUpgraded}
 use Rattle.station_tables.specs.Attached.{IsOldStateIn, IsFoundIn, IsJudged, RefusesAs, IsBreakdown}
 use Rattle.station_tables.specs.Migrated.{IsMigrated, HasMigrated}

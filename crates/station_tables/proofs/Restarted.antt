@@ -17,7 +17,7 @@ use Rattle.station_schema.specs.Tables.{tables_of}
 use Rattle.row_codec.specs.Meaning.{meaning_of, IsReadable}
 use Rattle.station_schema.specs.Own.{IsOwn}
 use Rattle.station_rows.specs.Own.{are_declared}
-use Rattle.station_rows.specs.Shown.{rows_view}
+use Rattle.station_rows.specs.View.{rows_view}
 use Rattle.table_load.specs.Reading.{read_as}
 use Rattle.table_load.specs.declared.station.FileVersion.TheVariants.{Second}
 use Rattle.station_tables.proofs.Attached.{is_lawful}

@@ -12,9 +12,10 @@ use Rattle.station_schema.specs.Names.{takes_name}
 use Rattle.station_schema.specs.Own.{IsOldOwn, IsOwn, LiesInOrder}
 use Rattle.station_schema.specs.Store.{IsUnchanged}
 use Rattle.table_load.specs.declared.station.FileVersion.TheVariants.{First}
+use Rattle.station_core.specs.Keeping.{Keeping}
 use Rattle.station_core.specs.Step.{State, IsLawfulState, opening}
 use Rattle.station_rows.specs.Own.{are_declared}
-use Rattle.station_rows.specs.Shown.{rows_view}
+use Rattle.station_rows.specs.View.{rows_view}
 use Rattle.table_state.specs.File.{IsFileOf}
 use Rattle.table_state.specs.Shown.{IfGivenBack}
 use Rattle.station_tables.specs.declared.fault.AttachFault.{AttachFault}
@@ -25,14 +26,14 @@ use Rattle.station_tables.specs.Found.{Finds}
 use Rattle.station_tables.specs.Migrated.{HasMigrated, IsMigrated}
 
 -- The effect of `create`: a new station over a connection, or a fault.
-pub record HasMade {S : Type 0} (g : Ghosts S) (keeps : Station S g → State → Type 0) (is_sound : Station S g → Type 0) (is_broken : Station S g → Bool)
-    (conn : Held S) (here : List ℕ) (opened : Result (Station S g) (Held S × AttachFault)) : Type 0 where
+pub record HasMade {S : Type 0} (g : Ghosts S) (k : Keeping (Station S g)) (conn : Held S) (here : List ℕ)
+    (opened : Result (Station S g) (Held S × AttachFault)) : Type 0 where
   pub free : OnOk opened (takes_name (state g conn).now.schema ≡ false)
   pub declared : IfOk opened (λ station. IsTrue (are_declared station.stored.store.store) ↔ IsVacant g conn)
-  pub works : IfOk opened (λ station. is_broken station ≡ false)
-  pub sound : IfOk opened (λ station. is_sound station → (connection_view g conn).IsSound)
+  pub works : IfOk opened (λ station. k.is_broken station ≡ false)
+  pub sound : IfOk opened (λ station. k.is_sound station → (connection_view g conn).IsSound)
   -- it keeps the opening state
-  pub keeps_opening : IfOk opened (λ station. keeps station (opening here))
+  pub keeps_opening : IfOk opened (λ station. k.keeps station (opening here))
   -- Occupied exactly if one of a new station's names is taken, and then nothing changed
   pub inside : (connection_view g conn).in_transaction ≡ true → opened ≡ Err (conn, fault.Store)
   pub occupied : (connection_view g conn).in_transaction ≡ false
@@ -57,17 +58,17 @@ pub record HasMade {S : Type 0} (g : Ghosts S) (keeps : Station S g → State �
       (λ db. IsVacant g conn → IsFileOf db (opening here)))
 
 -- The effect of `attach`: the station found over a connection, or a fault.
-pub record HasFound {S : Type 0} (g : Ghosts S) (keeps : Station S g → State → Type 0) (is_sound : Station S g → Type 0) (is_broken : Station S g → Bool)
-    (conn : Held S) (opened : Result (Station S g) (Held S × AttachFault)) : Type 0 where
+pub record HasFound {S : Type 0} (g : Ghosts S) (k : Keeping (Station S g)) (conn : Held S)
+    (opened : Result (Station S g) (Held S × AttachFault)) : Type 0 where
   pub inside : (connection_view g conn).in_transaction ≡ true → opened ≡ Err (conn, fault.Store)
-  pub works : IfOk opened (λ station. is_broken station ≡ false)
-  pub sound : IfOk opened (λ station. is_sound station → (connection_view g conn).IsSound)
+  pub works : IfOk opened (λ station. k.is_broken station ≡ false)
+  pub sound : IfOk opened (λ station. k.is_sound station → (connection_view g conn).IsSound)
   -- the tables are a station's of version 2 and lawful, and the station keeps their state
   pub found : IfOk opened (λ station. HasCleanDisk (state g (connection_in station)) → (s : State)
-      × IsStateIn (state g conn).now s × keeps station s)
+      × IsStateIn (state g conn).now s × k.keeps station s)
   pub own : IfOk opened (λ station. HasCleanDisk (state g (connection_in station))
       → IsOwn (state g conn).now.trees → are_declared station.stored.store.store ≡ true)
-  pub typed : IfOk opened (λ station. is_sound station → (s : State)
+  pub typed : IfOk opened (λ station. k.is_sound station → (s : State)
       → IsStateIn (state g conn).now s → IsTypedState (state g conn).now s)
   -- A fault is true of the tables. If they are a station's and lawful, the store failed or memory
   -- ran out.
@@ -94,18 +95,18 @@ pub record HasFound {S : Type 0} (g : Ghosts S) (keeps : Station S g → State �
       → IsUndone (state g conn) (state g e.0))
 
 -- The effect of `release`: the station's connection is returned.
-pub record HasReleased {S : Type 0} {g : Ghosts S} (keeps : Station S g → State → Type 0) (is_sound : Station S g → Type 0)
-    (may_find : Station S g → Option State → Type 0) (station : Station S g) (conn : Held S) : Type 0 where
+pub record HasReleased {S : Type 0} {g : Ghosts S} (k : Keeping (Station S g)) (station : Station S g)
+    (conn : Held S) : Type 0 where
   pub clean : HasCleanDisk (state g conn) → HasCleanDisk (state g (connection_in station))
   -- the crash states are those from before, for the database: a station's own tables, if they were
   pub survives : Survives (state g (connection_in station)) (state g conn) (λ _. ⊥)
   pub own : HasCleanDisk (state g conn) → are_declared station.stored.store.store ≡ true
       → LiesInOrder g → (db : Trees) → (state g conn).may_leave db → IsOwn db
   pub leaves : (connection_view g conn).IsSound → (found : Option State)
-      → Finds (connection_view g conn) found → may_find station found
+      → Finds (connection_view g conn) found → k.may_find station found
   pub sound : (rows_view g conn (are_declared station.stored.store.store)).IsSound
-      → is_sound station
-  pub shown : (s : State) → keeps station s
+      → k.is_sound station
+  pub shown : (s : State) → k.keeps station s
       → IfGivenBack (rows_view g conn (are_declared station.stored.store.store)) s
 
 -- The effect of `migrate`: a connection with the tables of version 1 got those of version 2, or a
@@ -147,11 +148,10 @@ pub record HasMoved {S : Type 0} (g : Ghosts S) (conn : Held S)
 -- A call over a crash state of a station that returned its connection. The opened station keeps a
 -- state that reopening the first one may find, works and is sound. Unless that reopening may find
 -- no station, the call fails only if the store does or memory runs out.
-pub record GoesOn {S : Type 0} (g : Ghosts S) (keeps : Station S g → State → Type 0) (is_sound : Station S g → Type 0) (is_broken : Station S g → Bool)
-    (may_find : Station S g → Option State → Type 0) (last : Station S g)
+pub record GoesOn {S : Type 0} (g : Ghosts S) (k : Keeping (Station S g)) (last : Station S g)
     (opened : Result (Station S g) (Held S × AttachFault)) : Type 0 where
   pub found : IfOk opened (λ again. HasCleanDisk (state g (connection_in again)) → (s : State)
-      × may_find last (Some s) × keeps again s × (is_broken again ≡ false))
-  pub sound : IfOk opened (λ again. HasCleanDisk (state g (connection_in again)) → is_sound again)
-  pub opens : ¬ (may_find last None)
+      × k.may_find last (Some s) × k.keeps again s × (k.is_broken again ≡ false))
+  pub sound : IfOk opened (λ again. HasCleanDisk (state g (connection_in again)) → k.is_sound again)
+  pub opens : ¬ (k.may_find last None)
       → IfErr opened (λ e. HasCleanDisk (state g e.0) → IsBreakdown e.1)

@@ -15,20 +15,20 @@ ghost use Rattle.state_store.specs.Store.{at_rest};
 ghost use Rattle.table_state.specs.Shown.{HasThese, Knows};
 ghost use Rattle.station_schema.specs.Own.{IsOwn, LiesInOrder};
 ghost use Rattle.station_rows.specs.Own.{are_declared};
-ghost use Rattle.file_audit.specs.Verdict.{IsUnfit, Tells};
+ghost use Rattle.table_audits.specs.Verdict.{IsUnfit, Tells};
 ghost use Rattle.station_tables.specs.Attached.{connection_in, IsBreakdown, IsJudged, IsStateIn, IsTypedState, Refuses};
 ghost use Rattle.station_tables.specs.Called.{HasFound};
 ghost use Rattle.station_tables.specs.Found.{Finds};
 
 use crate::fault::AttachFault;
 use crate::station::Station;
-use file_audit::{FoundState, Unfit, found_state};
 use sqlite::{Alter, Connection, Error, ErrorCode};
 use station_core::Keeper;
 use station_engine::StoredStation;
 use station_rows::{Rows, TableStore};
 use station_schema::has_station;
 use std::alloc::Global;
+use table_audits::{FoundState, Unfit, found_state};
 use table_load::FileVersion;
 use table_state::TableState;
 
@@ -80,13 +80,13 @@ fn over_store<T: TableStore>(
     store: T,
     found: FoundState,
 ) -> StoredStation<TableState<T>>
-    ensures works { ⟦<StoredStation<TableState<T>> as Keeper>⟧.is_broken result ≡ false }
+    ensures works { ⟦<StoredStation<TableState<T>> as Keeper>⟧.keeping.is_broken result ≡ false }
     ensures same { result.store.store ≡ store }
-    ensures keeps { (t : Tables) (s : State) → Means t (Some s) → IsLawfulState s
-        → Knows found.here found.sizes found.confirmed (at_rest s)
+    ensures keeps { (t : Tables) (s : State) → Means t (Some s) → IsLawfulState s → Knows found.here
+        found.sizes found.confirmed (at_rest s)
         → ((T.view store).IsSound → HasThese t (T.view store))
-        → ⟦<StoredStation<TableState<T>> as Keeper>⟧.keeps result s }
-    ensures sound { ⟦<StoredStation<TableState<T>> as Keeper>⟧.is_sound result
+        → ⟦<StoredStation<TableState<T>> as Keeper>⟧.keeping.keeps result s }
+    ensures sound { ⟦<StoredStation<TableState<T>> as Keeper>⟧.keeping.is_sound result
         → (T.view store).IsSound }
 {
     let tables = TableState::over(alloc, store, found.here, found.sizes, found.confirmed);
@@ -99,21 +99,21 @@ fn go_on<S: Alter>(
     conn: Connection<S>,
     found: FoundState,
 ) -> Result<Station<S>, (Connection<S>, AttachFault)>
-    ensures works { IfOk result (λ station. ⟦<Station<S> as Keeper>⟧.is_broken station ≡ false) }
-    ensures sound { IfOk result (λ station. ⟦<Station<S> as Keeper>⟧.is_sound station
+    ensures works { IfOk result
+        (λ station. ⟦<Station<S> as Keeper>⟧.keeping.is_broken station ≡ false) }
+    ensures sound { IfOk result (λ station. ⟦<Station<S> as Keeper>⟧.keeping.is_sound station
         → (connection_view S.Store conn).IsSound) }
     ensures clean { IfOk result (λ station. HasCleanDisk (state S.Store (connection_in station))
         → HasCleanDisk (state S.Store conn)) }
     ensures own { IfOk result (λ station. HasCleanDisk (state S.Store (connection_in station))
         → IsOwn (state S.Store conn).now.trees → are_declared station.stored.store.store ≡ true) }
-    ensures keeps { (s : State) (in_ : IsStateIn (state S.Store conn).now s)
-        → Tells found in_.tables → (state S.Store conn).in_transaction ≡ false
-        → (state S.Store conn).now ≡ (state S.Store conn).committed
-        → IfOk result (λ station. ⟦<Station<S> as Keeper>⟧.keeps station s) }
-    ensures typed { IfOk result (λ station. ⟦<Station<S> as Keeper>⟧.is_sound station
-        → (state S.Store conn).now ≡ (state S.Store conn).committed
-        → (s : State) → IsStateIn (state S.Store conn).now s
-        → IsTypedState (state S.Store conn).now s) }
+    ensures keeps { (s : State) (in_ : IsStateIn (state S.Store conn).now s) → Tells found
+        in_.tables → (state S.Store conn).in_transaction ≡ false → (state S.Store conn).now
+        ≡ (state S.Store conn).committed → IfOk result
+        (λ station. ⟦<Station<S> as Keeper>⟧.keeping.keeps station s) }
+    ensures typed { IfOk result (λ station. ⟦<Station<S> as Keeper>⟧.keeping.is_sound station
+        → (state S.Store conn).now ≡ (state S.Store conn).committed → (s : State) → IsStateIn
+        (state S.Store conn).now s → IsTypedState (state S.Store conn).now s) }
     ensures fault { IfErr result (λ e. e.1 ≡ AttachFault.Store) }
     ensures spares { IfErr result
         (λ e. store.Survives (connection_view S.Store conn) (connection_view S.Store e.0)) }
@@ -152,22 +152,21 @@ fn settle<S: Alter>(
     conn: Connection<S>,
     judged: Result<FoundState, Unfit>,
 ) -> Result<Station<S>, (Connection<S>, AttachFault)>
-    ensures works { IfOk result (λ station. ⟦<Station<S> as Keeper>⟧.is_broken station ≡ false) }
-    ensures sound { IfOk result (λ station. ⟦<Station<S> as Keeper>⟧.is_sound station
+    ensures works { IfOk result
+        (λ station. ⟦<Station<S> as Keeper>⟧.keeping.is_broken station ≡ false) }
+    ensures sound { IfOk result (λ station. ⟦<Station<S> as Keeper>⟧.keeping.is_sound station
         → (connection_view S.Store conn).IsSound) }
     ensures clean { IfOk result (λ station. HasCleanDisk (state S.Store (connection_in station))
         → HasCleanDisk (state S.Store conn)) }
     ensures own { IfOk result (λ station. HasCleanDisk (state S.Store (connection_in station))
         → IsOwn (state S.Store conn).now.trees → are_declared station.stored.store.store ≡ true) }
-    ensures found { (state S.Store conn).in_transaction ≡ false
-        → (state S.Store conn).now ≡ (state S.Store conn).committed
-        → IsJudged (read_as Second (state S.Store conn).now) judged
+    ensures found { (state S.Store conn).in_transaction ≡ false → (state S.Store conn).now
+        ≡ (state S.Store conn).committed → IsJudged (read_as Second (state S.Store conn).now) judged
         → IfOk result (λ station. (s : State) × IsStateIn (state S.Store conn).now s
-        × ⟦<Station<S> as Keeper>⟧.keeps station s) }
-    ensures typed { IfOk result (λ station. ⟦<Station<S> as Keeper>⟧.is_sound station
-        → (state S.Store conn).now ≡ (state S.Store conn).committed
-        → (s : State) → IsStateIn (state S.Store conn).now s
-        → IsTypedState (state S.Store conn).now s) }
+        × ⟦<Station<S> as Keeper>⟧.keeping.keeps station s) }
+    ensures typed { IfOk result (λ station. ⟦<Station<S> as Keeper>⟧.keeping.is_sound station
+        → (state S.Store conn).now ≡ (state S.Store conn).committed → (s : State) → IsStateIn
+        (state S.Store conn).now s → IsTypedState (state S.Store conn).now s) }
     ensures refused { IsJudged (read_as Second (state S.Store conn).now) judged
         → IfErr result (λ e. Refuses (state S.Store conn).now e.1) }
     ensures never { IfErr result (λ e. e.1 ≢ AttachFault.Occupied) }
@@ -196,21 +195,22 @@ fn find_over<S: Alter>(
 ) -> Result<Station<S>, (Connection<S>, AttachFault)>
     ensures inside { (connection_view S.Store conn).in_transaction ≡ true
         → result ≡ Err (conn, AttachFault.Store) }
-    ensures works { IfOk result (λ station. ⟦<Station<S> as Keeper>⟧.is_broken station ≡ false) }
-    ensures sound { IfOk result (λ station. ⟦<Station<S> as Keeper>⟧.is_sound station
+    ensures works { IfOk result
+        (λ station. ⟦<Station<S> as Keeper>⟧.keeping.is_broken station ≡ false) }
+    ensures sound { IfOk result (λ station. ⟦<Station<S> as Keeper>⟧.keeping.is_sound station
         → (connection_view S.Store conn).IsSound) }
 
     // The tables are a station's and lawful, and the station keeps their state.
     ensures found { IfOk result (λ station. HasCleanDisk (state S.Store (connection_in station))
         → (s : State) × IsStateIn (state S.Store conn).now s
-        × ⟦<Station<S> as Keeper>⟧.keeps station s) }
+        × ⟦<Station<S> as Keeper>⟧.keeping.keeps station s) }
     ensures own { IfOk result (λ station. HasCleanDisk (state S.Store (connection_in station))
         → IsOwn (state S.Store conn).now.trees
         → are_declared station.stored.store.store ≡ true) }
 
-    ensures typed { IfOk result (λ station. ⟦<Station<S> as Keeper>⟧.is_sound station → (s : State)
-        → IsStateIn (state S.Store conn).now s
-        → IsTypedState (state S.Store conn).now s) }
+    ensures typed { IfOk result (λ station. ⟦<Station<S> as Keeper>⟧.keeping.is_sound station
+        → (s : State) → IsStateIn (state S.Store conn).now s → IsTypedState (state S.Store conn).now
+        s) }
 
     // A fault is true of the tables. If they are a station's and lawful, the store failed or memory
     // ran out.
@@ -270,8 +270,7 @@ pub fn attach<S: Alter>(
     alloc: Global,
     conn: Connection<S>,
 ) -> Result<Station<S>, (Connection<S>, AttachFault)>
-    ensures { HasFound S.Store ⟦<Station<S> as Keeper>⟧.keeps ⟦<Station<S> as Keeper>⟧.is_sound
-        ⟦<Station<S> as Keeper>⟧.is_broken conn result }
+    ensures { HasFound S.Store ⟦<Station<S> as Keeper>⟧.keeping conn result }
 {
     find_over(alloc, conn)
 }

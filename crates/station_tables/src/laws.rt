@@ -51,13 +51,9 @@ pub fn calls_law()
 pub fn next_call_law<S: Alter>()
     ensures { (last : Kept S S.Store) (conn other : Held S)
         (opened : Result (Kept S S.Store) (Held S × AttachFault))
-        → ⟦<Station<S> as Keeper>⟧.is_sound last
-        → HasReleased ⟦<Station<S> as Keeper>⟧.keeps ⟦<Station<S> as Keeper>⟧.is_sound
-        ⟦<Station<S> as Keeper>⟧.may_find last conn
-        → HasCleanDisk (state S.Store conn)
-        → (state S.Store conn).may_leave (state S.Store other).now.trees
-        → HasFound S.Store ⟦<Station<S> as Keeper>⟧.keeps ⟦<Station<S> as Keeper>⟧.is_sound
-        ⟦<Station<S> as Keeper>⟧.is_broken other opened
-        → GoesOn S.Store ⟦<Station<S> as Keeper>⟧.keeps ⟦<Station<S> as Keeper>⟧.is_sound
-        ⟦<Station<S> as Keeper>⟧.is_broken ⟦<Station<S> as Keeper>⟧.may_find last opened }
+        → ⟦<Station<S> as Keeper>⟧.keeping.is_sound last → HasReleased
+        ⟦<Station<S> as Keeper>⟧.keeping last conn → HasCleanDisk (state S.Store conn)
+        → (state S.Store conn).may_leave (state S.Store other).now.trees → HasFound S.Store
+        ⟦<Station<S> as Keeper>⟧.keeping other opened → GoesOn S.Store
+        ⟦<Station<S> as Keeper>⟧.keeping last opened }
 {}

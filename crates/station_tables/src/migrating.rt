@@ -10,7 +10,7 @@ ghost use Rattle.sqlite.specs.Effect.{Database};
 ghost use Rattle.sqlite.specs.Held.{state};
 ghost use Rattle.sqlite.specs.State.{HasCleanDisk, Survives};
 ghost use Rattle.sqlite.specs.Tree.{Trees};
-ghost use Rattle.file_audit.specs.Verdict.{IsUnfit};
+ghost use Rattle.table_audits.specs.Verdict.{IsUnfit};
 ghost use Rattle.station_core.specs.Step.{State};
 ghost use Rattle.station_tables.specs.Attached.{IsBreakdown, IsJudged, IsOldStateIn, RefusesAs, old_name};
 ghost use Rattle.station_tables.specs.Called.{HasMoved};
@@ -19,11 +19,10 @@ ghost use Rattle.table_upgrade.specs.Upgrade.{MeansUpgraded};
 
 use crate::attaching::{breakdown, judge};
 use crate::fault::AttachFault;
-use file_audit::{FoundState, Unfit};
 use sqlite::{Alter, Connection};
 use station_schema::{shows_old_station, shows_own};
 use std::alloc::Global;
-use table_audits::TableName;
+use table_audits::{FoundState, TableName, Unfit};
 use table_load::FileVersion;
 use table_upgrade::upgrade_tables;
 

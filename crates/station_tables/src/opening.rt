@@ -31,12 +31,14 @@ fn make_over<S: Alter>(
     ensures free { OnOk result (takes_name (state S.Store conn).now.schema ≡ false) }
     ensures declared { IfOk result
         (λ station. IsTrue (are_declared station.stored.store.store) ↔ IsVacant S.Store conn) }
-    ensures works { IfOk result (λ station. ⟦<Station<S> as Keeper>⟧.is_broken station ≡ false) }
-    ensures sound { IfOk result (λ station. ⟦<Station<S> as Keeper>⟧.is_sound station
+    ensures works { IfOk result
+        (λ station. ⟦<Station<S> as Keeper>⟧.keeping.is_broken station ≡ false) }
+    ensures sound { IfOk result (λ station. ⟦<Station<S> as Keeper>⟧.keeping.is_sound station
         → (connection_view S.Store conn).IsSound) }
 
     // The station keeps the opening state, the only crash state.
-    ensures keeps { IfOk result (λ station. ⟦<Station<S> as Keeper>⟧.keeps station (opening here)) }
+    ensures keeps { IfOk result
+        (λ station. ⟦<Station<S> as Keeper>⟧.keeping.keeps station (opening here)) }
 
     // It returns Occupied exactly if one of the names is taken, and then nothing changed.
     ensures inside { (connection_view S.Store conn).in_transaction ≡ true
@@ -90,8 +92,7 @@ pub fn create<S: Alter>(
     conn: Connection<S>,
     here: Airport,
 ) -> Result<Station<S>, (Connection<S>, AttachFault)>
-    ensures { HasMade S.Store ⟦<Station<S> as Keeper>⟧.keeps ⟦<Station<S> as Keeper>⟧.is_sound
-        ⟦<Station<S> as Keeper>⟧.is_broken conn here result }
+    ensures { HasMade S.Store ⟦<Station<S> as Keeper>⟧.keeping conn here result }
 {
     make_over(alloc, conn, here)
 }

@@ -4,7 +4,7 @@ ghost use Rattle.row_laws.specs.Calls.{IsUndone};
 ghost use Rattle.sqlite.specs.Held.{state};
 ghost use Rattle.station_schema.specs.Own.{IsOwn, LiesInOrder};
 ghost use Rattle.station_schema.specs.Connection.{connection_view};
-ghost use Rattle.station_core.specs.Keeping.{Answers, MayLeave, IsMemoryOrStore};
+ghost use Rattle.station_core.specs.Keeping.{Answers, FindsOnly, IfSound, IfWorks, IsMemoryOrStore, MayLeave};
 ghost use Rattle.station_core.specs.Step.{State, IsLawfulState};
 ghost use Rattle.station_tables.specs.Attached.{connection_in, IsBreakdown, IsStateIn, IsTypedState, Refuses};
 ghost use Rattle.station_tables.specs.Found.{Finds};
@@ -24,26 +24,21 @@ fn answer_on<S: Alter>(
     input: &Input<'_>,
     at: Moment,
 ) -> Result<Answer, ActFault>
-    ensures works { ⟦<Station<S> as Keeper>⟧.is_broken station.old ≡ false
-        → OnOk result (⟦<Station<S> as Keeper>⟧.is_broken station.new ≡ false) }
-    ensures fault { ⟦<Station<S> as Keeper>⟧.is_broken station.old ≡ false
-        → IfErr result IsMemoryOrStore }
+    ensures works { ⟦<Station<S> as Keeper>⟧.keeping.is_broken station.old ≡ false → OnOk result
+        (⟦<Station<S> as Keeper>⟧.keeping.is_broken station.new ≡ false) }
+    ensures fault { ⟦<Station<S> as Keeper>⟧.keeping.is_broken station.old ≡ false → IfErr result
+        IsMemoryOrStore }
     ensures clean { HasCleanDisk (state S.Store (connection_in station.new))
         → HasCleanDisk (state S.Store (connection_in station.old)) }
-    ensures still { ⟦<Station<S> as Keeper>⟧.is_sound station.old
-        → HasCleanDisk (state S.Store (connection_in station.new))
-        → ⟦<Station<S> as Keeper>⟧.is_sound station.new }
-    ensures sound { ⟦<Station<S> as Keeper>⟧.is_sound station.new
-        → ⟦<Station<S> as Keeper>⟧.is_sound station.old }
-    ensures answers { (s : State) → ⟦<Station<S> as Keeper>⟧.keeps station.old s
-        → ⟦<Station<S> as Keeper>⟧.is_broken station.old ≡ false
-        → ⟦<Station<S> as Keeper>⟧.is_sound station.new
-        → Answers s input.now at result (⟦<Station<S> as Keeper>⟧.keeps station.new) }
-    ensures leaves { (s : State) → ⟦<Station<S> as Keeper>⟧.keeps station.old s
-        → ⟦<Station<S> as Keeper>⟧.is_broken station.old ≡ false
-        → ⟦<Station<S> as Keeper>⟧.is_sound station.new
-        → (found : Option State) → ⟦<Station<S> as Keeper>⟧.may_find station.new found
-        → MayLeave s input.now at result found }
+    ensures still { ⟦<Station<S> as Keeper>⟧.keeping.is_sound station.old → HasCleanDisk
+        (state S.Store (connection_in station.new)) → ⟦<Station<S> as Keeper>⟧.keeping.is_sound
+        station.new }
+    ensures sound { ⟦<Station<S> as Keeper>⟧.keeping.is_sound station.new
+        → ⟦<Station<S> as Keeper>⟧.keeping.is_sound station.old }
+    ensures answers { IfWorks ⟦<Station<S> as Keeper>⟧.keeping station.old station.new (λ s. Answers
+        s input.now at result (⟦<Station<S> as Keeper>⟧.keeping.keeps station.new)) }
+    ensures leaves { IfWorks ⟦<Station<S> as Keeper>⟧.keeping station.old station.new (λ s.
+        FindsOnly ⟦<Station<S> as Keeper>⟧.keeping station.new (MayLeave s input.now at result)) }
 {
     match station.act_on(input, at) {
         Ok(reply) => Ok(Answer::Done(reply)),
@@ -72,32 +67,29 @@ fn repeat_on<S: Alter>(
     input: &Input<'_>,
     at: Moment,
 ) -> Result<(Station<S>, Answer), (Connection<S>, AttachFault)>
-    requires { ⟦<Station<S> as Keeper>⟧.is_broken station ≡ false }
-    ensures works { IfOk result (λ r. ⟦<Station<S> as Keeper>⟧.is_broken r.0 ≡ false) }
+    requires { ⟦<Station<S> as Keeper>⟧.keeping.is_broken station ≡ false }
+    ensures works { IfOk result (λ r. ⟦<Station<S> as Keeper>⟧.keeping.is_broken r.0 ≡ false) }
     ensures clean { IfOk result (λ r. HasCleanDisk (state S.Store (connection_in r.0))
         → HasCleanDisk (state S.Store (connection_in station))) }
-    ensures still { IfOk result (λ r. ⟦<Station<S> as Keeper>⟧.is_sound station
+    ensures still { IfOk result (λ r. ⟦<Station<S> as Keeper>⟧.keeping.is_sound station
         → HasCleanDisk (state S.Store (connection_in r.0))
-        → ⟦<Station<S> as Keeper>⟧.is_sound r.0) }
-    ensures sound { IfOk result (λ r. ⟦<Station<S> as Keeper>⟧.is_sound r.0
-        → ⟦<Station<S> as Keeper>⟧.is_sound station) }
-    ensures repeated { (s : State) → ⟦<Station<S> as Keeper>⟧.keeps station s
-        → IfOk result (λ r. ⟦<Station<S> as Keeper>⟧.is_sound r.0
-        → HasAnswered s input.now at r.1 (⟦<Station<S> as Keeper>⟧.keeps r.0)
-        (⟦<Station<S> as Keeper>⟧.may_find r.0)) }
+        → ⟦<Station<S> as Keeper>⟧.keeping.is_sound r.0) }
+    ensures sound { IfOk result (λ r. ⟦<Station<S> as Keeper>⟧.keeping.is_sound r.0
+        → ⟦<Station<S> as Keeper>⟧.keeping.is_sound station) }
+    ensures repeated { (s : State) → ⟦<Station<S> as Keeper>⟧.keeping.keeps station s → IfOk result
+        (λ r. ⟦<Station<S> as Keeper>⟧.keeping.is_sound r.0 → HasAnswered s input.now at r.1
+        (⟦<Station<S> as Keeper>⟧.keeping.keeps r.0)
+        (⟦<Station<S> as Keeper>⟧.keeping.may_find r.0)) }
     ensures fault { IfErr result (λ e. IsBreakdown e.1) }
     ensures never { IfErr result (λ e. e.1 ≢ AttachFault.Occupied) }
     ensures left_clean { IfErr result (λ e. HasCleanDisk (state S.Store e.0)
         → HasCleanDisk (state S.Store (connection_in station))) }
-    ensures leaves { (s : State) → ⟦<Station<S> as Keeper>⟧.keeps station s
-        → ⟦<Station<S> as Keeper>⟧.is_sound station
-        → IfErr result (λ e. HasCleanDisk (state S.Store e.0)
-        → (found : Option State) → Finds (connection_view S.Store e.0) found
-        → IsBeforeOrAfter s input.now at found) }
-    ensures memory { (s : State) → ⟦<Station<S> as Keeper>⟧.keeps station s
-        → ⟦<Station<S> as Keeper>⟧.is_sound station
-        → IfErr result (λ e. e.1 ≡ AttachFault.Memory → HasCleanDisk (state S.Store e.0)
-        → (found : Option State) → Finds (connection_view S.Store e.0) found → found ≡ Some s) }
+    ensures leaves { IfSound ⟦<Station<S> as Keeper>⟧.keeping station station (λ s. IfErr result (λ
+        e. HasCleanDisk (state S.Store e.0) → (found : Option State) → Finds
+        (connection_view S.Store e.0) found → IsBeforeOrAfter s input.now at found)) }
+    ensures memory { IfSound ⟦<Station<S> as Keeper>⟧.keeping station station (λ s. IfErr result (λ
+        e. e.1 ≡ AttachFault.Memory → HasCleanDisk (state S.Store e.0) → (found : Option State)
+        → Finds (connection_view S.Store e.0) found → found ≡ Some s)) }
 {
     match answer_on(&mut station, input, at) {
         Ok(answer) => Ok((station, answer)),
@@ -119,20 +111,20 @@ pub fn attach_and_repeat<S: Alter>(
 ) -> Result<(Station<S>, Answer), (Connection<S>, AttachFault)>
     ensures inside { (connection_view S.Store conn).in_transaction ≡ true
         → result ≡ Err (conn, AttachFault.Store) }
-    ensures works { IfOk result (λ r. ⟦<Station<S> as Keeper>⟧.is_broken r.0 ≡ false) }
-    ensures sound { IfOk result (λ r. ⟦<Station<S> as Keeper>⟧.is_sound r.0
+    ensures works { IfOk result (λ r. ⟦<Station<S> as Keeper>⟧.keeping.is_broken r.0 ≡ false) }
+    ensures sound { IfOk result (λ r. ⟦<Station<S> as Keeper>⟧.keeping.is_sound r.0
         → (connection_view S.Store conn).IsSound) }
 
     // The answer and the state are those of a step from the tables' state, and that state is the
     // only crash state.
-    ensures repeated { IfOk result (λ r. ⟦<Station<S> as Keeper>⟧.is_sound r.0
-        → HasRepeated (state S.Store conn).now input.now at r.1 (⟦<Station<S> as Keeper>⟧.keeps r.0)
-        (⟦<Station<S> as Keeper>⟧.may_find r.0)) }
+    ensures repeated { IfOk result (λ r. ⟦<Station<S> as Keeper>⟧.keeping.is_sound r.0 → HasRepeated
+        (state S.Store conn).now input.now at r.1 (⟦<Station<S> as Keeper>⟧.keeping.keeps r.0)
+        (⟦<Station<S> as Keeper>⟧.keeping.may_find r.0)) }
 
     // The premise holds if a station wrote the tables and the disk returned them.
-    ensures own { IfOk result (λ r. HasCleanDisk (state S.Store (connection_in r.0))
-        → IsOwn (state S.Store conn).now.trees → LiesInOrder S.Store
-        → ⟦<Station<S> as Keeper>⟧.is_sound r.0) }
+    ensures own { IfOk result (λ r. HasCleanDisk (state S.Store (connection_in r.0)) → IsOwn
+        (state S.Store conn).now.trees → LiesInOrder S.Store
+        → ⟦<Station<S> as Keeper>⟧.keeping.is_sound r.0) }
 
     // A fault is true of the tables. If they are a station's and lawful, the store failed or memory
     // ran out.

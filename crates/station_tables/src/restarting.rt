@@ -1,10 +1,10 @@
 ghost use Rattle.std.specs.Prelude.{◌≡◌, ◌<◌, true, false, [], None, Some, length, take, IfOk, IfErr};
 ghost use Rattle.sqlite.specs.State.{HasCleanDisk, Survives};
 ghost use Rattle.sqlite.specs.Held.{state};
-ghost use Rattle.station_core.specs.Keeping.{IsBrokenAtEnd, IsMemoryOrReopen, IsMemoryOrStore};
+ghost use Rattle.station_core.specs.Keeping.{IfSound, IfWorks, IsBrokenAtEnd, IsMemoryOrReopen, IsMemoryOrStore};
 ghost use Rattle.station_core.specs.Step.{State, after_all, answers_of};
 ghost use Rattle.station_rows.specs.Own.{are_declared};
-ghost use Rattle.station_rows.specs.Shown.{rows_view};
+ghost use Rattle.station_rows.specs.View.{rows_view};
 ghost use Rattle.table_state.specs.Shown.{IfGivenBack};
 ghost use Rattle.station_tables.specs.Attached.{connection_in, IsBreakdown};
 ghost use Rattle.station_tables.specs.Restarted.{IsRestored};
@@ -38,62 +38,53 @@ pub fn act_and_restart<S: Alter>(
     inputs: &[(Input<'_>, Moment)],
     other: Connection<S>,
 ) -> Restart<S>
-    ensures restored { (s : State) → ⟦<Station<S> as Keeper>⟧.keeps station s
-        → ⟦<Station<S> as Keeper>⟧.is_broken station ≡ false
-        → ⟦<Station<S> as Keeper>⟧.is_sound result.stopped
-        → (state S.Store (connection_in result.stopped)).may_leave (state S.Store other).now.trees
+    ensures restored { IfWorks ⟦<Station<S> as Keeper>⟧.keeping station result.stopped (λ s.
+        (state S.Store (connection_in result.stopped)).may_leave (state S.Store other).now.trees
         → IfOk result.opened (λ again. HasCleanDisk (state S.Store (connection_in again))
         → IsRestored s inputs.now (length result.given.answers.items) result.given.fault
-        (state S.Store other).now
-        (⟦<Station<S> as Keeper>⟧.is_broken again) (⟦<Station<S> as Keeper>⟧.keeps again)) }
+        (state S.Store other).now (⟦<Station<S> as Keeper>⟧.keeping.is_broken again)
+        (⟦<Station<S> as Keeper>⟧.keeping.keeps again))) }
 
     // The stopped station stays sound exactly as long as its disk stays clean.
-    ensures still { ⟦<Station<S> as Keeper>⟧.is_sound station
-        → HasCleanDisk (state S.Store (connection_in result.stopped))
-        → ⟦<Station<S> as Keeper>⟧.is_sound result.stopped }
+    ensures still { ⟦<Station<S> as Keeper>⟧.keeping.is_sound station → HasCleanDisk
+        (state S.Store (connection_in result.stopped)) → ⟦<Station<S> as Keeper>⟧.keeping.is_sound
+        result.stopped }
 
     // All inputs were answered like a step, or a fault of the store or of memory ended them.
     ensures all { result.given.fault ≡ None
         → length result.given.answers.items ≡ length inputs.now }
-    ensures answers { (s : State) → ⟦<Station<S> as Keeper>⟧.keeps station s
-        → ⟦<Station<S> as Keeper>⟧.is_broken station ≡ false
-        → ⟦<Station<S> as Keeper>⟧.is_sound result.stopped
-        → result.given.answers.items ≡ answers_of s
-        (take (length result.given.answers.items) inputs.now) }
+    ensures answers { IfWorks ⟦<Station<S> as Keeper>⟧.keeping station result.stopped (λ s.
+        result.given.answers.items ≡ answers_of s
+        (take (length result.given.answers.items) inputs.now)) }
     ensures part { (e : ActFault) → result.given.fault ≡ Some e
         → length result.given.answers.items < length inputs.now }
-    ensures fault { ⟦<Station<S> as Keeper>⟧.is_broken station ≡ false → (e : ActFault)
+    ensures fault { ⟦<Station<S> as Keeper>⟧.keeping.is_broken station ≡ false → (e : ActFault)
         → result.given.fault ≡ Some e → IsMemoryOrStore e }
-    ensures breaks { ⟦<Station<S> as Keeper>⟧.is_broken station ≡ false
-        → IsBrokenAtEnd result.given.fault (⟦<Station<S> as Keeper>⟧.is_broken result.stopped) }
+    ensures breaks { ⟦<Station<S> as Keeper>⟧.keeping.is_broken station ≡ false → IsBrokenAtEnd
+        result.given.fault (⟦<Station<S> as Keeper>⟧.keeping.is_broken result.stopped) }
 
     // Unless the store failed, the stopped station keeps the state after the inputs that it
     // answered.
-    ensures state { (s : State) → ⟦<Station<S> as Keeper>⟧.keeps station s
-        → ⟦<Station<S> as Keeper>⟧.is_broken station ≡ false
-        → ⟦<Station<S> as Keeper>⟧.is_sound result.stopped
-        → (result.given.fault ≡ Some ActFault.Store → ⊥)
-        → ⟦<Station<S> as Keeper>⟧.keeps result.stopped
-        (after_all s (take (length result.given.answers.items) inputs.now)) }
+    ensures state { IfWorks ⟦<Station<S> as Keeper>⟧.keeping station result.stopped (λ s.
+        (result.given.fault ≡ Some ActFault.Store → ⊥) → ⟦<Station<S> as Keeper>⟧.keeping.keeps
+        result.stopped (after_all s (take (length result.given.answers.items) inputs.now))) }
 
     // A broken station answers nothing, and stays as it is.
-    ensures reopen { ⟦<Station<S> as Keeper>⟧.is_broken station ≡ true
+    ensures reopen { ⟦<Station<S> as Keeper>⟧.keeping.is_broken station ≡ true
         → (result.given.answers.items ≡ []) × (result.stopped ≡ station) }
-    ensures reopen_fault { ⟦<Station<S> as Keeper>⟧.is_broken station ≡ true → (e : ActFault)
-        → result.given.fault ≡ Some e → IsMemoryOrReopen e }
+    ensures reopen_fault { ⟦<Station<S> as Keeper>⟧.keeping.is_broken station ≡ true
+        → (e : ActFault) → result.given.fault ≡ Some e → IsMemoryOrReopen e }
 
     // No crash state is refused: a fault means that the store failed, or that memory ran out.
-    ensures opens { (s : State) → ⟦<Station<S> as Keeper>⟧.keeps station s
-        → ⟦<Station<S> as Keeper>⟧.is_broken station ≡ false
-        → ⟦<Station<S> as Keeper>⟧.is_sound result.stopped
-        → (state S.Store (connection_in result.stopped)).may_leave (state S.Store other).now.trees
-        → IfErr result.opened (λ e. HasCleanDisk (state S.Store e.0) → IsBreakdown e.1) }
+    ensures opens { IfWorks ⟦<Station<S> as Keeper>⟧.keeping station result.stopped (λ s.
+        (state S.Store (connection_in result.stopped)).may_leave (state S.Store other).now.trees
+        → IfErr result.opened (λ e. HasCleanDisk (state S.Store e.0) → IsBreakdown e.1)) }
 
     // The opened station is sound as long as its own disk stays clean.
-    ensures sound { ⟦<Station<S> as Keeper>⟧.is_sound result.stopped
+    ensures sound { ⟦<Station<S> as Keeper>⟧.keeping.is_sound result.stopped
         → (state S.Store (connection_in result.stopped)).may_leave (state S.Store other).now.trees
         → IfOk result.opened (λ again. HasCleanDisk (state S.Store (connection_in again))
-        → ⟦<Station<S> as Keeper>⟧.is_sound again) }
+        → ⟦<Station<S> as Keeper>⟧.keeping.is_sound again) }
 
     // Opening writes nothing.
     ensures unwritten { IfOk result.opened
@@ -128,29 +119,26 @@ pub fn release_and_restart<S: Alter>(
     station: Station<S>,
     other: Connection<S>,
 ) -> Reopening<S>
-    ensures restored { (s : State) → ⟦<Station<S> as Keeper>⟧.keeps station s
-        → ⟦<Station<S> as Keeper>⟧.is_sound station
-        → HasCleanDisk (state S.Store result.left)
-        → (state S.Store result.left).may_leave (state S.Store other).now.trees
-        → IfOk result.opened (λ again. HasCleanDisk (state S.Store (connection_in again))
-        → IsRestored s [] 0 None (state S.Store other).now
-        (⟦<Station<S> as Keeper>⟧.is_broken again) (⟦<Station<S> as Keeper>⟧.keeps again)) }
-    ensures opens { (s : State) → ⟦<Station<S> as Keeper>⟧.keeps station s
-        → ⟦<Station<S> as Keeper>⟧.is_sound station
-        → HasCleanDisk (state S.Store result.left)
-        → (state S.Store result.left).may_leave (state S.Store other).now.trees
-        → IfErr result.opened (λ e. HasCleanDisk (state S.Store e.0) → IsBreakdown e.1) }
-    ensures sound { ⟦<Station<S> as Keeper>⟧.is_sound station
-        → HasCleanDisk (state S.Store result.left)
-        → (state S.Store result.left).may_leave (state S.Store other).now.trees
-        → IfOk result.opened (λ again. HasCleanDisk (state S.Store (connection_in again))
-        → ⟦<Station<S> as Keeper>⟧.is_sound again) }
+    ensures restored { IfSound ⟦<Station<S> as Keeper>⟧.keeping station station (λ s. HasCleanDisk
+        (state S.Store result.left) → (state S.Store result.left).may_leave
+        (state S.Store other).now.trees → IfOk result.opened (λ again. HasCleanDisk
+        (state S.Store (connection_in again)) → IsRestored s [] 0 None (state S.Store other).now
+        (⟦<Station<S> as Keeper>⟧.keeping.is_broken again)
+        (⟦<Station<S> as Keeper>⟧.keeping.keeps again))) }
+    ensures opens { IfSound ⟦<Station<S> as Keeper>⟧.keeping station station (λ s. HasCleanDisk
+        (state S.Store result.left) → (state S.Store result.left).may_leave
+        (state S.Store other).now.trees → IfErr result.opened
+        (λ e. HasCleanDisk (state S.Store e.0) → IsBreakdown e.1)) }
+    ensures sound { ⟦<Station<S> as Keeper>⟧.keeping.is_sound station → HasCleanDisk
+        (state S.Store result.left) → (state S.Store result.left).may_leave
+        (state S.Store other).now.trees → IfOk result.opened (λ again. HasCleanDisk
+        (state S.Store (connection_in again)) → ⟦<Station<S> as Keeper>⟧.keeping.is_sound again) }
 
     // The connection is returned as by `release`, and opening writes nothing.
     ensures left { Survives (state S.Store (connection_in station)) (state S.Store result.left)
         (λ _. ⊥) }
-    ensures shown { (s : State) → ⟦<Station<S> as Keeper>⟧.keeps station s
-        → IfGivenBack (rows_view S.Store result.left (are_declared station.stored.store.store)) s }
+    ensures shown { (s : State) → ⟦<Station<S> as Keeper>⟧.keeping.keeps station s → IfGivenBack
+        (rows_view S.Store result.left (are_declared station.stored.store.store)) s }
     ensures unwritten { IfOk result.opened
         (λ again. Survives (state S.Store other) (state S.Store (connection_in again)) (λ _. ⊥)) }
     ensures unwritten_at_err { IfErr result.opened

@@ -3,13 +3,13 @@ ghost use Rattle.sqlite.specs.Held.{state};
 ghost use Rattle.sqlite.specs.State.{HasCleanDisk};
 ghost use Rattle.sqlite.specs.State as connection;
 ghost use Rattle.sqlite.specs.Tree.{Trees};
-ghost use Rattle.station_core.specs.Keeping.{Acts, Breaks, Leaves};
+ghost use Rattle.station_core.specs.Keeping.{Acts, Breaks, FindsOnly, IfWorks, Leaves, Reopens};
 ghost use Rattle.station_tables.specs.Attached.{connection_in};
 ghost use Rattle.station_schema.specs.Connection.{connection_view};
 ghost use Rattle.station_schema.specs.Own.{IsOwn, LiesInOrder};
 ghost use Rattle.station_core.specs.Step.{State};
 ghost use Rattle.station_rows.specs.Own.{are_declared};
-ghost use Rattle.station_rows.specs.Shown.{rows_view};
+ghost use Rattle.station_rows.specs.View.{rows_view};
 ghost use Rattle.table_state.specs.Shown.{IfGivenBack};
 ghost use Rattle.station_tables.specs.Called.{HasReleased};
 ghost use Rattle.station_tables.specs.Found.{Finds};
@@ -47,30 +47,23 @@ impl<S: Alter> Station<S> {
 
     /// Acts on one input at a moment, as a `Keeper` does. Only a disk that fails ends its premise.
     pub(crate) fn act_on(&mut self, input: &Input<'_>, at: Moment) -> Result<Reply, ActFault>
-        ensures reopen { ⟦<Station<S> as Keeper>⟧.is_broken self.old ≡ true
-            → (result ≡ Err ActFault.Reopen)
-            × (self.new ≡ self.old) }
-        ensures breaks { ⟦<Station<S> as Keeper>⟧.is_broken self.old ≡ false
-            → Breaks result (⟦<Station<S> as Keeper>⟧.is_broken self.new) }
+        ensures reopen { Reopens ⟦<Station<S> as Keeper>⟧.keeping self.old self.new result }
+        ensures breaks { ⟦<Station<S> as Keeper>⟧.keeping.is_broken self.old ≡ false → Breaks result
+            (⟦<Station<S> as Keeper>⟧.keeping.is_broken self.new) }
 
         // Memory runs out before the first call of the database, and nothing has changed.
         ensures memory { result ≡ Err ActFault.Memory → self.new ≡ self.old }
         ensures clean { HasCleanDisk (state S.Store (connection_in self.new))
             → HasCleanDisk (state S.Store (connection_in self.old)) }
-        ensures still { ⟦<Station<S> as Keeper>⟧.is_sound self.old
-            → HasCleanDisk (state S.Store (connection_in self.new))
-            → ⟦<Station<S> as Keeper>⟧.is_sound self.new }
-        ensures sound { ⟦<Station<S> as Keeper>⟧.is_sound self.new
-            → ⟦<Station<S> as Keeper>⟧.is_sound self.old }
-        ensures acts { (s : State) → ⟦<Station<S> as Keeper>⟧.keeps self.old s
-            → ⟦<Station<S> as Keeper>⟧.is_broken self.old ≡ false
-            → ⟦<Station<S> as Keeper>⟧.is_sound self.new
-            → Acts s input.now at result (⟦<Station<S> as Keeper>⟧.keeps self.new) }
-        ensures leaves { (s : State) → ⟦<Station<S> as Keeper>⟧.keeps self.old s
-            → ⟦<Station<S> as Keeper>⟧.is_broken self.old ≡ false
-            → ⟦<Station<S> as Keeper>⟧.is_sound self.new → (found : Option State)
-            → ⟦<Station<S> as Keeper>⟧.may_find self.new found
-            → Leaves s input.now at result found }
+        ensures still { ⟦<Station<S> as Keeper>⟧.keeping.is_sound self.old → HasCleanDisk
+            (state S.Store (connection_in self.new)) → ⟦<Station<S> as Keeper>⟧.keeping.is_sound
+            self.new }
+        ensures sound { ⟦<Station<S> as Keeper>⟧.keeping.is_sound self.new
+            → ⟦<Station<S> as Keeper>⟧.keeping.is_sound self.old }
+        ensures acts { IfWorks ⟦<Station<S> as Keeper>⟧.keeping self.old self.new
+            (λ s. Acts s input.now at result (⟦<Station<S> as Keeper>⟧.keeping.keeps self.new)) }
+        ensures leaves { IfWorks ⟦<Station<S> as Keeper>⟧.keeping self.old self.new (λ s. FindsOnly
+            ⟦<Station<S> as Keeper>⟧.keeping self.new (Leaves s input.now at result)) }
     {
         self.stored.act_on(input, at)
     }
@@ -87,16 +80,16 @@ impl<S: Alter> Station<S> {
         ensures own { HasCleanDisk (state S.Store result)
             → are_declared self.stored.store.store ≡ true → LiesInOrder S.Store
             → (db : Trees) → (state S.Store result).may_leave db → IsOwn db }
-        ensures leaves { (connection_view S.Store result).IsSound → (found : Option State)
-            → Finds (connection_view S.Store result) found
-            → ⟦<Station<S> as Keeper>⟧.may_find self found }
+        ensures leaves { (connection_view S.Store result).IsSound → (found : Option State) → Finds
+            (connection_view S.Store result) found → ⟦<Station<S> as Keeper>⟧.keeping.may_find self
+            found }
         ensures sound { (rows_view S.Store result (are_declared self.stored.store.store)).IsSound
-            → ⟦<Station<S> as Keeper>⟧.is_sound self }
+            → ⟦<Station<S> as Keeper>⟧.keeping.is_sound self }
 
         // If the connection is open, it is outside a transaction, and its tables mean the station's
         // state.
-        ensures shown { (s : State) → ⟦<Station<S> as Keeper>⟧.keeps self s
-            → IfGivenBack (rows_view S.Store result (are_declared self.stored.store.store)) s }
+        ensures shown { (s : State) → ⟦<Station<S> as Keeper>⟧.keeping.keeps self s → IfGivenBack
+            (rows_view S.Store result (are_declared self.stored.store.store)) s }
     {
         let Station { stored } = self;
         stored.into_store().release()
@@ -104,29 +97,19 @@ impl<S: Alter> Station<S> {
 
     /// Returns the connection, whatever its state.
     pub fn release(self) -> Connection<S>
-        ensures { HasReleased ⟦<Station<S> as Keeper>⟧.keeps ⟦<Station<S> as Keeper>⟧.is_sound
-            ⟦<Station<S> as Keeper>⟧.may_find self result }
+        ensures { HasReleased ⟦<Station<S> as Keeper>⟧.keeping self result }
     {
         self.give_back()
     }
 }
 
 impl<S: Alter> Keeper for Station<S> {
+    ghost use Rattle.station_core.specs.Keeping.{around};
     ghost use Rattle.station_engine.specs.Laws.{found_is};
     ghost use Rattle.table_state.specs.Laws.{finds_what_it_shows};
 
-    ghost keeps = { λ k s. ⟦<StoredStation<TableState<Rows<S>>> as Keeper>⟧.keeps k.stored s };
-
-    ghost is_clean = { λ k. ⟦<StoredStation<TableState<Rows<S>>> as Keeper>⟧.is_clean k.stored };
-
-    ghost is_sound = { λ k. ⟦<StoredStation<TableState<Rows<S>>> as Keeper>⟧.is_sound k.stored };
-
-    ghost is_broken = { λ k. ⟦<StoredStation<TableState<Rows<S>>> as Keeper>⟧.is_broken k.stored };
-
-    ghost may_find = { λ k found. ⟦<StoredStation<TableState<Rows<S>>> as Keeper>⟧.may_find k.stored
-        found };
-
-    ghost may_fail = { ⟦<StoredStation<TableState<Rows<S>>> as Keeper>⟧.may_fail };
+    ghost keeping = { around (λ k. k.stored)
+        ⟦<StoredStation<TableState<Rows<S>>> as Keeper>⟧.keeping };
 
     ghost settled = { λ k s keeps sound found finds. found_is _ s keeps.0
         (λ f left. finds_what_it_shows _ s (keeps.1 sound).holds f left) found finds };

@@ -1,5 +1,5 @@
 -- The outcome of a row, whether it was answered or not.
-use Rattle.std.specs.Prelude.{◌≡◌, ◌⊎◌, ℕ, ◌+◌, Bool, true, false, if◌then◌else◌, Result, Ok, Err, Option, Some, None, List, [], ◌∷◌, ◌++◌, length, take}
+use Rattle.std.specs.Prelude.{◌≡◌, ◌⊎◌, ℕ, ◌+◌, Bool, true, false, if◌then◌else◌, Result, Ok, Err, Option, Some, None, List, [], ◌∷◌, ◌++◌, length, take, OnOk, IfErr}
 use Rattle.csv.specs.declared.error.ErrorKind.{ErrorKind}
 use Rattle.csv.specs.declared.error.ErrorKind.TheVariants as kind
 use Rattle.station_days.specs.Date.{LocalMinute}
@@ -29,6 +29,12 @@ IsWriteOrUntroubled e old new = (e ≡ fault.Write) ⊎ IsUntroubled old new
 -- the writer's fault is returned only if a call of it failed, or wrote 0 bytes
 abbrev pub WriteHasCause : {X : Type 0} → Result X RunFault → Given → Given → Type 0
 WriteHasCause result old new = result ≡ Err fault.Write → HasCause old new
+
+-- what a result tells of the writer
+pub record TellsWriting {X : Type 0} (old new : Given) (result : Result X RunFault) : Type 0 where
+  pub cause : WriteHasCause result old new
+  pub told : IfErr result (λ e. IsWriteOrUntroubled e old new)
+  pub untroubled : OnOk result (IsUntroubled old new)
 
 -- The station must be opened again after a fault exactly if its store failed.
 abbrev pub IsShutAfter : RunFault → Bool → Type 0

@@ -1,9 +1,9 @@
 ghost use Rattle.std.specs.Prelude.{◌≡◌, ℕ, true, false, Err, None, ◌++◌, ◌⊎◌, IfOk, IfErr, OnErr, OnOk, take, string_bytes};
 ghost use Rattle.csv.specs.Records.{fields_of};
-ghost use Rattle.station_core.specs.Keeping.{KeepsPremise, KeepsWorking, StaysIfBroken};
+ghost use Rattle.station_core.specs.Keeping.{IfWorks, StaysIfBroken, StaysInService};
 ghost use Rattle.station_core.specs.Ends.{HasCause};
 ghost use Rattle.station_core.specs.Step.{State};
-ghost use Rattle.stock_list.specs.Ended.{IsAnswered, IsShutAfter, IsStopped, IsUntroubled, IsWriteOrUntroubled, WriteHasCause, kept, run_fault};
+ghost use Rattle.stock_list.specs.Ended.{IsAnswered, IsShutAfter, IsStopped, IsUntroubled, TellsWriting, kept, run_fault};
 ghost use Rattle.input_reasons.specs.Reason.{HasReason};
 ghost use Rattle.stock_list.specs.Lines.{answer_text, answer_line, bad_line};
 ghost use Rattle.stock_list.specs.Reasons.{row_head, HasToldRow};
@@ -119,10 +119,7 @@ pub fn answer_bad_row<W: ByteOut, E: ByteOut>(
         × ((W.taken writer.new).bytes ≡ (W.taken writer.old).bytes)))
         × ((sent : ℕ) × ((W.taken writer.new).bytes ≡ (W.taken writer.old).bytes ++ take sent
         (bad_line place.number)))) }
-    ensures untroubled { OnOk result (IsUntroubled (W.taken writer.old) (W.taken writer.new)) }
-    ensures write_cause { WriteHasCause result (W.taken writer.old) (W.taken writer.new) }
-    ensures write_told { IfErr result (λ e. IsWriteOrUntroubled e (W.taken writer.old)
-        (W.taken writer.new)) }
+    ensures writing { TellsWriting (W.taken writer.old) (W.taken writer.new) result }
     ensures reasons { HasToldRow E.taken result None errors.old errors.new }
 {
     let Ok(line) = bad_line(alloc, place.number) else {
@@ -146,32 +143,25 @@ pub fn answer_row<K: Keeper, W: ByteOut, E: ByteOut>(
     row: &ByteRecord,
     at: Moment,
 ) -> Result<bool, RunFault>
-    ensures premise { KeepsPremise K.is_clean K.is_sound keeper.old keeper.new }
-    ensures works { KeepsWorking (K.is_broken keeper.old) (K.is_broken keeper.new) result }
-    ensures breaks { K.is_broken keeper.old ≡ false
-        → IfErr result (λ e. IsShutAfter e (K.is_broken keeper.new)) }
-    ensures answered { (s : State) → K.keeps keeper.old s → K.is_broken keeper.old ≡ false
-        → K.is_sound keeper.new
-        → IfOk result (λ good. IsAnswered place.number s (fields_of row.now) at good
-        (W.taken writer.old).bytes (W.taken writer.new).bytes (K.keeps keeper.new)) }
-    ensures stopped { (s : State) → K.keeps keeper.old s → K.is_broken keeper.old ≡ false
-        → K.is_sound keeper.new
-        → IfErr result (λ e. IsStopped place.number s (fields_of row.now) at e
-        (W.taken writer.old).bytes (W.taken writer.new).bytes
-        (kept (K.keeps keeper.new) (K.may_find keeper.new))) }
-    ensures untroubled { OnOk result (IsUntroubled (W.taken writer.old) (W.taken writer.new)) }
-    ensures write_cause { WriteHasCause result (W.taken writer.old) (W.taken writer.new) }
-    ensures write_told { IfErr result (λ e. IsWriteOrUntroubled e (W.taken writer.old)
-        (W.taken writer.new)) }
+    ensures service { StaysInService K.keeping keeper.old keeper.new result }
+    ensures breaks { K.keeping.is_broken keeper.old ≡ false → IfErr result
+        (λ e. IsShutAfter e (K.keeping.is_broken keeper.new)) }
+    ensures answered { IfWorks K.keeping keeper.old keeper.new (λ s. IfOk result (λ good. IsAnswered
+        place.number s (fields_of row.now) at good (W.taken writer.old).bytes
+        (W.taken writer.new).bytes (K.keeping.keeps keeper.new))) }
+    ensures stopped { IfWorks K.keeping keeper.old keeper.new (λ s. IfErr result (λ e. IsStopped
+        place.number s (fields_of row.now) at e (W.taken writer.old).bytes
+        (W.taken writer.new).bytes
+        (kept (K.keeping.keeps keeper.new) (K.keeping.may_find keeper.new)))) }
+    ensures writing { TellsWriting (W.taken writer.old) (W.taken writer.new) result }
     ensures unread { result ≡ Err RunFault.Read → ⊥ }
     ensures reasons { HasToldRow E.taken result (row_asks (fields_of row.now)) errors.old
         errors.new }
 
     // A broken station stays as it is, and isn't called.
-    ensures same { StaysIfBroken (K.is_broken keeper.old) keeper.old keeper.new }
-    ensures reopen { K.is_broken keeper.old ≡ true
-        → IsAnsweredShut place.number (row_asks (fields_of row.now)) (W.taken writer.old)
-        (W.taken writer.new) result }
+    ensures same { StaysIfBroken K.keeping keeper.old keeper.new }
+    ensures reopen { K.keeping.is_broken keeper.old ≡ true → IsAnsweredShut place.number
+        (row_asks (fields_of row.now)) (W.taken writer.old) (W.taken writer.new) result }
 {
     let Some(asked) = read_row(row) else {
         return answer_bad_row(alloc, writer, errors, place, row);

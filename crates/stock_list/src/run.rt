@@ -1,9 +1,9 @@
 ghost use Rattle.std.specs.Prelude.{◌≡◌, ◌<◌, ◌⊎◌, true, false, Ok, Err, List, Option, OnOk, IfOk, IfErr, IfSome};
 ghost use Rattle.csv.specs.Reading.{error_kind};
 ghost use Rattle.csv.specs.Records.{fields_of};
-ghost use Rattle.station_core.specs.Keeping.{KeepsPremise, KeepsWorking, StaysIfBroken};
+ghost use Rattle.station_core.specs.Keeping.{IfWorks, StaysIfBroken, StaysInService};
 ghost use Rattle.station_core.specs.Step.{State};
-ghost use Rattle.stock_list.specs.Ended.{AreFirst, HasRun, HasStopped, IsAnswered, IsShutAfter, IsStopped, IsUntroubled, IsWriteOrUntroubled, WriteHasCause, kept, reader_fault, rows_read, told_by};
+ghost use Rattle.stock_list.specs.Ended.{AreFirst, HasRun, HasStopped, IsAnswered, IsShutAfter, IsStopped, TellsWriting, kept, reader_fault, rows_read, told_by};
 ghost use Rattle.stock_list.specs.Lines.{Row, stock_rows};
 ghost use Rattle.stock_list.specs.Reasons.{HasToldRow, HasToldRows};
 ghost use Rattle.stock_list.specs.Row.{row_asks};
@@ -40,29 +40,21 @@ fn answer_listed<K: Keeper, W: ByteOut, E: ByteOut>(
     row: &ByteRecord,
     at: Moment,
 ) -> Result<bool, RunFault>
-    ensures premise { KeepsPremise K.is_clean K.is_sound keeper.old keeper.new }
-    ensures works { KeepsWorking (K.is_broken keeper.old) (K.is_broken keeper.new) result }
-    ensures breaks { K.is_broken keeper.old ≡ false
-        → IfErr result (λ e. IsShutAfter e (K.is_broken keeper.new)) }
-    ensures answered { (s : State) → K.keeps keeper.old s → K.is_broken keeper.old ≡ false
-        → K.is_sound keeper.new
-        → IfOk result (λ good. IsAnswered number s (fields_of row.now) at good
-        (W.taken writer.old).bytes (W.taken writer.new).bytes (K.keeps keeper.new)) }
-    ensures stopped { (s : State) → K.keeps keeper.old s → K.is_broken keeper.old ≡ false
-        → K.is_sound keeper.new
-        → IfErr result (λ e. IsStopped number s (fields_of row.now) at e
-        (W.taken writer.old).bytes (W.taken writer.new).bytes
-        (kept (K.keeps keeper.new) (K.may_find keeper.new))) }
-    ensures untroubled { OnOk result (IsUntroubled (W.taken writer.old) (W.taken writer.new)) }
-    ensures write_cause { WriteHasCause result (W.taken writer.old) (W.taken writer.new) }
-    ensures write_told { IfErr result (λ e. IsWriteOrUntroubled e (W.taken writer.old)
-        (W.taken writer.new)) }
+    ensures service { StaysInService K.keeping keeper.old keeper.new result }
+    ensures breaks { K.keeping.is_broken keeper.old ≡ false → IfErr result
+        (λ e. IsShutAfter e (K.keeping.is_broken keeper.new)) }
+    ensures answered { IfWorks K.keeping keeper.old keeper.new (λ s. IfOk result (λ good. IsAnswered
+        number s (fields_of row.now) at good (W.taken writer.old).bytes (W.taken writer.new).bytes
+        (K.keeping.keeps keeper.new))) }
+    ensures stopped { IfWorks K.keeping keeper.old keeper.new (λ s. IfErr result (λ e. IsStopped
+        number s (fields_of row.now) at e (W.taken writer.old).bytes (W.taken writer.new).bytes
+        (kept (K.keeping.keeps keeper.new) (K.keeping.may_find keeper.new)))) }
+    ensures writing { TellsWriting (W.taken writer.old) (W.taken writer.new) result }
     ensures reasons { HasToldRow E.taken result (row_asks (fields_of row.now)) errors.old
         errors.new }
-    ensures same { StaysIfBroken (K.is_broken keeper.old) keeper.old keeper.new }
-    ensures reopen { K.is_broken keeper.old ≡ true
-        → IsAnsweredShut number (row_asks (fields_of row.now)) (W.taken writer.old)
-        (W.taken writer.new) result }
+    ensures same { StaysIfBroken K.keeping keeper.old keeper.new }
+    ensures reopen { K.keeping.is_broken keeper.old ≡ true → IsAnsweredShut number
+        (row_asks (fields_of row.now)) (W.taken writer.old) (W.taken writer.new) result }
 {
     let line = lines.first_line(row);
     let place = RowPlace { number, line };
@@ -80,33 +72,25 @@ fn run_rows<K: Keeper, R: Read + Drop, W: ByteOut, E: ByteOut>(
     lines: &LineCount,
     at: Moment,
 ) -> Result<bool, RunFault>
-    ensures premise { KeepsPremise K.is_clean K.is_sound keeper.old keeper.new }
-    ensures works { KeepsWorking (K.is_broken keeper.old) (K.is_broken keeper.new) result }
-    ensures breaks { K.is_broken keeper.old ≡ false
-        → IfErr result (λ e. IsShutAfter e (K.is_broken keeper.new)) }
-    ensures ran { (s : State) → K.keeps keeper.old s → K.is_broken keeper.old ≡ false
-        → K.is_sound keeper.new
-        → IfOk result (λ good. (rows : List Row)
-        × IfSome (R.remaining reader) (λ bytes. rows ≡ stock_rows bytes)
-        × HasRun s rows at good (W.taken writer.old).bytes (W.taken writer.new).bytes
-        (K.keeps keeper.new)) }
-    ensures stopped { (s : State) → K.keeps keeper.old s → K.is_broken keeper.old ≡ false
-        → K.is_sound keeper.new
-        → IfErr result (λ e. (rows : List Row)
-        × ((next : Option Row) × (IfSome (R.remaining reader) (AreFirst (rows_read rows next))
-        × HasStopped s rows next at e (W.taken writer.old).bytes (W.taken writer.new).bytes
-        (kept (K.keeps keeper.new) (K.may_find keeper.new))))) }
-    ensures write_cause { WriteHasCause result (W.taken writer.old) (W.taken writer.new) }
-    ensures write_told { IfErr result (λ e. IsWriteOrUntroubled e (W.taken writer.old)
-        (W.taken writer.new)) }
-    ensures untroubled { OnOk result (IsUntroubled (W.taken writer.old) (W.taken writer.new)) }
+    ensures service { StaysInService K.keeping keeper.old keeper.new result }
+    ensures breaks { K.keeping.is_broken keeper.old ≡ false → IfErr result
+        (λ e. IsShutAfter e (K.keeping.is_broken keeper.new)) }
+    ensures ran { IfWorks K.keeping keeper.old keeper.new (λ s. IfOk result (λ good.
+        (rows : List Row) × IfSome (R.remaining reader) (λ bytes. rows ≡ stock_rows bytes) × HasRun
+        s rows at good (W.taken writer.old).bytes (W.taken writer.new).bytes
+        (K.keeping.keeps keeper.new))) }
+    ensures stopped { IfWorks K.keeping keeper.old keeper.new (λ s. IfErr result (λ e.
+        (rows : List Row) × ((next : Option Row) × (IfSome (R.remaining reader)
+        (AreFirst (rows_read rows next)) × HasStopped s rows next at e (W.taken writer.old).bytes
+        (W.taken writer.new).bytes
+        (kept (K.keeping.keeps keeper.new) (K.keeping.may_find keeper.new)))))) }
+    ensures writing { TellsWriting (W.taken writer.old) (W.taken writer.new) result }
     ensures quiet { result ≡ Ok true → errors.new ≡ errors.old }
     ensures reasons { HasToldRows (R.remaining reader) (E.taken errors.old).bytes
         (E.taken errors.new).bytes result }
-    ensures same { StaysIfBroken (K.is_broken keeper.old) keeper.old keeper.new }
-    ensures reopen { K.is_broken keeper.old ≡ true
-        → HasRunShut (R.remaining reader) (W.taken writer.old).bytes (W.taken writer.new).bytes
-        result }
+    ensures same { StaysIfBroken K.keeping keeper.old keeper.new }
+    ensures reopen { K.keeping.is_broken keeper.old ≡ true → HasRunShut (R.remaining reader)
+        (W.taken writer.old).bytes (W.taken writer.new).bytes result }
 {
     let rdr = ReaderBuilder::new()
         .has_headers(false)
@@ -168,38 +152,31 @@ pub fn run_stock<K: Keeper, R: Watched + Read, W: ByteOut, E: ByteOut>(
     errors: &mut E,
     at: Moment,
 ) -> Result<bool, RunFault>
-    ensures premise { KeepsPremise K.is_clean K.is_sound keeper.old keeper.new }
-    ensures works { KeepsWorking (K.is_broken keeper.old) (K.is_broken keeper.new) result }
-    ensures breaks { K.is_broken keeper.old ≡ false
-        → IfErr result (λ e. IsShutAfter e (K.is_broken keeper.new)) }
+    ensures service { StaysInService K.keeping keeper.old keeper.new result }
+    ensures breaks { K.keeping.is_broken keeper.old ≡ false → IfErr result
+        (λ e. IsShutAfter e (K.keeping.is_broken keeper.new)) }
 
     // Every row that was read has its line, in order, and the state is the one after them all. For
     // a known reader these are all rows of its text.
-    ensures ran { (s : State) → K.keeps keeper.old s → K.is_broken keeper.old ≡ false
-        → K.is_sound keeper.new
-        → IfOk result (λ good. (rows : List Row)
-        × IfSome (R.remaining reader.old) (λ bytes. rows ≡ stock_rows bytes)
+    ensures ran { IfWorks K.keeping keeper.old keeper.new (λ s. IfOk result (λ good.
+        (rows : List Row) × IfSome (R.remaining reader.old) (λ bytes. rows ≡ stock_rows bytes)
         × HasRun s rows at good (W.taken writer.old).bytes (W.taken writer.new).bytes
-        (K.keeps keeper.new)) }
+        (K.keeping.keeps keeper.new))) }
 
     // After a fault, each row before the last has its line. The last one acted, and a prefix of its
     // line was written; or it didn't act, or the store failed in it, and nothing of its line was
     // written.
-    ensures stopped { (s : State) → K.keeps keeper.old s → K.is_broken keeper.old ≡ false
-        → K.is_sound keeper.new
-        → IfErr result (λ e. (rows : List Row)
-        × ((next : Option Row) × (IfSome (R.remaining reader.old) (AreFirst (rows_read rows next))
-        × HasStopped s rows next at e (W.taken writer.old).bytes (W.taken writer.new).bytes
-        (kept (K.keeps keeper.new) (K.may_find keeper.new))))) }
+    ensures stopped { IfWorks K.keeping keeper.old keeper.new (λ s. IfErr result (λ e.
+        (rows : List Row) × ((next : Option Row) × (IfSome (R.remaining reader.old)
+        (AreFirst (rows_read rows next)) × HasStopped s rows next at e (W.taken writer.old).bytes
+        (W.taken writer.new).bytes
+        (kept (K.keeping.keeps keeper.new) (K.keeping.may_find keeper.new)))))) }
 
     // `Read` is returned only if the reader failed, and the end of the list is reached only if it
     // didn't.
     ensures read_cause { result ≡ Err RunFault.Read → 0 < (R.given reader.new).failures }
     ensures no_failure { OnOk result ((R.given reader.new).failures ≡ 0) }
-    ensures write_cause { WriteHasCause result (W.taken writer.old) (W.taken writer.new) }
-    ensures write_told { IfErr result (λ e. IsWriteOrUntroubled e (W.taken writer.old)
-        (W.taken writer.new)) }
-    ensures untroubled { OnOk result (IsUntroubled (W.taken writer.old) (W.taken writer.new)) }
+    ensures writing { TellsWriting (W.taken writer.old) (W.taken writer.new) result }
 
     // Each malformed row has its reason on `errors`, or a prefix of it. Nothing else is written
     // there, and nothing if all were accepted.
@@ -208,10 +185,9 @@ pub fn run_stock<K: Keeper, R: Watched + Read, W: ByteOut, E: ByteOut>(
         (E.taken errors.new).bytes result }
 
     // A broken station stays as it is. The first row with an order ends the run.
-    ensures same { StaysIfBroken (K.is_broken keeper.old) keeper.old keeper.new }
-    ensures reopen { K.is_broken keeper.old ≡ true
-        → HasRunShut (R.remaining reader.old) (W.taken writer.old).bytes (W.taken writer.new).bytes
-        result }
+    ensures same { StaysIfBroken K.keeping keeper.old keeper.new }
+    ensures reopen { K.keeping.is_broken keeper.old ≡ true → HasRunShut (R.remaining reader.old)
+        (W.taken writer.old).bytes (W.taken writer.new).bytes result }
 {
     let count = LineCount::new();
     let Ok(lines) = line_by_line(alloc, &mut *reader, &count) else {

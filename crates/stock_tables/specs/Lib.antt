@@ -1,3 +1,4 @@
+pub mod Ordered
 pub mod Reads
 pub mod Rows
 pub mod Runs

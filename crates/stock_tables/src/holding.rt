@@ -1,8 +1,7 @@
 //! Who holds a number.
 ghost use Rattle.std.specs.Prelude.{◌≡◌, IfOk};
-ghost use Rattle.station_schema.specs.Store.{Seen, IsShowing, Survives};
 ghost use Rattle.row_codec.specs.Stock.{holders_in, run_in};
-ghost use Rattle.station_rows.specs.Clauses.{RestsIfSound, ShowsStill, WasOpen};
+ghost use Rattle.station_rows.specs.Clauses.{Reads};
 ghost use Rattle.station_rows.specs.Meant.{stock_meant};
 ghost use Rattle.stock_tables.specs.Reads.{holder_at};
 ghost use Rattle.stock_tables.specs.Stocked.{Stocked};
@@ -29,13 +28,8 @@ fn holder_in(row: &StockRow, awb: &Awb) -> Result<Option<Holder>, StoreFault>
 /// Who holds a number: `None` where it isn't in stock. Inside a transaction or outside. A fault:
 /// the database call failed, or an earlier one did; outside a transaction it changes nothing.
 pub fn holder<S: TableStore>(store: &mut S, awb: &Awb) -> Result<Option<Holder>, StoreFault>
-    ensures value { (x : Seen) → IsShowing (S.view store.old) x → (S.view store.new).IsSound
-        → Stocked x.now
-        → IfOk result (λ holder. holder ≡ holders_in x.now.stock awb.now) }
-    ensures same { ShowsStill (S.view store.old) (S.view store.new) result }
-    ensures open { WasOpen (S.view store.old) (S.view store.new) result }
-    ensures rests { RestsIfSound (S.view store.old) (S.view store.new) }
-    ensures survives { Survives (S.view store.old) (S.view store.new) }
+    ensures { Reads (S.view store.old) (S.view store.new) result
+        (λ tables holder. Stocked tables → holder ≡ holders_in tables.stock awb.now) }
 {
     let row = store.read(StockUpTo {
         prefix: i64::from(awb.prefix()),

@@ -1,9 +1,8 @@
 //! The stock as its runs.
-ghost use Rattle.std.specs.Prelude.{◌≡◌, map, IfOk};
+ghost use Rattle.std.specs.Prelude.{map, IfOk};
 ghost use Rattle.agent_stock.specs.Runs.{AreStockRuns};
-ghost use Rattle.station_schema.specs.Store.{Seen, IsShowing, Survives};
 ghost use Rattle.row_codec.specs.Stock.{holders_in, run_in};
-ghost use Rattle.station_rows.specs.Clauses.{RestsIfSound, ShowsStill, WasOpen};
+ghost use Rattle.station_rows.specs.Clauses.{Reads};
 ghost use Rattle.station_rows.specs.Meant.{stock_meant};
 ghost use Rattle.stock_tables.specs.Rows.{AreRuns, holders_by};
 ghost use Rattle.stock_tables.specs.Stocked.{Stocked};
@@ -33,13 +32,8 @@ fn runs_of(alloc: Global, rows: &[StockRow]) -> Result<Vec<StockRun>, StoreFault
 /// fault: the database call failed, an earlier one did, a row stands for no number or names no
 /// holder, or memory runs out; outside a transaction it changes nothing.
 pub fn runs<S: TableStore>(alloc: Global, store: &mut S) -> Result<Vec<StockRun>, StoreFault>
-    ensures value { (x : Seen) → IsShowing (S.view store.old) x → (S.view store.new).IsSound
-        → Stocked x.now
-        → IfOk result (λ runs. AreStockRuns (holders_in x.now.stock) runs.items) }
-    ensures same { ShowsStill (S.view store.old) (S.view store.new) result }
-    ensures open { WasOpen (S.view store.old) (S.view store.new) result }
-    ensures rests { RestsIfSound (S.view store.old) (S.view store.new) }
-    ensures survives { Survives (S.view store.old) (S.view store.new) }
+    ensures { Reads (S.view store.old) (S.view store.new) result
+        (λ tables runs. Stocked tables → AreStockRuns (holders_in tables.stock) runs.items) }
 {
     let rows = store.read(AllStock)?;
     runs_of(alloc, &rows)

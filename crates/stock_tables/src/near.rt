@@ -1,9 +1,8 @@
 //! The rows that a run touches.
 ghost use Rattle.std.specs.Prelude.{◌≡◌, ◌++◌, map, filter, option_map, IfSome, IfOk};
 ghost use Rattle.std.specs.FinMap.{entries};
-ghost use Rattle.station_schema.specs.Store.{Survives};
 ghost use Rattle.stock_tables.specs.Rows.{rows_near};
-ghost use Rattle.station_rows.specs.Clauses.{TellsOf, ShowsStill, WasOpen};
+ghost use Rattle.station_rows.specs.Clauses.{Reads};
 ghost use Rattle.station_rows.specs.Meant.{stock_meant};
 ghost use Rattle.stock_tables.specs.Reads.{reaches, reaching, are_enough};
 ghost use Rattle.row_codec.specs.Stock.{run_in};
@@ -89,13 +88,10 @@ fn near_at_once<S: TableStore>(
     store: &mut S,
     run: &Run,
 ) -> Result<Option<Vec<StockRun>>, StoreFault>
-    ensures rows { TellsOf (S.view store.old) (S.view store.new) result
+    ensures { Reads (S.view store.old) (S.view store.new) result
         (λ tables found. Stocked tables
         → IfSome found (λ near. near.items ≡ rows_near run.now (map run_in
         (entries tables.stock)))) }
-    ensures same { ShowsStill (S.view store.old) (S.view store.new) result }
-    ensures open { WasOpen (S.view store.old) (S.view store.new) result }
-    ensures survives { Survives (S.view store.old) (S.view store.new) }
 {
     let end = i64::from(run.first.serial()) + i64::from(run.count.number());
     let rows = store.read(LastStockUpTo {
@@ -122,12 +118,9 @@ fn near_by_two<S: TableStore>(
     store: &mut S,
     run: &Run,
 ) -> Result<Vec<StockRun>, StoreFault>
-    ensures rows { TellsOf (S.view store.old) (S.view store.new) result
+    ensures { Reads (S.view store.old) (S.view store.new) result
         (λ tables near. Stocked tables
         → near.items ≡ rows_near run.now (map run_in (entries tables.stock))) }
-    ensures same { ShowsStill (S.view store.old) (S.view store.new) result }
-    ensures open { WasOpen (S.view store.old) (S.view store.new) result }
-    ensures survives { Survives (S.view store.old) (S.view store.new) }
 {
     let prefix = i64::from(run.first.prefix());
     let first = i64::from(run.first.serial());
@@ -154,12 +147,9 @@ pub(crate) fn near_of<S: TableStore>(
     store: &mut S,
     run: &Run,
 ) -> Result<Vec<StockRun>, StoreFault>
-    ensures rows { TellsOf (S.view store.old) (S.view store.new) result
+    ensures { Reads (S.view store.old) (S.view store.new) result
         (λ tables near. Stocked tables
         → near.items ≡ rows_near run.now (map run_in (entries tables.stock))) }
-    ensures same { ShowsStill (S.view store.old) (S.view store.new) result }
-    ensures open { WasOpen (S.view store.old) (S.view store.new) result }
-    ensures survives { Survives (S.view store.old) (S.view store.new) }
 {
     match near_at_once(alloc, store, run)? {
         Some(near) => Ok(near),

@@ -1,11 +1,7 @@
 //! Orders on the stock.
-ghost use Rattle.std.specs.Prelude.{◌≡◌, true, false, Err, None, OnOk, IfErr};
+ghost use Rattle.std.specs.Prelude.{◌≡◌, true, false, Err, None};
 ghost use Rattle.agent_stock.specs.Stock.{is_run, lowest_failing, refused_by, run_refusal, order_refusal, run_of, assigned, after_order};
-ghost use Rattle.station_schema.specs.Store.{IsShowing, Survives, at_rest};
-ghost use Rattle.station_schema.specs.Tables.{Tables};
-ghost use Rattle.row_codec.specs.Stock.{holders_in};
-ghost use Rattle.agent_stock.specs.Refusing.{RefusesBy, OnRefused};
-ghost use Rattle.stock_tables.specs.Stocked.{Stocked, Restocked};
+ghost use Rattle.stock_tables.specs.Ordered.{Ordered};
 
 use crate::giving::begin_giving;
 use crate::lowest_of;
@@ -21,25 +17,9 @@ fn change_run<S: TableStore>(
     terms: &Terms,
 ) -> Result<(), StockFault<StoreFault>>
     requires { is_run terms.now.run ≡ true }
-    ensures accepted { (t : Tables) → IsShowing (S.view store.old) (at_rest t) → Stocked t
-        → (S.view store.new).IsSound
-        → OnOk result (refused_by (lowest_failing (holders_in t.stock) terms.now.run terms.now.test)
-        terms.now.refusal ≡ None) }
-    ensures done { (t : Tables) → IsShowing (S.view store.old) (at_rest t) → Stocked t
-        → OnOk result ((S.view store.new).IsSound
-        → Restocked (S.view store.new) t t
-        (assigned (holders_in t.stock) terms.now.run terms.now.to)) }
-    ensures refused { (t : Tables) → IsShowing (S.view store.old) (at_rest t) → Stocked t
-        → (S.view store.new).IsSound
-        → IfErr result (RefusesBy
-        (refused_by (lowest_failing (holders_in t.stock) terms.now.run terms.now.test)
-        terms.now.refusal)) }
-    ensures same { (t : Tables) → IsShowing (S.view store.old) (at_rest t)
-        → OnRefused result (IsShowing (S.view store.new) (at_rest t)) }
-    ensures open { OnOk result ((S.view store.new).IsSound → (S.view store.old).is_open ≡ true) }
-    ensures open_at_refusal { OnRefused result ((S.view store.new).IsSound
-        → (S.view store.old).is_open ≡ true) }
-    ensures survives { Survives (S.view store.old) (S.view store.new) }
+    ensures { Ordered (S.view store.old) (S.view store.new) result terms.now.run
+        (λ h. refused_by (lowest_failing h terms.now.run terms.now.test) terms.now.refusal)
+        (λ h. assigned h terms.now.run terms.now.to) }
 {
     let near = match near_of(alloc, store, &terms.run) {
         Ok(near) => near,
@@ -60,26 +40,11 @@ fn change<S: TableStore>(
     store: &mut S,
     terms: &Terms,
 ) -> Result<(), StockFault<StoreFault>>
-    ensures accepted { (t : Tables) → IsShowing (S.view store.old) (at_rest t) → Stocked t
-        → (S.view store.new).IsSound
-        → OnOk result (run_refusal (holders_in t.stock) terms.now.run terms.now.test
-        terms.now.refusal ≡ None) }
-    ensures done { (t : Tables) → IsShowing (S.view store.old) (at_rest t) → Stocked t
-        → OnOk result ((S.view store.new).IsSound
-        → Restocked (S.view store.new) t t
-        (assigned (holders_in t.stock) terms.now.run terms.now.to)) }
-    ensures refused { (t : Tables) → IsShowing (S.view store.old) (at_rest t) → Stocked t
-        → (S.view store.new).IsSound
-        → IfErr result (RefusesBy
-        (run_refusal (holders_in t.stock) terms.now.run terms.now.test terms.now.refusal)) }
-    ensures same { (t : Tables) → IsShowing (S.view store.old) (at_rest t)
-        → OnRefused result (IsShowing (S.view store.new) (at_rest t)) }
+    ensures ordered { Ordered (S.view store.old) (S.view store.new) result terms.now.run
+        (λ h. run_refusal h terms.now.run terms.now.test terms.now.refusal)
+        (λ h. assigned h terms.now.run terms.now.to) }
     ensures size { is_run terms.now.run ≡ false → (result ≡ Err (StockFault.Refused 105 None))
         × (store.new ≡ store.old) }
-    ensures open { OnOk result ((S.view store.new).IsSound → (S.view store.old).is_open ≡ true) }
-    ensures open_at_refusal { is_run terms.now.run ≡ true
-        → OnRefused result ((S.view store.new).IsSound → (S.view store.old).is_open ≡ true) }
-    ensures survives { Survives (S.view store.old) (S.view store.new) }
 {
     if !terms.run.is_run() {
         return Err(StockFault::Refused(105, None));
@@ -95,26 +60,12 @@ pub fn carry_out_order<S: TableStore>(
     store: &mut S,
     order: &Order,
 ) -> Result<(), StockFault<StoreFault>>
-    ensures accepted { (t : Tables) → IsShowing (S.view store.old) (at_rest t) → Stocked t
-        → (S.view store.new).IsSound
-        → OnOk result (order_refusal (holders_in t.stock) order.now ≡ None) }
-    ensures done { (t : Tables) → IsShowing (S.view store.old) (at_rest t) → Stocked t
-        → OnOk result ((S.view store.new).IsSound
-        → Restocked (S.view store.new) t t (after_order (holders_in t.stock) order.now)) }
-    ensures refused { (t : Tables) → IsShowing (S.view store.old) (at_rest t) → Stocked t
-        → (S.view store.new).IsSound
-        → IfErr result (RefusesBy (order_refusal (holders_in t.stock) order.now)) }
-    ensures same { (t : Tables) → IsShowing (S.view store.old) (at_rest t)
-        → OnRefused result (IsShowing (S.view store.new) (at_rest t)) }
+    ensures ordered { Ordered (S.view store.old) (S.view store.new) result (run_of order.now)
+        (λ h. order_refusal h order.now) (λ h. after_order h order.now) }
 
-    // A run of a size that can't be ordered is refused at once, and else a call that is answered
-    // finds the store open.
+    // A run of a size that can't be ordered is refused at once.
     ensures size { is_run (run_of order.now) ≡ false → (result ≡ Err (StockFault.Refused 105 None))
         × (store.new ≡ store.old) }
-    ensures open { OnOk result ((S.view store.new).IsSound → (S.view store.old).is_open ≡ true) }
-    ensures open_at_refusal { is_run (run_of order.now) ≡ true
-        → OnRefused result ((S.view store.new).IsSound → (S.view store.old).is_open ≡ true) }
-    ensures survives { Survives (S.view store.old) (S.view store.new) }
 {
     change(alloc, store, &order.terms())
 }

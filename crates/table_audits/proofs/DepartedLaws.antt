@@ -1,5 +1,5 @@
 -- Flights that have departed, marked move by move.
-use Rattle.std.proofs.Common.{◌≡◌, ◌≢◌, ℕ, zero, suc, ◌+◌, ℤ, pos, Bool, true, false, cond, ◌&&◌, ◌||◌, Some, unwrap_or, List, [], ◌∷◌, ◌++◌, map, length, slice_get, replicate, refl, sym, ap, ap₂, ◌∙◌, true≢false, arith, int_eq}
+use Rattle.std.proofs.Common.{◌≡◌, ◌≢◌, ℕ, zero, suc, ℤ, pos, Bool, true, false, cond, ◌&&◌, ◌||◌, Some, unwrap_or, List, [], ◌∷◌, ◌++◌, map, length, slice_get, replicate, refl, sym, ap, ap₂, ◌∙◌, true≢false, arith, int_eq}
 use Rattle.std.specs.Prelude.{slice_set}
 use Rattle.std.specs.List.{list_any}
 use Rattle.shipment_machine.specs.Book.{same_place}

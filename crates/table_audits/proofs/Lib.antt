@@ -2,6 +2,7 @@ pub mod Aboard
 pub mod Balanced
 pub mod ClosedLaws
 pub mod Compared
+pub mod Declared
 pub mod DeclaredLaws
 pub mod DepartedLaws
 pub mod Each
@@ -15,11 +16,13 @@ pub mod Laws
 pub mod Listed
 pub mod Lists
 pub mod Made
+pub mod Mapped
 pub mod NumberLaws
 pub mod Places
 pub mod Posted
 pub mod PostedLaws
-pub mod Mapped
+pub mod RowTexts
+pub mod RowValues
 pub mod RowsLaws
 pub mod Runs
 pub mod Searches
@@ -27,9 +30,12 @@ pub mod Sorted
 pub mod StockLaws
 pub mod StockRows
 pub mod Stocked
+pub mod Tables
 pub mod Taken
 pub mod TakenMoves
 pub mod Texts
 pub mod TrailLaws
+pub mod Typed
+pub mod Undated
 pub mod Walk
 pub mod WaybillLaws

@@ -8,6 +8,7 @@ use Rattle.std.specs.FinMap.{is_sorted, entries, get-entries, nat_cmp-IsAntisymm
 use Rattle.std.specs.FinMap.Entries.{below_all}
 use Rattle.std.specs.Map.{keys_of}
 use Rattle.sqlite.specs.Tree.{IsAscending}
+use Rattle.sqlite_keyed.proofs.ListLemmas.{map-map}
 use Rattle.sqlite_keyed.proofs.SortLemmas.{pair_cmp}
 use Rattle.sqlite_typed.specs.Tests.{bytes_cmp}
 use Rattle.imp_fields.specs.Flight.{flight_text}
@@ -139,15 +140,11 @@ module _ (flights : List FlightDate) (rows : List (FlightKey × Flight)) (of : A
         (made_sorted sums.builds.entries all_listed up) (λ q. h q ∙ sym (told_builds flights rows of distinct sums book are (made sums.builds.entries) zip q)) in
         ap (map (λ (r : BuildKey × Build). Some r)) one ∙ zip
 
-twice : {X Y Z : Type 0} (f : X → Y) (g : Y → Z) (xs : List X) → map g (map f xs) ≡ map (λ x. g (f x)) xs
-twice f g [] = refl
-twice f g (x ∷ xs) = ap (λ l. g (f x) ∷ l) (twice f g xs)
-
 pub builds_compared : {X : Type 0} (of_row : X → BuildKey × Build) (sums : BookSums) (t : Tables) (rows : List (FlightKey × Flight)) (flights : List FlightDate) (book : List Move) (xs : List X) (b : Bool)
     → (IsTrue b ↔ (map (λ x. Some (of_row x)) xs ≡ map (build_entry rows) sums.builds.entries)) → IsStrictlySortedBy build_place_cmp (keys_of sums.builds.entries)
     → AreFlightsOf flights rows → AreSums flights sums (running book) → entries t.builds ≡ map of_row xs → IsTrue b ↔ AreBuilds t.builds book
 builds_compared of_row sums t rows flights book xs b says up of are is =
-    let all : map (λ (r : BuildKey × Build). Some r) (entries t.builds) ≡ map (λ x. Some (of_row x)) xs = ap (map (λ (r : BuildKey × Build). Some r)) is ∙ twice of_row (λ (r : BuildKey × Build). Some r) xs in (
+    let all : map (λ (r : BuildKey × Build). Some r) (entries t.builds) ≡ map (λ x. Some (of_row x)) xs = ap (map (λ (r : BuildKey × Build). Some r)) is ∙ map-map (λ (r : BuildKey × Build). Some r) of_row xs in (
       λ h. same_builds flights rows of sums book are up t (all ∙ says.0 h),
       λ h. says.1 (sym all ∙ builds_same flights rows of sums book are up t h),
     )

@@ -1,6 +1,6 @@
 -- Rows of `build` that are compared with the sums one by one.
 use Rattle.std.proofs.Common.{◌≡◌, ◌≢◌, ◌⊎◌, inl, inr, ℕ, zero, suc, ℤ, pos, negsuc, ◌==◌, Bool, true, false, cond, ◌&&◌, List, [], ◌∷◌, map, Option, Some, None, option_map, refl, sym, ap, ◌∙◌, true≢false, int_eq, slice_get}
-use Rattle.std.proofs.lemmas.Bool.{eq-eqb}
+use Rattle.std.proofs.lemmas.Bool.{eq-eqb, and_from}
 use Rattle.std.specs.List.{AllByRecursion}
 use Rattle.std.specs.Ordering.{eq_by_cmp}
 use Rattle.std.specs.FinMap.{find}
@@ -54,13 +54,6 @@ entry f e = ((flight_text f.flight, (pos f.day, e.0.awb)), build_of e.1)
 abbrev at_key : BuildPlace × Tally → FlightKey → BuildKey × Build
 at_key e k = ((k.0, (k.1, e.0.awb)), build_of e.1)
 
-both_true : (a b : Bool) → a ≡ true → b ≡ true → (a && b) ≡ true
-both_true true b h k = k
-both_true false b h k = h
-
-same_nat : (i j : ℕ) → i ≡ j → (i == j) ≡ true
-same_nat i j h = eq-eqb i j h
-
 -- a flight stands in a list, or doesn't
 pub index_of : (flights : List FlightDate) (f : FlightDate) → ((i : ℕ) × (slice_get flights i ≡ Some f)) ⊎ ((i : ℕ) → slice_get flights i ≢ Some f)
 index_of [] f = inr (λ i h. absurd (true≢false (sym (none_is f h))))
@@ -101,10 +94,10 @@ module _ (flights : List FlightDate) (rows : List (FlightKey × Flight)) (of : A
       → (eq_by_cmp bytes_cmp (flight_text f.flight) (flight_text g.flight) && int_eq (pos f.day) (pos g.day)) ≡ (i == j)
   same_key i j f g is_f is_g = same_bool _ _
       (λ h. let one : f ≡ g = one_flight f g (listed i f is_f) (listed j g is_g) (is_text (flight_text f.flight) (flight_text g.flight) (first_true _ _ h)) (is_int (pos f.day) (pos g.day) (second_true _ _ h)) in
-      same_nat i j (distinct i j f is_f (is_g ∙ ap (λ x. Some x) (sym one))))
+      eq-eqb i j (distinct i j f is_f (is_g ∙ ap (λ x. Some x) (sym one))))
       (λ h. let one : f ≡ g = some_is f g (sym is_f ∙ ap (slice_get flights) (is_nat i j h) ∙ is_g) in
       ap (λ (x : FlightDate). eq_by_cmp bytes_cmp (flight_text f.flight) (flight_text x.flight) && int_eq (pos f.day) (pos x.day)) (sym one)
-      ∙ both_true _ _ (text_itself (flight_text f.flight)) (int_itself (pos f.day)))
+      ∙ and_from _ _ (text_itself (flight_text f.flight)) (int_itself (pos f.day)))
 
   step : (b c : Bool) → b ≡ c → (t : Tally) (x : Option Build) (y : Option Tally) → x ≡ option_map build_of y → cond b (Some (build_of t)) x ≡ option_map build_of (cond c (Some t) y)
   step true true e t x y h = refl

@@ -20,9 +20,10 @@ use Rattle.sqlite_keyed.specs.Keyed.{has_key}
 use Rattle.table_load.proofs.TableLemmas.{ascending_sorted}
 use Rattle.row_laws.proofs.Keys.{int_tied}
 use Rattle.station_schema.specs.Tables.{waybill_id}
-use Rattle.table_rows.specs.declared.waybills.WaybillRow.{WaybillRow}
-use Rattle.table_rows.specs.Meant.{waybill_meant}
+use Rattle.station_rows.specs.declared.waybills.WaybillRow.{WaybillRow}
+use Rattle.station_rows.specs.Meant.{waybill_meant}
 use Rattle.table_audits.specs.Order.{RisesByNumber}
+use Rattle.table_audits.proofs.Lists.{all_at, or_yes}
 
 -- ---- lists
 
@@ -34,14 +35,10 @@ pub rising_from_map : {X Y : Type 0} (f : X → Y) (R : Y → Y → Type 0) (xs 
 rising_from_map f R [] h = tt
 rising_from_map f R (x ∷ xs) h = (all_from_map f (R (f x)) xs h.0, rising_from_map f R xs h.1)
 
-or_true : (a : Bool) → (a || true) ≡ true
-or_true true = refl
-or_true false = refl
-
 any_at : {X : Type 0} (p : X → Bool) (xs : List X) (i : ℕ) → i < length xs → ((d : X) → p (slice_index_or xs i d) ≡ true) → list_any p xs ≡ true
 any_at p [] i low h = absurd (omega arith)
 any_at p (x ∷ xs) zero low h = ap (λ b. b || list_any p xs) (h x)
-any_at p (x ∷ xs) (suc i) low h = ap (λ b. p x || b) (any_at p xs i (omega arith) h) ∙ or_true (p x)
+any_at p (x ∷ xs) (suc i) low h = ap (λ b. p x || b) (any_at p xs i (omega arith) h) ∙ or_yes (p x)
 
 none_at : {X : Type 0} (p : X → Bool) (xs : List X) → ((i : ℕ) (d : X) → i < length xs → p (slice_index_or xs i d) ≡ false) → list_any p xs ≡ false
 none_at p [] h = refl
@@ -78,11 +75,6 @@ has_number rows id r up low h = is_found int_cmp int_cmp_total (λ (row : Waybil
 
 -- ---- the rows of a map
 
-at_index : {X : Type 0} (P : X → Type 0) (xs : List X) → AllByRecursion P xs → (i : ℕ) (d : X) → i < length xs → P (slice_index_or xs i d)
-at_index P [] all i d low = absurd (omega arith)
-at_index P (x ∷ xs) all zero d low = all.0
-at_index P (x ∷ xs) all (suc i) d low = at_index P xs all.1 i d (omega arith)
-
 not_some : {X : Type 0} (o : Option X) → is_some o ≡ false → o ≡ None
 not_some None h = refl
 not_some (Some x) h = cc
@@ -107,7 +99,7 @@ module _ {X K V : Type 0} (R : K → K → Ordering) (total : IsTotalOrder R) (s
 
     pub entry_at : (i : ℕ) (d : X) → i < length xs → ((e : X) → R (f (slice_index_or xs i e)).0 q ≡ Equal) → get m q ≡ Some (f (slice_index_or xs i d)).1
     entry_at i d low h =
-        let is : get m (f (slice_index_or xs i d)).0 ≡ Some (f (slice_index_or xs i d)).1 = at_index (λ x. get m (f x).0 ≡ Some (f x).1) xs (all_from_map f (λ e. get m e.0 ≡ Some e.1) xs (subst (AllByRecursion (λ e. get m e.0 ≡ Some e.1)) are (each_entry R total same (λ e. get m e.0 ≡ Some e.1) m (λ k v has. has)))) i d low in
+        let is : get m (f (slice_index_or xs i d)).0 ≡ Some (f (slice_index_or xs i d)).1 = all_at (λ x. get m (f x).0 ≡ Some (f x).1) xs (all_from_map f (λ e. get m e.0 ≡ Some e.1) xs (subst (AllByRecursion (λ e. get m e.0 ≡ Some e.1)) are (each_entry R total same (λ e. get m e.0 ≡ Some e.1) m (λ k v has. has)))) i d low in
         subst (λ k. get m k ≡ Some (f (slice_index_or xs i d)).1) (same _ q (h d)) is
 
     pub no_entry : (i : ℕ) → i ≤ length xs → IsBinarySearchResult (λ x. R (f x).0 q) xs (Err i) → get m q ≡ None

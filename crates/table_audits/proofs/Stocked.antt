@@ -1,6 +1,6 @@
 -- What a sum at a place says of the place.
-use Rattle.std.proofs.Common.{◌≡◌, ◌≢◌, ℕ, zero, suc, ◌+◌, ◌-◌, ◌<◌, ◌≤◌, ◌==◌, arith, ℤ, pos, negsuc, ◌-ℤ◌, ◌<ℤ◌, ◌≤ℤ◌, neg_ℤ, Bool, true, false, cond, ◌&&◌, nat_lt, List, Option, Some, None, option_map, refl, sym, ap, ap₂, ◌∙◌, true≢false, int_eq}
-use Rattle.std.specs.Prelude.{int_le, nat_le, unsigned_abs}
+use Rattle.std.proofs.Common.{◌≡◌, ◌≢◌, ℕ, zero, suc, ◌+◌, ◌-◌, ◌<◌, ◌≤◌, ◌==◌, arith, ℤ, pos, negsuc, ◌-ℤ◌, neg_ℤ, Bool, true, false, cond, ◌&&◌, nat_lt, List, Option, Some, None, option_map, refl, sym, ap, ap₂, ◌∙◌, true≢false, int_eq}
+use Rattle.std.specs.Prelude.{int_le, nat_le}
 use Rattle.std.proofs.lemmas.Bool.{and_parts, and_from}
 use Rattle.std.proofs.lemmas.Bool.Decides.{nat_tests}
 use Rattle.std.proofs.lemmas.Int.{ints}
@@ -17,7 +17,7 @@ use Rattle.running_totals.proofs.Tests.{some_is, is_int}
 use Rattle.table_audits.specs.declared.tally.Tally.{Tally}
 use Rattle.table_audits.specs.declared.sums.BookSums.{BookSums}
 use Rattle.table_audits.specs.Sums.{meant, count_of, build_of}
-use Rattle.table_audits.specs.Balances.{is_covered, is_left, overdrawn, drawn_by, drawn_at, is_within}
+use Rattle.table_audits.specs.Balances.{is_covered, is_left, drawn_by, drawn_at, is_within}
 
 -- ---- rows and what they mean
 
@@ -55,16 +55,6 @@ pub over_is : (z : ℤ) (a b : ℕ) → z ≡ pos a -ℤ pos b → natural (neg_
 over_is (pos zero) a b h = let x : 0 ≡ b - a = omega (arith, ints, h) in x
 over_is (pos (suc n)) a b h = let x : 0 ≡ b - a = omega (arith, ints, h) in x
 over_is (negsuc n) a b h = let x : suc n ≡ b - a = omega (arith, ints, h) in x
-
--- how much more went than came
-pub more_went : (z : ℤ) → z <ℤ pos 0 → unsigned_abs z ≡ overdrawn z
-more_went (pos n) h = absurd (let no : ⊥ = omega (arith, ints, h) in no)
-more_went (negsuc n) h = refl
-
-pub more_came : (z : ℤ) → pos 0 ≤ℤ z → 0 ≡ overdrawn z
-more_came (pos zero) h = refl
-more_came (pos (suc n)) h = refl
-more_came (negsuc n) h = absurd (let no : ⊥ = omega (arith, ints, h) in no)
 
 -- ---- a place
 

@@ -8,9 +8,9 @@ use Rattle.std.proofs.lemmas.List.{length-map, map-append}
 use Rattle.std.proofs.lemmas.List.Folds.{list_all-append, list_all-map}
 use Rattle.sqlite.specs.declared.error.Error.{Error}
 use Rattle.sqlite_keyed.proofs.ListLemmas.{map-map, list_all_push}
-use Rattle.table_rows.specs.Meant.{trail_meant, message_meant}
-use Rattle.table_rows.specs.declared.outbox.MessageRow.{MessageRow}
-use Rattle.table_rows.specs.declared.trail.TrailRow.{TrailRow}
+use Rattle.station_rows.specs.Meant.{trail_meant, message_meant}
+use Rattle.station_rows.specs.declared.outbox.MessageRow.{MessageRow}
+use Rattle.station_rows.specs.declared.trail.TrailRow.{TrailRow}
 use Rattle.station_schema.specs.Tables.{Tables, Message, Waybill, message_id, trail_id}
 use Rattle.row_codec.specs.Logs.{is_message_row}
 use Rattle.row_codec.specs.Meaning.{confirmed_in}
@@ -45,17 +45,11 @@ one_sound rows n b are is number = record {
   each = list_all_push passed rows (n, b) are.each is;
 }
 
-pub none_sound : AreSound []
-none_sound = record { numbers = refl; each = refl }
-
 pub sound_before : (rows : List Tested) (row : Tested) → AreSound (rows ++ row ∷ []) → AreSound rows
 sound_before rows row are = record {
   numbers = (numbered_pop number_of rows row are.numbers).0;
   each = (list_all_pop passed rows row are.each).0;
 }
-
-pub last_passed : (rows : List Tested) (n : ℤ) (b : Bool) → AreSound (rows ++ (n, b) ∷ []) → b ≡ true
-last_passed rows n b are = (list_all_pop passed rows (n, b) are.each).1
 
 pub last_number : (rows : List Tested) (n : ℤ) (b : Bool) → AreSound (rows ++ (n, b) ∷ []) → n ≡ pos (length rows + 1)
 last_number rows n b are = (numbered_pop number_of rows (n, b) are.numbers).1

@@ -4,9 +4,9 @@ use Rattle.std.specs.Prelude.{OnOk}
 use Rattle.std.specs.List.{AllByRecursion}
 use Rattle.std.proofs.lemmas.List.{map-append}
 use Rattle.sqlite.specs.declared.error.Error.{Error}
-use Rattle.table_rows.specs.Meant.{move_meant, waybill_meant}
-use Rattle.table_rows.specs.declared.moves.MoveRow.{MoveRow}
-use Rattle.table_rows.specs.declared.waybills.WaybillRow.{WaybillRow}
+use Rattle.station_rows.specs.Meant.{move_meant, waybill_meant}
+use Rattle.station_rows.specs.declared.moves.MoveRow.{MoveRow}
+use Rattle.station_rows.specs.declared.waybills.WaybillRow.{WaybillRow}
 use Rattle.shipment_machine.specs.Lawful.{IsLawfulMove, StaysDeparted}
 use Rattle.shipment_machine.specs.declared.moves.Move as cargo
 use Rattle.station_schema.specs.Tables.{Tables, Move, move_id}

@@ -8,8 +8,8 @@ use Rattle.std.proofs.lemmas.Bool.{and_from}
 use Rattle.std.proofs.lemmas.Str.{is_utf8-from_IsUtf8, IsUtf8-string_bytes}
 use Rattle.imp_fields.specs.Airport.{is_airport}
 use Rattle.station_core.specs.Key.{is_key}
-use Rattle.table_rows.specs.Meant.{message_meant}
-use Rattle.table_rows.specs.declared.outbox.MessageRow.{MessageRow}
+use Rattle.station_rows.specs.Meant.{message_meant}
+use Rattle.station_rows.specs.declared.outbox.MessageRow.{MessageRow}
 use Rattle.table_load.specs.Held.{part_entry, kept_key_entry, kept_text_entry}
 use Rattle.table_load.specs.declared.part.PartEntry.{PartEntry}
 use Rattle.table_load.specs.declared.kept_key.KeptKeyEntry.{KeptKeyEntry}

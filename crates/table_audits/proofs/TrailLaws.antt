@@ -5,8 +5,8 @@ use Rattle.std.specs.List.{list_all}
 use Rattle.std.proofs.lemmas.Bool.{and_parts, and_from}
 use Rattle.sqlite_keyed.proofs.ListLemmas.{all_map, all_unmap, all_weaker, all_both, all_from_test, test_from_all}
 use Rattle.imp_fields.specs.Characters.{is_line}
-use Rattle.table_rows.specs.Meant.{trail_meant}
-use Rattle.table_rows.specs.declared.trail.TrailRow.{TrailRow}
+use Rattle.station_rows.specs.Meant.{trail_meant}
+use Rattle.station_rows.specs.declared.trail.TrailRow.{TrailRow}
 use Rattle.station_schema.specs.Tables.{Tables, TrailLine, Waybill, trail_id}
 use Rattle.row_codec.specs.Numbers.{natural, is_number, AreNumbered}
 use Rattle.row_codec.specs.Logs.{line_by, is_trail_row}

@@ -1,6 +1,8 @@
 pub mod Audited
 pub mod Balances
 pub mod Departed
+pub mod Good
+pub mod Judged
 pub mod Lawful
 pub mod Names
 pub mod Order
@@ -8,3 +10,4 @@ pub mod Posted
 pub mod Rows
 pub mod Sums
 pub mod Taken
+pub mod Verdict

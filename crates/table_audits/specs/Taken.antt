@@ -3,10 +3,10 @@ use Rattle.std.specs.Prelude.{◌≡◌, ◌↔◌, ◌++◌, ◌∷◌, [], ℕ
 use Rattle.std.specs.List.{AllByRecursion, list_all}
 use Rattle.shipment_machine.specs.declared.flight.FlightDate.{FlightDate}
 use Rattle.shipment_machine.specs.Lawful.{StaysDeparted}
-use Rattle.table_rows.specs.Meant.{move_meant, waybill_meant, trail_meant, message_meant}
-use Rattle.table_rows.specs.declared.moves.MoveRow.{MoveRow}
-use Rattle.table_rows.specs.declared.outbox.MessageRow.{MessageRow}
-use Rattle.table_rows.specs.declared.trail.TrailRow.{TrailRow}
+use Rattle.station_rows.specs.Meant.{move_meant, waybill_meant, trail_meant, message_meant}
+use Rattle.station_rows.specs.declared.moves.MoveRow.{MoveRow}
+use Rattle.station_rows.specs.declared.outbox.MessageRow.{MessageRow}
+use Rattle.station_rows.specs.declared.trail.TrailRow.{TrailRow}
 use Rattle.station_schema.specs.Tables.{Tables, Kept, Move, Waybill, move_id, trail_id, message_id}
 use Rattle.row_codec.specs.Counts.{running}
 use Rattle.row_codec.specs.Moves.{move_by}

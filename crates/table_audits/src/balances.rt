@@ -1,4 +1,4 @@
-ghost use Rattle.std.specs.Prelude.{◌≡◌, ◌≤◌, ◌+◌, ◌&&◌, ◌↔◌, ℕ, pos, nat_le, IsTrue, List, length, map, slice_get};
+ghost use Rattle.std.specs.Prelude.{◌≡◌, ◌≤◌, ◌+◌, ◌&&◌, ◌↔◌, ℕ, nat_le, IsTrue, List, length, map, slice_get};
 ghost use Rattle.std.specs.BTreeMap.{IsOrdered, get};
 ghost use Rattle.std.specs.FinMap.{entries};
 ghost use Rattle.std.specs.List.{list_all};
@@ -178,7 +178,7 @@ fn is_room_kept(sums: &BookSums) -> bool
 /// Returns whether the balances of a station are lawful: no place of the station gave more than it
 /// got, at most 9,999 pieces and 999,999 tenths came of a waybill, closed flights are empty, and
 /// each flight has at most 500 waybills. `flights` is the whole table `flight`.
-pub fn are_balances_lawful(sums: &BookSums, flights: &[FlightEntry]) -> bool
+pub(crate) fn are_balances_lawful(sums: &BookSums, flights: &[FlightEntry]) -> bool
     ensures exact { (t : Tables) (listed : List FlightDate)
         → IsTrue (list_all is_flight_row (entries t.flights))
         → entries t.flights ≡ map flight_entry flights.now → AreFlightsOf listed (entries t.flights)

@@ -1,7 +1,7 @@
 ghost use Rattle.std.specs.Prelude.{◌≡◌, ◌↔◌, ◌++◌, ◌∷◌, [], length, map, List, IfOk, IfSome, IsSome, IsTrue, OnOk};
 ghost use Rattle.std.specs.List.{list_all};
 ghost use Rattle.std.specs.FinMap.{entries};
-ghost use Rattle.table_rows.specs.Meant.{move_meant};
+ghost use Rattle.station_rows.specs.Meant.{move_meant};
 ghost use Rattle.station_schema.specs.Tables.{Tables, Move as Row};
 ghost use Rattle.row_codec.specs.Counts.{running};
 ghost use Rattle.row_codec.specs.Flights.{is_flight_row};
@@ -11,37 +11,42 @@ ghost use Rattle.table_audits.specs.Lawful.{AreMoves};
 ghost use Rattle.table_audits.specs.Posted.{listed_in};
 ghost use Rattle.table_audits.specs.Sums.{AreSums, IsPosting};
 ghost use Rattle.table_audits.specs.Taken.{AreGoodMoves, IsBookOf, IsBookAs, IsNextOr, AreRead, AreMovesTaken};
+ghost use Rattle.sqlite.specs.State.{Survives};
+ghost use Rattle.sqlite.specs.Held.{state};
+ghost use Rattle.table_audits.specs.Judged.{Audits};
+ghost use Rattle.table_audits.specs.declared.name.TableName.TheVariants as table;
 
 use crate::balances::are_balances_lawful;
 use crate::departures::{are_departures_lawful, is_marked, mark, no_marks};
+use crate::known::Known;
 use crate::numbers::{is_next, one_more};
 use crate::postings::posting_of;
 use crate::sums::{BookSums, Posting};
-use sqlite::{Error, ErrorCode};
+use sqlite::{Alter, Connection, Error, ErrorCode};
 use station_rows::{MoveRow, WaybillRow};
 use std::alloc::{AllocError, Global};
-use table_load::{FlightEntry, RowFold};
+use table_load::{FlightEntry, RowFold, fold_moves};
 
 /// The tables for auditing the moves: all waybills in the order of their numbers, and all flights
 /// in the order of their keys.
 #[derive(Drop)]
-pub struct BookBeside {
-    pub waybills: Vec<WaybillRow>,
-    pub flights: Vec<FlightEntry>,
+pub(crate) struct BookBeside {
+    pub(crate) waybills: Vec<WaybillRow>,
+    pub(crate) flights: Vec<FlightEntry>,
 }
 
 /// An audited movement book.
 #[derive(Drop)]
-pub struct Book {
+pub(crate) struct Book {
     /// The sums of its moves.
-    pub sums: BookSums,
+    pub(crate) sums: BookSums,
     /// The number of its moves.
-    pub moves: u32,
+    pub(crate) moves: u32,
 }
 
 /// The audit of moves that are added one after another.
 #[derive(Drop)]
-pub struct BookAudit {
+pub(crate) struct BookAudit {
     /// True if they are numbered from 1, each is lawful by itself, and none builds on a flight that
     /// has departed. The other fields describe the moves only if it is true.
     pub(crate) are_good: bool,
@@ -53,7 +58,7 @@ pub struct BookAudit {
 
 impl BookAudit {
     /// Starts without moves, for a number of flights.
-    pub fn new(alloc: Global, flights: usize) -> Result<BookAudit, AllocError>
+    pub(crate) fn new(alloc: Global, flights: usize) -> Result<BookAudit, AllocError>
         ensures { (beside : BookBeside) → length beside.flights.items ≡ flights
             → IfOk result (λ audit. AreMovesTaken beside audit []) }
     {
@@ -100,7 +105,7 @@ impl BookAudit {
 
     /// Returns the audited book, or `None` if the moves aren't lawful with these flights, which are
     /// in range.
-    pub fn judged(self, flights: &[FlightEntry]) -> Option<Book>
+    pub(crate) fn judged(self, flights: &[FlightEntry]) -> Option<Book>
         ensures exact { (t : Tables) → IsBookAs t t.moves self self.are_good
             → IsTrue (list_all is_flight_row (entries t.flights))
             → entries t.flights ≡ map flight_entry flights.now → (IsSome result ↔ AreMoves t) }
@@ -145,4 +150,25 @@ impl RowFold<MoveRow> for BookAudit {
             }
         }
     }
+}
+
+/// Reads `moves`, row by row, and sums them. Returns whether it exists and is lawful.
+pub(crate) fn is_good<S: Alter>(
+    alloc: Global,
+    conn: &mut Connection<S>,
+    known: &mut Known,
+) -> Result<bool, Error>
+    ensures read { Audits S.Store conn.old conn.new result table.Moves known.old known.new }
+    ensures survives { Survives (state S.Store conn.old) (state S.Store conn.new) (λ _. ⊥) }
+{
+    let none = BookAudit::new(alloc, known.beside.flights.len())?;
+    let beside = &known.beside;
+    let Some(audit) = fold_moves::<S, BookAudit>(alloc, conn, beside, none)? else {
+        return Ok(false);
+    };
+    let Some(book) = audit.judged(&known.beside.flights) else {
+        return Ok(false);
+    };
+    known.book = book;
+    Ok(true)
 }

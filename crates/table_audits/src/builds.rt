@@ -1,18 +1,20 @@
-ghost use Rattle.std.specs.Prelude.{◌≡◌, ◌↔◌, IsTrue, List, Some, map};
-ghost use Rattle.std.specs.FinMap.{entries};
+ghost use Rattle.std.specs.Prelude.{◌≡◌, ◌↔◌, IsTrue, Some, map};
 ghost use Rattle.std.specs.BTreeMap.{IsOrdered};
-ghost use Rattle.shipment_machine.specs.declared.flight.FlightDate.{FlightDate};
-ghost use Rattle.shipment_machine.specs.declared.moves.Move.{Move};
-ghost use Rattle.table_rows.specs.Meant.{build_meant};
+ghost use Rattle.station_rows.specs.Meant.{build_meant};
 ghost use Rattle.table_load.specs.Held.{flight_entry};
-ghost use Rattle.station_schema.specs.Tables.{Tables};
-ghost use Rattle.row_codec.specs.Counts.{running, AreBuilds};
-ghost use Rattle.table_audits.specs.Sums.{AreSums, AreFlightsOf, build_at, build_entry, build_place_cmp};
+ghost use Rattle.table_audits.specs.Sums.{build_at, build_entry, build_place_cmp};
+ghost use Rattle.sqlite.specs.State.{Survives};
+ghost use Rattle.sqlite.specs.Held.{state};
+ghost use Rattle.table_audits.specs.Judged.{Audits};
+ghost use Rattle.table_audits.specs.declared.name.TableName.TheVariants as table;
 
+use crate::known::Known;
 use crate::sums::{BookSums, BuildPlace};
 use crate::tally::Tally;
+use sqlite::{Alter, Connection, Error};
 use station_rows::BuildRow;
-use table_load::FlightEntry;
+use std::alloc::Global;
+use table_load::{FlightEntry, found_builds};
 
 /// Returns whether a row has this tally of a waybill on a flight.
 fn says(row: &BuildRow, on: &FlightEntry, awb: i64, tally: &Tally) -> bool
@@ -55,14 +57,17 @@ fn are_same(sums: &BookSums, flights: &[FlightEntry], rows: &[BuildRow]) -> bool
     ahead.next().is_none()
 }
 
-/// Returns whether the rows of `build` match the sums of a book: a waybill has a row for each
-/// flight on which it has pieces or tenths, and there are no other rows. `flights` is the whole
-/// table `flight`.
-pub fn are_builds(sums: &BookSums, flights: &[FlightEntry], rows: &[BuildRow]) -> bool
-    ensures exact { (t : Tables) (listed : List FlightDate) (book : List Move)
-        → AreFlightsOf listed (map flight_entry flights.now)
-        → AreSums listed sums.now (running book) → entries t.builds ≡ map build_meant rows.now
-        → (IsTrue result ↔ AreBuilds t.builds book) }
+/// Reads `build`. Returns whether it exists and is lawful.
+pub(crate) fn is_good<S: Alter>(
+    alloc: Global,
+    conn: &mut Connection<S>,
+    known: &Known,
+) -> Result<bool, Error>
+    ensures read { Audits S.Store conn.old conn.new result table.Build known.now known.now }
+    ensures survives { Survives (state S.Store conn.old) (state S.Store conn.new) (λ _. ⊥) }
 {
-    are_same(sums, flights, rows)
+    let Some(rows) = found_builds(alloc, conn)? else {
+        return Ok(false);
+    };
+    Ok(are_same(&known.book.sums, &known.beside.flights, &rows))
 }

@@ -1,16 +1,19 @@
-ghost use Rattle.std.specs.Prelude.{◌≡◌, ◌↔◌, IsTrue, List, map};
-ghost use Rattle.std.specs.FinMap.{entries};
+ghost use Rattle.std.specs.Prelude.{◌≡◌, ◌↔◌, IsTrue, map};
 ghost use Rattle.std.specs.BTreeMap.{IsOrdered};
-ghost use Rattle.shipment_machine.specs.declared.flight.FlightDate.{FlightDate};
-ghost use Rattle.shipment_machine.specs.declared.moves.Move.{Move};
-ghost use Rattle.table_rows.specs.Meant.{count_meant};
-ghost use Rattle.station_schema.specs.Tables.{Tables};
-ghost use Rattle.row_codec.specs.Counts.{running, AreCounts};
-ghost use Rattle.table_audits.specs.Sums.{AreSums, count_entry, count_place_cmp};
+ghost use Rattle.station_rows.specs.Meant.{count_meant};
+ghost use Rattle.table_audits.specs.Sums.{count_entry, count_place_cmp};
+ghost use Rattle.sqlite.specs.State.{Survives};
+ghost use Rattle.sqlite.specs.Held.{state};
+ghost use Rattle.table_audits.specs.Judged.{Audits};
+ghost use Rattle.table_audits.specs.declared.name.TableName.TheVariants as table;
 
+use crate::known::Known;
 use crate::sums::{BookSums, CountPlace};
 use crate::tally::Tally;
+use sqlite::{Alter, Connection, Error};
 use station_rows::CountRow;
+use std::alloc::Global;
+use table_load::found_counts;
 
 /// Returns whether a row has this tally of a place.
 fn is_row(row: &CountRow, place: &CountPlace, tally: &Tally) -> bool
@@ -40,12 +43,17 @@ fn are_same(sums: &BookSums, rows: &[CountRow]) -> bool
     ahead.next().is_none()
 }
 
-/// Returns whether the rows of `counts` match the sums of a book: a waybill has a row for each
-/// place at which it has pieces or tenths, and there are no other rows.
-pub fn are_counts(sums: &BookSums, rows: &[CountRow]) -> bool
-    ensures exact { (t : Tables) (flights : List FlightDate) (book : List Move)
-        → AreSums flights sums.now (running book) → entries t.counts ≡ map count_meant rows.now
-        → (IsTrue result ↔ AreCounts t.counts book) }
+/// Reads `counts`. Returns whether it exists and is lawful.
+pub(crate) fn is_good<S: Alter>(
+    alloc: Global,
+    conn: &mut Connection<S>,
+    known: &Known,
+) -> Result<bool, Error>
+    ensures read { Audits S.Store conn.old conn.new result table.Counts known.now known.now }
+    ensures survives { Survives (state S.Store conn.old) (state S.Store conn.new) (λ _. ⊥) }
 {
-    are_same(sums, rows)
+    let Some(rows) = found_counts(alloc, conn)? else {
+        return Ok(false);
+    };
+    Ok(are_same(&known.book.sums, &rows))
 }

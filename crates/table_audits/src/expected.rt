@@ -1,21 +1,23 @@
-ghost use Rattle.std.specs.Prelude.{◌≡◌, ◌↔◌, map, nat_le, is_some, IsTrue, IfSome, Some};
-ghost use Rattle.std.specs.FinMap.{entries};
-ghost use Rattle.std.specs.List.{list_all};
-ghost use Rattle.table_rows.specs.Meant.{waybill_meant};
+ghost use Rattle.std.specs.Prelude.{◌≡◌, map, nat_le, is_some, IfSome, Some};
+ghost use Rattle.station_rows.specs.Meant.{waybill_meant};
 ghost use Rattle.table_load.specs.Held.{expected_entry};
 ghost use Rattle.table_audits.specs.Order.{RisesByNumber};
-ghost use Rattle.station_schema.specs.Tables.{Tables};
-ghost use Rattle.table_audits.specs.Lawful.{IsLawfulTable};
 ghost use Rattle.table_audits.specs.declared.name.TableName.TheVariants as table;
 ghost use Rattle.row_codec.specs.Manifests.{is_expected_row, expectation_by};
 ghost use Rattle.table_audits.specs.Rows.{is_lawful_expected};
+ghost use Rattle.sqlite.specs.State.{Survives};
+ghost use Rattle.sqlite.specs.Held.{state};
+ghost use Rattle.table_audits.specs.Judged.{Audits};
 
+use crate::known::Known;
 use crate::lookups::is_declared;
 use row_codec::{awb_key, expectation_of};
 use shipment_machine::Expected;
+use sqlite::{Alter, Connection, Error};
 use station_core::Expectation;
 use station_rows::{ExpectedRow, WaybillRow};
-use table_load::ExpectedEntry;
+use std::alloc::Global;
+use table_load::{ExpectedEntry, found_expected};
 
 /// Returns the expectation of a row that is in range.
 fn listed(row: &ExpectedEntry) -> Option<Expectation>
@@ -52,21 +54,18 @@ fn is_lawful(row: &ExpectedEntry, waybills: &[WaybillRow]) -> bool
     is_declared(waybills, awb_key(&one.awb))
 }
 
-fn are_lawful(rows: &[ExpectedEntry], waybills: &[WaybillRow]) -> bool
-    ensures { RisesByNumber (map waybill_meant waybills.now)
-        → result ≡ list_all (is_lawful_expected (map waybill_meant waybills.now))
-        (map expected_entry rows.now) }
+/// Reads `expected`. Returns whether it exists and is lawful.
+pub(crate) fn is_good<S: Alter>(
+    alloc: Global,
+    conn: &mut Connection<S>,
+    known: &Known,
+) -> Result<bool, Error>
+    ensures read { Audits S.Store conn.old conn.new result table.Expected known.now known.now }
+    ensures survives { Survives (state S.Store conn.old) (state S.Store conn.new) (λ _. ⊥) }
 {
-    rows.iter().all(|row| is_lawful(row, waybills))
-}
-
-/// Returns whether the rows of `expected`, in the order of their keys, are lawful with the rows of
-/// `waybill`, in the order of their numbers.
-pub fn are_expected_lawful(rows: &[ExpectedEntry], waybills: &[WaybillRow]) -> bool
-    ensures exact { (t : Tables) → RisesByNumber (map waybill_meant waybills.now)
-        → t.waybills ≡ map waybill_meant waybills.now
-        → entries t.expected ≡ map expected_entry rows.now
-        → (IsTrue result ↔ IsLawfulTable table.Expected t) }
-{
-    are_lawful(rows, waybills)
+    let Some(rows) = found_expected(alloc, conn)? else {
+        return Ok(false);
+    };
+    let waybills = &known.beside.waybills;
+    Ok(rows.iter().all(|row| is_lawful(row, waybills)))
 }

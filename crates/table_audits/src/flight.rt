@@ -1,19 +1,20 @@
-ghost use Rattle.std.specs.Prelude.{◌≡◌, ◌↔◌, map, not, is_some, IsTrue, IfSome, Some};
-ghost use Rattle.std.specs.FinMap.{entries};
-ghost use Rattle.std.specs.List.{list_all};
+ghost use Rattle.std.specs.Prelude.{◌≡◌, not, is_some, IfSome, Some};
 ghost use Rattle.std.specs.Str.{bytes_eq};
 ghost use Rattle.table_load.specs.Held.{flight_entry};
-ghost use Rattle.station_schema.specs.Tables.{Tables};
-ghost use Rattle.table_audits.specs.Lawful.{IsLawfulTable};
 ghost use Rattle.table_audits.specs.declared.name.TableName.TheVariants as table;
 ghost use Rattle.row_codec.specs.Flights.{is_flight_row, noted_by};
-ghost use Rattle.row_codec.specs.Meaning.{airport_in};
 ghost use Rattle.table_audits.specs.Rows.{is_lawful_flight};
+ghost use Rattle.sqlite.specs.State.{Survives};
+ghost use Rattle.sqlite.specs.Held.{state};
+ghost use Rattle.table_audits.specs.Judged.{Audits};
 
+use crate::known::Known;
 use imp_fields::Airport;
 use row_codec::noted_of;
+use sqlite::{Alter, Connection, Error};
 use station_core::NotedFlight;
-use table_load::FlightEntry;
+use std::alloc::Global;
+use table_load::{FlightEntry, found_flights};
 
 /// Returns the flight of a row that is in range.
 fn noted(row: &FlightEntry) -> Option<NotedFlight>
@@ -24,15 +25,16 @@ fn noted(row: &FlightEntry) -> Option<NotedFlight>
 }
 
 /// Returns whether an airport of unloading isn't this station's.
-fn is_elsewhere(unload: &Airport, here: &str) -> bool
+fn is_elsewhere(unload: &Airport, here: &Airport) -> bool
     ensures { result ≡ not (bytes_eq unload.now here.now) }
 {
     let letters = unload.letters();
-    &letters[..] != here.as_bytes()
+    let ours = here.letters();
+    letters[..] != ours[..]
 }
 
 /// Returns whether the row is in range, and the flight unloaded elsewhere.
-fn is_lawful(row: &FlightEntry, here: &str) -> bool
+fn is_lawful(row: &FlightEntry, here: &Airport) -> bool
     ensures { result ≡ is_lawful_flight here.now (flight_entry row.now) }
 {
     let Some(one) = noted(row) else {
@@ -41,18 +43,19 @@ fn is_lawful(row: &FlightEntry, here: &str) -> bool
     is_elsewhere(&one.outbound.unload, here)
 }
 
-fn are_lawful(rows: &[FlightEntry], here: &str) -> bool
-    ensures { result ≡ list_all (is_lawful_flight here.now) (map flight_entry rows.now) }
+/// Reads `flight`. Returns whether it exists and is lawful.
+pub(crate) fn is_good<S: Alter>(
+    alloc: Global,
+    conn: &mut Connection<S>,
+    known: &mut Known,
+) -> Result<bool, Error>
+    ensures read { Audits S.Store conn.old conn.new result table.Flight known.old known.new }
+    ensures survives { Survives (state S.Store conn.old) (state S.Store conn.new) (λ _. ⊥) }
 {
-    rows.iter().all(|row| is_lawful(row, here))
-}
-
-/// Returns whether the rows of `flight`, in the order of their keys, are lawful for a station at
-/// this airport.
-pub fn are_flights_lawful(rows: &[FlightEntry], here: &str) -> bool
-    ensures exact { (t : Tables) → airport_in t.stations ≡ here.now
-        → entries t.flights ≡ map flight_entry rows.now
-        → (IsTrue result ↔ IsLawfulTable table.Flight t) }
-{
-    are_lawful(rows, here)
+    let Some(rows) = found_flights(alloc, conn)? else {
+        return Ok(false);
+    };
+    let is_lawful = rows.iter().all(|row| is_lawful(row, &known.here));
+    known.beside.flights = rows;
+    Ok(is_lawful)
 }

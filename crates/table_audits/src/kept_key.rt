@@ -1,33 +1,27 @@
-ghost use Rattle.std.specs.Prelude.{◌≡◌, ◌↔◌, ◌&&◌, [], map, List, IsTrue, string_bytes};
-ghost use Rattle.std.specs.FinMap.{entries};
-ghost use Rattle.station_schema.specs.Tables.{Tables};
+ghost use Rattle.std.specs.Prelude.{◌≡◌, ◌↔◌, ◌&&◌, [], IsTrue};
 ghost use Rattle.table_load.specs.Held.{kept_key_entry};
-ghost use Rattle.table_audits.specs.Lawful.{IsLawfulTable};
 ghost use Rattle.table_audits.specs.declared.name.TableName.TheVariants as table;
 ghost use Rattle.station_core.specs.Told.{IsRequest};
-ghost use Rattle.station_core.specs.Key.{is_key};
-ghost use Rattle.row_codec.specs.Numbers.{is_count};
 ghost use Rattle.row_codec.specs.Replies.{is_kept_row};
 ghost use Rattle.table_audits.specs.Taken.{IsLawfulKept, AreKeysTaken};
+ghost use Rattle.sqlite.specs.State.{Survives};
+ghost use Rattle.sqlite.specs.Held.{state};
+ghost use Rattle.table_audits.specs.Judged.{Audits};
 
+use crate::known::Known;
 use desk_commands::read_command_text;
 use row_codec::count_of;
-use sqlite::Error;
+use sqlite::{Alter, Connection, Error};
 use station_core::Key;
-use table_load::{KeptKeyEntry, RowFold};
-
-/// Returns whether the row's key and count are in range.
-fn is_counted(row: &KeptKeyEntry) -> bool
-    ensures { result ≡ is_key (string_bytes row.now.id) && is_count row.now.count }
-{
-    Key::read(row.id.as_bytes()).is_some() && count_of(row.count).is_some()
-}
+use std::alloc::Global;
+use table_load::{KeptKeyEntry, RowFold, fold_kept_keys};
 
 /// Returns whether the row is in range. Its command is a text by its type.
+#[tactic(auto, using(crate::proofs::Texts::kept_key_is))]
 fn is_in_range(row: &KeptKeyEntry) -> bool
     ensures { result ≡ is_kept_row (kept_key_entry row.now) }
 {
-    is_counted(row)
+    Key::read(row.id.as_bytes()).is_some() && count_of(row.count).is_some()
 }
 
 fn is_request(text: &str) -> bool
@@ -46,14 +40,14 @@ fn is_lawful(row: &KeptKeyEntry) -> bool
 
 /// The audit of `kept_key`, whose rows are added one after another.
 #[derive(Drop)]
-pub struct KeptKeys {
+pub(crate) struct KeptKeys {
     /// True if each of them is lawful.
     pub(crate) are_lawful: bool,
 }
 
 impl KeptKeys {
     /// Starts without rows.
-    pub fn new() -> KeptKeys
+    pub(crate) fn new() -> KeptKeys
         ensures { AreKeysTaken result [] }
     {
         KeptKeys { are_lawful: true }
@@ -77,11 +71,18 @@ impl RowFold<KeptKeyEntry> for KeptKeys {
     }
 }
 
-/// Returns whether the added rows of `kept_key` are lawful.
-pub fn are_kept_keys_lawful(keys: &KeptKeys) -> bool
-    ensures exact { (t : Tables) (rows : List KeptKeyEntry) → AreKeysTaken keys.now rows
-        → entries t.kept ≡ map kept_key_entry rows
-        → (IsTrue result ↔ IsLawfulTable table.KeptKey t) }
+/// Reads `kept_key`, row by row. Returns whether it exists and is lawful.
+pub(crate) fn is_good<S: Alter>(
+    alloc: Global,
+    conn: &mut Connection<S>,
+    known: &Known,
+) -> Result<bool, Error>
+    ensures read { Audits S.Store conn.old conn.new result table.KeptKey known.now known.now }
+    ensures survives { Survives (state S.Store conn.old) (state S.Store conn.new) (λ _. ⊥) }
 {
-    keys.are_lawful
+    let none = KeptKeys::new();
+    let Some(keys) = fold_kept_keys::<S, KeptKeys>(alloc, conn, &(), none)? else {
+        return Ok(false);
+    };
+    Ok(keys.are_lawful)
 }

@@ -1,16 +1,22 @@
 ghost use Rattle.std.specs.Prelude.{◌≡◌, ◌↔◌, map, IsTrue, ℤ};
 ghost use Rattle.std.specs.List.{list_all};
-ghost use Rattle.std.specs.FinMap.{FinMap, entries, contains_key};
+ghost use Rattle.std.specs.FinMap.{FinMap, entries};
 ghost use Rattle.station_schema.specs.Tables.{Tables, kept_text_cmp};
 ghost use Rattle.table_load.specs.Held.{kept_text_entry, part_entry};
 ghost use Rattle.table_audits.specs.Lawful.{IsLawfulTable};
 ghost use Rattle.table_audits.specs.declared.name.TableName.TheVariants as table;
 ghost use Rattle.row_codec.specs.Replies.{is_kept_text_row};
 ghost use Rattle.table_audits.specs.Rows.{has_text};
+ghost use Rattle.sqlite.specs.State.{Survives};
+ghost use Rattle.sqlite.specs.Held.{state};
+ghost use Rattle.table_audits.specs.Judged.{Audits};
 
+use crate::known::Known;
 use crate::lookups::is_kept;
 use row_codec::count_of;
-use table_load::{KeptTextEntry, PartEntry};
+use sqlite::{Alter, Connection, Error};
+use std::alloc::Global;
+use table_load::{KeptTextEntry, PartEntry, found_kept_texts};
 
 fn are_in_range(rows: &[KeptTextEntry]) -> bool
     ensures { result ≡ list_all is_kept_text_row (map kept_text_entry rows.now) }
@@ -28,7 +34,7 @@ fn are_kept(parts: &[PartEntry], texts: &[KeptTextEntry]) -> bool
 
 /// Returns whether the rows of `kept_text` are lawful with the rows of `part`, which are lawful.
 /// Both are in the order of their keys.
-pub fn are_kept_texts_lawful(rows: &[KeptTextEntry], parts: &[PartEntry]) -> bool
+fn are_kept_texts_lawful(rows: &[KeptTextEntry], parts: &[PartEntry]) -> bool
     ensures exact { (t : Tables) → IsLawfulTable table.Part t
         → entries t.parts ≡ map part_entry parts.now
         → entries t.kept_texts ≡ map kept_text_entry rows.now
@@ -37,4 +43,21 @@ pub fn are_kept_texts_lawful(rows: &[KeptTextEntry], parts: &[PartEntry]) -> boo
     let in_range = are_in_range(rows);
     let kept = are_kept(parts, rows);
     in_range && kept
+}
+
+/// Reads `kept_text`. Returns whether it exists and is lawful. The parts aren't kept any longer.
+pub(crate) fn is_good<S: Alter>(
+    alloc: Global,
+    conn: &mut Connection<S>,
+    known: &mut Known,
+) -> Result<bool, Error>
+    ensures read { Audits S.Store conn.old conn.new result table.KeptText known.old known.new }
+    ensures survives { Survives (state S.Store conn.old) (state S.Store conn.new) (λ _. ⊥) }
+{
+    let Some(rows) = found_kept_texts(alloc, conn)? else {
+        return Ok(false);
+    };
+    let is_lawful = are_kept_texts_lawful(&rows, &known.parts);
+    known.parts = Vec::new(alloc);
+    Ok(is_lawful)
 }

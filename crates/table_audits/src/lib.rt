@@ -1,5 +1,6 @@
 //! The audits of a station's tables, one for each table: whether its rows mean a lawful part of a
-//! state. Lawfulness is defined here for each table, and all of them together mean a lawful state.
+//! state; and the audit of a database that was found: whether it is a station's, and if not, the
+//! first bad table.
 #![tactic(auto)]
 
 mod balances;
@@ -9,11 +10,12 @@ mod counts;
 mod departures;
 mod expected;
 mod flight;
-mod flights;
+mod judge;
 mod kept_key;
 mod kept_text;
+mod known;
 mod law;
-pub mod lookups;
+mod lookups;
 mod name;
 mod numbers;
 mod old_waybill;
@@ -23,29 +25,18 @@ mod postings;
 mod posts;
 mod rows;
 mod spots;
+mod state;
 mod station;
 mod stock;
 mod sums;
 mod tally;
 mod trail;
+mod unfit;
 mod waybill;
 
-pub use book::{Book, BookAudit, BookBeside};
-pub use builds::are_builds;
-pub use counts::are_counts;
-pub use expected::are_expected_lawful;
-pub use flight::are_flights_lawful;
-pub use flights::flights_listed;
-pub use kept_key::{KeptKeys, are_kept_keys_lawful};
-pub use kept_text::are_kept_texts_lawful;
-pub use law::lawful_tables_mean;
+pub use law::{
+    flights_listed, lawful_is_station, lawful_tables_mean, station_is_fit, station_is_typed,
+};
 pub use name::TableName;
-pub use numbers::NumberedRows;
-pub use old_waybill::are_old_waybills_lawful;
-pub use outbox::lawful_messages;
-pub use part::are_parts_lawful;
-pub use station::is_station_lawful;
-pub use stock::are_stock_lawful;
-pub use sums::BookSums;
-pub use trail::lawful_lines;
-pub use waybill::are_waybills_lawful;
+pub use state::{FoundState, found_state};
+pub use unfit::Unfit;

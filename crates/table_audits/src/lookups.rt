@@ -4,7 +4,7 @@ ghost use Rattle.std.specs.List.Sorted.{IsBinarySearchResult, IsSearchInRange};
 ghost use Rattle.std.specs.FinMap.{FinMap, entries, contains_key};
 ghost use Rattle.sqlite_keyed.specs.Keyed.{has_key};
 ghost use Rattle.station_schema.specs.Tables.{waybill_id, flight_cmp, kept_text_cmp};
-ghost use Rattle.table_rows.specs.Meant.{waybill_meant};
+ghost use Rattle.station_rows.specs.Meant.{waybill_meant};
 ghost use Rattle.row_codec.specs.Waybills.{declared_in};
 ghost use Rattle.table_load.specs.Held.{flight_entry, kept_text_entry};
 ghost use Rattle.table_audits.specs.Order.{RisesByNumber};
@@ -24,7 +24,7 @@ fn place_of(waybills: &[WaybillRow], awb: &i64) -> Result<usize, usize>
 /// Returns whether the waybill has a row. `waybills` is the whole table `waybill`, in the order of
 /// the numbers.
 #[tactic(auto, using(crate::proofs::DeclaredLaws::declared_from, crate::proofs::DeclaredLaws::declared_back))]
-pub fn is_declared(waybills: &[WaybillRow], awb: i64) -> bool
+pub(crate) fn is_declared(waybills: &[WaybillRow], awb: i64) -> bool
     ensures row { RisesByNumber (map waybill_meant waybills.now)
         → result ≡ has_key waybill_id (map waybill_meant waybills.now) awb }
     ensures declared { (w : ℕ) → awb ≡ pos w → RisesByNumber (map waybill_meant waybills.now)
@@ -45,7 +45,7 @@ fn compare_flight(row: &FlightEntry, flight: &str, day: &i64) -> Ordering
 }
 
 /// Returns the index of a flight's row on a day, or of its place.
-pub fn flight_place(flights: &[FlightEntry], flight: &str, day: &i64) -> Result<usize, usize>
+pub(crate) fn flight_place(flights: &[FlightEntry], flight: &str, day: &i64) -> Result<usize, usize>
     ensures bound { IsSearchInRange result (length flights.now) }
     ensures place { IsBinarySearchResult
         (λ row. flight_cmp (flight_entry row).0 (flight.now, day.now)) flights.now result }
@@ -64,7 +64,7 @@ fn text_place(texts: &[KeptTextEntry], text: &str) -> Result<usize, usize>
 
 /// Returns whether a text was accepted. `texts` is the whole table `kept_text`, in the order of its
 /// keys.
-pub fn is_kept(texts: &[KeptTextEntry], text: &str) -> bool
+pub(crate) fn is_kept(texts: &[KeptTextEntry], text: &str) -> bool
     ensures { (rows : FinMap kept_text_cmp ℤ) → entries rows ≡ map kept_text_entry texts.now
         → result ≡ contains_key rows text.now }
 {

@@ -1,5 +1,7 @@
-ghost use Rattle.std.specs.Prelude.{◌≡◌, codes, string_bytes};
+ghost use Rattle.std.specs.Prelude.{◌≡◌, ◌∷◌, MatchOption};
+ghost use Rattle.table_audits.specs.Good.{before};
 ghost use Rattle.table_audits.specs.Names.{name_text};
+ghost use Rattle.table_audits.specs.declared.name.TableName.TheVariants as table;
 
 use std::fmt;
 
@@ -57,6 +59,29 @@ impl TableName {
             TableName::KeptText => "kept_text",
             TableName::Counts => "counts",
             TableName::Build => "build",
+        }
+    }
+
+    /// Returns the table that is audited after this one.
+    pub(crate) fn next(self) -> Option<TableName>
+        ensures { MatchOption result (self ≡ table.Build)
+            (λ next. before next ≡ self ∷ before self) }
+    {
+        match self {
+            TableName::Station => Some(TableName::Waybill),
+            TableName::Waybill => Some(TableName::Waybill2),
+            TableName::Waybill2 => Some(TableName::Stock),
+            TableName::Stock => Some(TableName::Flight),
+            TableName::Flight => Some(TableName::Moves),
+            TableName::Moves => Some(TableName::Expected),
+            TableName::Expected => Some(TableName::Part),
+            TableName::Part => Some(TableName::Trail),
+            TableName::Trail => Some(TableName::Outbox),
+            TableName::Outbox => Some(TableName::KeptKey),
+            TableName::KeptKey => Some(TableName::KeptText),
+            TableName::KeptText => Some(TableName::Counts),
+            TableName::Counts => Some(TableName::Build),
+            TableName::Build => None,
         }
     }
 }

@@ -37,14 +37,14 @@ fn counted(count: u32, number: i64, is_lawful: bool) -> Result<Option<u32>, Erro
 
 /// The audit of rows that are numbered from 1 and added one after another.
 #[derive(Drop)]
-pub struct NumberedRows {
+pub(crate) struct NumberedRows {
     /// The number of rows, or `None` if one of them has a wrong number or isn't lawful.
     pub(crate) count: Option<u32>,
 }
 
 impl NumberedRows {
     /// Starts without rows.
-    pub fn new() -> NumberedRows
+    pub(crate) fn new() -> NumberedRows
         ensures { AreCounted result [] }
     {
         NumberedRows { count: Some(0) }

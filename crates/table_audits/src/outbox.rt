@@ -1,15 +1,16 @@
-ghost use Rattle.std.specs.Prelude.{◌≡◌, ◌↔◌, length, map, List, IsSome, IfSome};
-ghost use Rattle.table_rows.specs.Meant.{message_meant};
-ghost use Rattle.station_schema.specs.Tables.{Tables};
-ghost use Rattle.row_codec.specs.Meaning.{confirmed_in};
-ghost use Rattle.table_audits.specs.Lawful.{IsLawfulTable};
+ghost use Rattle.std.specs.Prelude.{◌≡◌};
 ghost use Rattle.table_audits.specs.declared.name.TableName.TheVariants as table;
 ghost use Rattle.table_audits.specs.Taken.{if_confirmed, AreMessagesTaken};
+ghost use Rattle.sqlite.specs.State.{Survives};
+ghost use Rattle.sqlite.specs.Held.{state};
+ghost use Rattle.table_audits.specs.Judged.{Audits};
 
-use crate::NumberedRows;
-use sqlite::Error;
+use crate::known::Known;
+use crate::numbers::NumberedRows;
+use sqlite::{Alter, Connection, Error};
 use station_rows::MessageRow;
-use table_load::RowFold;
+use std::alloc::Global;
+use table_load::{RowFold, fold_outbox};
 
 /// The rows of `outbox` are added in the order of their numbers. Each is a text by its type.
 impl RowFold<MessageRow> for NumberedRows {
@@ -25,6 +26,7 @@ impl RowFold<MessageRow> for NumberedRows {
     }
 }
 
+/// Returns the number of messages, if at least `confirmed` exist.
 fn if_confirmed(count: Option<u32>, confirmed: u32) -> Option<u32>
     ensures { result ≡ if_confirmed confirmed count }
 {
@@ -34,14 +36,22 @@ fn if_confirmed(count: Option<u32>, confirmed: u32) -> Option<u32>
     }
 }
 
-/// Returns the number of messages, if the added rows of `outbox` are lawful with this number of the
-/// last confirmed message.
-pub fn lawful_messages(messages: &NumberedRows, confirmed: u32) -> Option<u32>
-    ensures exact { (t : Tables) (rows : List MessageRow) → AreMessagesTaken messages.now rows
-        → confirmed_in t.stations ≡ confirmed → t.outbox ≡ map message_meant rows
-        → (IsSome result ↔ IsLawfulTable table.Outbox t) }
-    ensures count { (t : Tables) (rows : List MessageRow) → AreMessagesTaken messages.now rows
-        → t.outbox ≡ map message_meant rows → IfSome result (λ count. count ≡ length t.outbox) }
+/// Reads `outbox`, row by row, and counts its messages. Returns whether it exists and is lawful.
+pub(crate) fn is_good<S: Alter>(
+    alloc: Global,
+    conn: &mut Connection<S>,
+    known: &mut Known,
+) -> Result<bool, Error>
+    ensures read { Audits S.Store conn.old conn.new result table.Outbox known.old known.new }
+    ensures survives { Survives (state S.Store conn.old) (state S.Store conn.new) (λ _. ⊥) }
 {
-    if_confirmed(messages.count, confirmed)
+    let none = NumberedRows::new();
+    let Some(messages) = fold_outbox::<S, NumberedRows>(alloc, conn, &(), none)? else {
+        return Ok(false);
+    };
+    let Some(count) = if_confirmed(messages.count, known.confirmed) else {
+        return Ok(false);
+    };
+    known.messages = count;
+    Ok(true)
 }

@@ -1,4 +1,4 @@
-ghost use Rattle.std.specs.Prelude.{◌≡◌, OnOk, IfOk, cond, Option};
+ghost use Rattle.std.specs.Prelude.{◌≡◌, OnOk, IfOk, cond};
 ghost use Rattle.std.specs.Ordering.{eq_by_cmp};
 ghost use Rattle.std.specs.BTreeMap.{get};
 ghost use Rattle.table_audits.specs.Sums.{come_to, unless_zero};

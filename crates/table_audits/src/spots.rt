@@ -1,5 +1,5 @@
 ghost use Rattle.std.specs.Prelude.{◌≡◌, map, true, List};
-ghost use Rattle.table_rows.specs.Meant.{move_meant};
+ghost use Rattle.station_rows.specs.Meant.{move_meant};
 ghost use Rattle.shipment_machine.specs.Lawful.{NamesFlight};
 ghost use Rattle.shipment_machine.specs.declared.moves.Place.{Place};
 ghost use Rattle.table_load.specs.Held.{flight_entry};

@@ -5,16 +5,22 @@ ghost use Rattle.agent_stock.specs.declared.stock.Holder.TheVariants.{Used};
 ghost use Rattle.station_schema.specs.Tables.{Tables};
 ghost use Rattle.table_audits.specs.Lawful.{IsLawfulTable};
 ghost use Rattle.table_audits.specs.declared.name.TableName.TheVariants as table;
-ghost use Rattle.table_rows.specs.Meant.{waybill_meant};
-ghost use Rattle.station_rows.specs.Meant.{stock_meant};
+ghost use Rattle.station_rows.specs.Meant.{waybill_meant, stock_meant};
 ghost use Rattle.table_audits.specs.Order.{RisesByNumber};
 ghost use Rattle.row_codec.specs.Stock.{is_behind, are_apart};
 ghost use Rattle.table_audits.specs.Rows.{AreDeclared, IsLawfulStock};
+ghost use Rattle.sqlite.specs.State.{Survives};
+ghost use Rattle.sqlite.specs.Held.{state};
+ghost use Rattle.table_audits.specs.Judged.{Audits};
 
+use crate::known::Known;
 use crate::lookups::is_declared;
 use agent_stock::{Holder, StockRun};
 use row_codec::{awb_key, run_by};
+use sqlite::{Alter, Connection, Error};
 use station_rows::{StockRow, WaybillRow};
+use std::alloc::Global;
+use table_load::found_stock;
 
 /// Returns whether each number from the first to the last is declared. It stops at the first that
 /// isn't.
@@ -77,10 +83,25 @@ fn are_apart(rows: &[StockRow]) -> bool
 
 /// Returns whether the rows of `stock`, in the order of their keys, are lawful with the rows of
 /// `waybill`, in the order of their numbers.
-pub fn are_stock_lawful(rows: &[StockRow], waybills: &[WaybillRow]) -> bool
+fn are_stock_lawful(rows: &[StockRow], waybills: &[WaybillRow]) -> bool
     ensures exact { (t : Tables) → RisesByNumber (map waybill_meant waybills.now)
         → t.waybills ≡ map waybill_meant waybills.now → entries t.stock ≡ map stock_meant rows.now
         → (IsTrue result ↔ IsLawfulTable table.Stock t) }
 {
     are_apart(rows) && are_lawful(rows, waybills)
+}
+
+/// Reads `stock`. Returns whether it exists and is lawful.
+pub(crate) fn is_good<S: Alter>(
+    alloc: Global,
+    conn: &mut Connection<S>,
+    known: &Known,
+) -> Result<bool, Error>
+    ensures read { Audits S.Store conn.old conn.new result table.Stock known.now known.now }
+    ensures survives { Survives (state S.Store conn.old) (state S.Store conn.new) (λ _. ⊥) }
+{
+    let Some(rows) = found_stock(alloc, conn)? else {
+        return Ok(false);
+    };
+    Ok(are_stock_lawful(&rows, &known.beside.waybills))
 }

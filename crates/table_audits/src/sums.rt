@@ -1,4 +1,4 @@
-ghost use Rattle.std.specs.Prelude.{◌≡◌, ◌∷◌, [], ◌++◌, ℕ, pos, neg_ℤ, false, List, Some, OnOk, slice_get};
+ghost use Rattle.std.specs.Prelude.{◌≡◌, ◌∷◌, [], ◌++◌, ℕ, pos, false, List, Some, OnOk, slice_get};
 ghost use Rattle.shipment_machine.specs.declared.flight.FlightDate.{FlightDate};
 ghost use Rattle.shipment_machine.specs.declared.moves.Move.{Move};
 ghost use Rattle.shipment_machine.specs.declared.moves.Place.{Place};
@@ -48,7 +48,7 @@ pub(crate) struct Posting {
 
 /// The sums of a book's moves, for each waybill at each place.
 #[derive(Drop)]
-pub struct BookSums {
+pub(crate) struct BookSums {
     pub(crate) counts: BTreeMap<CountPlace, Tally>,
     pub(crate) builds: BTreeMap<BuildPlace, Tally>,
 }

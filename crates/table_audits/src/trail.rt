@@ -1,18 +1,21 @@
-ghost use Rattle.std.specs.Prelude.{◌≡◌, ◌↔◌, length, map, List, IsSome, IfSome};
-ghost use Rattle.table_rows.specs.Meant.{waybill_meant, trail_meant};
-ghost use Rattle.station_schema.specs.Tables.{Tables, Waybill};
-ghost use Rattle.table_audits.specs.Lawful.{IsLawfulTable};
+ghost use Rattle.std.specs.Prelude.{◌≡◌, map};
+ghost use Rattle.station_rows.specs.Meant.{waybill_meant, trail_meant};
 ghost use Rattle.table_audits.specs.declared.name.TableName.TheVariants as table;
 ghost use Rattle.table_audits.specs.Order.{RisesByNumber};
 ghost use Rattle.table_audits.specs.Rows.{is_lawful_line};
 ghost use Rattle.table_audits.specs.Taken.{AreLinesTaken};
+ghost use Rattle.sqlite.specs.State.{Survives};
+ghost use Rattle.sqlite.specs.Held.{state};
+ghost use Rattle.table_audits.specs.Judged.{Audits};
 
-use crate::NumberedRows;
+use crate::known::Known;
 use crate::lookups::is_declared;
+use crate::numbers::NumberedRows;
 use row_codec::{awb_key, waybill_of_line};
-use sqlite::Error;
+use sqlite::{Alter, Connection, Error};
 use station_rows::{TrailRow, WaybillRow};
-use table_load::RowFold;
+use std::alloc::Global;
+use table_load::{RowFold, fold_trail};
 
 fn is_lawful(row: &TrailRow, waybills: &[WaybillRow]) -> bool
     ensures { RisesByNumber (map waybill_meant waybills.now)
@@ -28,7 +31,7 @@ fn is_lawful(row: &TrailRow, waybills: &[WaybillRow]) -> bool
 /// order of theirs.
 impl RowFold<TrailRow> for NumberedRows {
     ghost use Rattle.std.specs.Prelude.{map};
-    ghost use Rattle.table_rows.specs.Meant.{waybill_meant};
+    ghost use Rattle.station_rows.specs.Meant.{waybill_meant};
     ghost use Rattle.table_audits.specs.Taken.{AreLinesTaken};
 
     type Beside = Vec<WaybillRow>;
@@ -42,16 +45,25 @@ impl RowFold<TrailRow> for NumberedRows {
     }
 }
 
-/// Returns the number of lines, if the added rows of `trail` are lawful with the rows of
-/// `waybill2`.
-pub fn lawful_lines(lines: &NumberedRows) -> Option<u32>
-    ensures exact { (t : Tables) (waybills : List Waybill) (rows : List TrailRow)
-        → AreLinesTaken waybills lines.now rows → RisesByNumber waybills
-        → t.waybills ≡ waybills → t.trail ≡ map trail_meant rows
-        → (IsSome result ↔ IsLawfulTable table.Trail t) }
-    ensures count { (t : Tables) (waybills : List Waybill) (rows : List TrailRow)
-        → AreLinesTaken waybills lines.now rows → RisesByNumber waybills
-        → t.trail ≡ map trail_meant rows → IfSome result (λ count. count ≡ length t.trail) }
+/// Reads `trail`, row by row, and counts its lines. Returns whether it exists and is lawful. The
+/// waybills aren't kept any longer.
+pub(crate) fn is_good<S: Alter>(
+    alloc: Global,
+    conn: &mut Connection<S>,
+    known: &mut Known,
+) -> Result<bool, Error>
+    ensures read { Audits S.Store conn.old conn.new result table.Trail known.old known.new }
+    ensures survives { Survives (state S.Store conn.old) (state S.Store conn.new) (λ _. ⊥) }
 {
-    lines.count
+    let none = NumberedRows::new();
+    let beside = &known.beside.waybills;
+    let Some(lines) = fold_trail::<S, NumberedRows>(alloc, conn, beside, none)? else {
+        return Ok(false);
+    };
+    let Some(count) = lines.count else {
+        return Ok(false);
+    };
+    known.lines = count;
+    known.beside.waybills = Vec::new(alloc);
+    Ok(true)
 }

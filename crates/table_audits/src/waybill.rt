@@ -1,14 +1,19 @@
-ghost use Rattle.std.specs.Prelude.{◌≡◌, ◌↔◌, map, IsTrue};
-ghost use Rattle.std.specs.List.{list_all};
-ghost use Rattle.table_rows.specs.Meant.{waybill_meant};
-ghost use Rattle.station_schema.specs.Tables.{Tables};
-ghost use Rattle.table_audits.specs.Order.{RisesByNumber};
-ghost use Rattle.table_audits.specs.Lawful.{IsLawfulTable};
+ghost use Rattle.std.specs.Prelude.{◌≡◌, map, IfOk};
+ghost use Rattle.table_load.specs.Whole.{FindsTable};
+ghost use Rattle.table_load.specs.Reading.{undated_row, HoldsWaybills};
+ghost use Rattle.station_rows.specs.Meant.{waybill_meant};
 ghost use Rattle.table_audits.specs.declared.name.TableName.TheVariants as table;
 ghost use Rattle.table_audits.specs.Rows.{is_lawful_waybill};
+ghost use Rattle.sqlite.specs.State.{Survives};
+ghost use Rattle.sqlite.specs.Held.{state};
+ghost use Rattle.table_audits.specs.Judged.{Audits};
 
+use crate::known::Known;
 use row_codec::waybill_by;
+use sqlite::{Alter, Connection, Error};
 use station_rows::WaybillRow;
+use std::alloc::{AllocError, Global};
+use table_load::{FileVersion, OldWaybillEntry, found_old_waybills, found_waybills};
 
 /// Returns whether the row is in range, and its weight at least a tenth a piece.
 fn is_lawful(row: &WaybillRow) -> bool
@@ -20,17 +25,56 @@ fn is_lawful(row: &WaybillRow) -> bool
     declared.pieces.number() <= declared.tenths.number()
 }
 
-fn are_lawful(rows: &[WaybillRow]) -> bool
-    ensures { result ≡ list_all is_lawful_waybill (map waybill_meant rows.now) }
+/// Returns the waybills of a file of version 1, without a day.
+fn undated_rows(alloc: Global, olds: Vec<OldWaybillEntry>) -> Result<Vec<WaybillRow>, AllocError>
+    ensures { IfOk result (λ rows. rows.items ≡ map undated_row olds.items) }
 {
-    rows.iter().all(|row| is_lawful(row))
+    olds.into_iter()
+        .map(|old| WaybillRow {
+            awb: old.awb,
+            origin: old.origin,
+            destination: old.destination,
+            pieces: old.pieces,
+            tenths: old.tenths,
+            goods: old.goods,
+            notified: old.notified,
+            since: 0,
+        })
+        .collect(alloc)
 }
 
-/// Returns whether the rows of `waybill2`, in the order of their numbers, are lawful.
-pub fn are_waybills_lawful(rows: &[WaybillRow]) -> bool
-    ensures exact { (t : Tables) → RisesByNumber (map waybill_meant rows.now)
-        → t.waybills ≡ map waybill_meant rows.now
-        → (IsTrue result ↔ IsLawfulTable table.Waybill2 t) }
+/// Reads the waybills, as a file of version 2 has them.
+fn read_rows<S: Alter>(
+    alloc: Global,
+    conn: &mut Connection<S>,
+    version: FileVersion,
+) -> Result<Option<Vec<WaybillRow>>, Error>
+    ensures read { FindsTable S.Store conn.old conn.new result waybill_meant
+        (HoldsWaybills version) }
+    ensures survives { Survives (state S.Store conn.old) (state S.Store conn.new) (λ _. ⊥) }
 {
-    are_lawful(rows)
+    match version {
+        FileVersion::First => match found_old_waybills(alloc, conn)? {
+            None => Ok(None),
+            Some(olds) => Ok(Some(undated_rows(alloc, olds)?)),
+        },
+        FileVersion::Second => found_waybills(alloc, conn),
+    }
+}
+
+/// Reads the waybills. Returns whether they exist and are lawful.
+pub(crate) fn is_good<S: Alter>(
+    alloc: Global,
+    conn: &mut Connection<S>,
+    known: &mut Known,
+) -> Result<bool, Error>
+    ensures read { Audits S.Store conn.old conn.new result table.Waybill2 known.old known.new }
+    ensures survives { Survives (state S.Store conn.old) (state S.Store conn.new) (λ _. ⊥) }
+{
+    let Some(rows) = read_rows(alloc, conn, known.version)? else {
+        return Ok(false);
+    };
+    let is_lawful = rows.iter().all(|row| is_lawful(row));
+    known.beside.waybills = rows;
+    Ok(is_lawful)
 }

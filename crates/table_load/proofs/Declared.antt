@@ -11,9 +11,8 @@ use Rattle.station_schema.specs.Schema.{schema_with, station_schema, waybill2}
 use Rattle.station_schema.specs.Tables.{IsStation, IsOldStation, tables_of, old_tables_of, old_waybill_id, old_waybill_row, old_waybill_in, typed_old_waybills, waybill_id, typed_waybills, waybill_in, waybill_row, stock_cmp, stock_row, typed_stock, stock_in, flight_cmp, flight_row, typed_flights, flight_in, move_id, typed_moves, move_in, move_row, expected_cmp, expected_row, typed_expected, expected_in, part_cmp, part_row, typed_parts, part_in, trail_id, typed_trail, trail_in, trail_row, message_id, typed_outbox, message_in, message_row, kept_cmp, kept_row, typed_kept, kept_in, kept_text_cmp, kept_text_row, typed_kept_texts, kept_text_in, count_cmp, count_row, typed_counts, count_in, build_cmp, build_row, typed_builds, build_in, Station, station_id, station_row, station_in, typed_stations}
 use Rattle.table_load.specs.Raw.{found, rows_of}
 use Rattle.table_load.proofs.TypedLemmas.{map_is, list_is, rows_same, by_number_rises, list_same, map_same_rows}
-use Rattle.table_rows.specs.Shown.{waybill_shown, waybill_read, move_shown, move_read, count_read, build_read, trail_shown, trail_read, message_shown, message_read}
+use Rattle.station_rows.specs.Shown.{waybill_shown, waybill_read, move_shown, move_read, count_read, build_read, trail_shown, trail_read, message_shown, message_read, stock_read, station_shown}
 use Rattle.table_load.specs.Held.{old_waybill_name, old_waybill_columns, HoldsOldWaybill, HasOldWaybillTexts, old_waybill_shown, old_waybill_back, waybill_name, waybill_columns, HoldsWaybill, HasWaybillTexts, stock_name, stock_columns, HoldsStock, HasStockTexts, flight_name, flight_columns, HoldsFlight, flight_back, HasFlightTexts, moves_name, moves_columns, HoldsMoves, HasMovesTexts, expected_name, expected_columns, HoldsExpected, expected_back, HasExpectedTexts, part_name, part_columns, HoldsPart, part_back, HasPartTexts, trail_name, trail_columns, HoldsTrail, HasTrailTexts, outbox_name, outbox_columns, HoldsOutbox, HasOutboxTexts, kept_key_name, kept_key_columns, HoldsKeptKey, kept_key_back, HasKeptKeyTexts, kept_text_name, kept_text_columns, HoldsKeptText, kept_text_back, HasKeptTextTexts, counts_name, counts_columns, HoldsCounts, HasCountsTexts, build_name, build_columns, HoldsBuild, HasBuildTexts}
-use Rattle.station_rows.specs.Meant.{stock_read}
 use Rattle.station_schema.proofs.Keys.{stock_total, flight_total, expected_total, part_total, kept_total, kept_text_total, count_total, build_total}
 use Rattle.row_laws.proofs.Maps.{entries_rise}
 use Rattle.table_load.specs.Typed.{IsHeldBy, HoldsTyped, HoldsOld}
@@ -23,7 +22,6 @@ use Rattle.table_load.specs.declared.station.FileVersion.{FileVersion}
 use Rattle.table_load.specs.declared.station.FileVersion.TheVariants.{First, Second}
 use Rattle.table_load.proofs.StationLemmas.{is_of_version}
 use Rattle.std.specs.Str.{is_utf8}
-use Rattle.station_rows.specs.Meant.{station_shown}
 use Rattle.table_load.specs.Verdict.{station_name, station_columns, station_found, station_of, one_row, row_of_version}
 
 -- ---- waybill, which is empty in files of version 2

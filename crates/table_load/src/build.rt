@@ -1,14 +1,14 @@
 ghost use Rattle.sqlite.specs.State.{Survives};
 ghost use Rattle.sqlite.specs.Held.{state};
 ghost use Rattle.table_load.specs.Whole.{FindsTable};
-ghost use Rattle.table_rows.specs.Meant.{build_meant};
+ghost use Rattle.station_rows.specs.Meant.{build_meant};
 ghost use Rattle.table_load.specs.Held.{HoldsBuild};
 
 use crate::{KeyedTable, found_rows, number, words};
 use sqlite::{Alter, Connection, Error, Row};
+use station_rows::BuildRow;
 use std::alloc::Global;
 use std::cmp::Ordering;
-use table_rows::BuildRow;
 
 /// The table `build`. Its key is `flight`, `day` and `awb`.
 struct BuildTable;
@@ -16,7 +16,7 @@ struct BuildTable;
 impl KeyedTable for BuildTable {
     ghost use Rattle.std.specs.Prelude.{ℕ, ℤ, List, refl};
     ghost use Rattle.station_schema.specs.Tables.{Build, BuildKey, build_cmp, build_row};
-    ghost use Rattle.table_rows.specs.Shown.{build_read};
+    ghost use Rattle.station_rows.specs.Shown.{build_read};
     ghost use Rattle.table_load.specs.Held.{by_key, HasBuildTexts};
 
     type Row = BuildRow;

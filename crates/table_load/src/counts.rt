@@ -1,13 +1,13 @@
 ghost use Rattle.sqlite.specs.State.{Survives};
 ghost use Rattle.sqlite.specs.Held.{state};
 ghost use Rattle.table_load.specs.Whole.{FindsTable};
-ghost use Rattle.table_rows.specs.Meant.{count_meant};
+ghost use Rattle.station_rows.specs.Meant.{count_meant};
 ghost use Rattle.table_load.specs.Held.{HoldsCounts};
 
 use crate::{KeyedTable, found_rows, number};
 use sqlite::{Alter, Connection, Error, Row};
+use station_rows::CountRow;
 use std::alloc::Global;
-use table_rows::CountRow;
 
 /// The table `counts`. Its key is `awb` and `place`.
 struct CountsTable;
@@ -15,7 +15,7 @@ struct CountsTable;
 impl KeyedTable for CountsTable {
     ghost use Rattle.std.specs.Prelude.{ℕ, ℤ, List, refl};
     ghost use Rattle.station_schema.specs.Tables.{Count, CountKey, count_cmp, count_row};
-    ghost use Rattle.table_rows.specs.Shown.{count_read};
+    ghost use Rattle.station_rows.specs.Shown.{count_read};
     ghost use Rattle.table_load.specs.Held.{by_key, HasCountsTexts};
 
     type Row = CountRow;

@@ -1,18 +1,18 @@
 ghost use Rattle.sqlite.specs.State.{Survives};
 ghost use Rattle.sqlite.specs.Held.{state};
 ghost use Rattle.table_load.specs.Walks.{FoldsTable};
-ghost use Rattle.table_rows.specs.Meant.{move_meant};
+ghost use Rattle.station_rows.specs.Meant.{move_meant};
 ghost use Rattle.table_load.specs.Held.{HoldsMoves};
 ghost use Rattle.std.specs.Prelude.{◌≡◌, ◌≢◌, [], length, IfSome, None, string_bytes};
 ghost use Rattle.sqlite.specs.declared.types.Value.TheVariants.{Text};
 ghost use Rattle.sqlite.specs.Order.{column};
 ghost use Rattle.station_schema.specs.Tables.{Move};
-ghost use Rattle.table_rows.specs.Shown.{move_shown};
+ghost use Rattle.station_rows.specs.Shown.{move_shown};
 
 use crate::{KeyedTable, RowFold, fold_rows, number, words};
 use sqlite::{Alter, Connection, Error, Row};
+use station_rows::MoveRow;
 use std::alloc::Global;
-use table_rows::MoveRow;
 
 /// The table `moves`. Its key is `number`.
 struct MovesTable;
@@ -20,8 +20,7 @@ struct MovesTable;
 impl KeyedTable for MovesTable {
     ghost use Rattle.std.specs.Prelude.{ℕ, ℤ, List, refl};
     ghost use Rattle.station_schema.specs.Tables.{Move, move_id};
-    ghost use Rattle.table_rows.specs.Shown.{move_shown};
-    ghost use Rattle.table_rows.specs.Shown.{move_read};
+    ghost use Rattle.station_rows.specs.Shown.{move_shown, move_read};
     ghost use Rattle.table_load.specs.Held.{by_number, HasMovesTexts};
 
     type Row = MoveRow;

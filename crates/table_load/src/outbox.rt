@@ -2,13 +2,13 @@ ghost use Rattle.std.specs.Prelude.{[]};
 ghost use Rattle.sqlite.specs.State.{Survives};
 ghost use Rattle.sqlite.specs.Held.{state};
 ghost use Rattle.table_load.specs.Walks.{FoldsTable};
-ghost use Rattle.table_rows.specs.Meant.{message_meant};
+ghost use Rattle.station_rows.specs.Meant.{message_meant};
 ghost use Rattle.table_load.specs.Held.{HoldsOutbox};
 
 use crate::{KeyedTable, RowFold, fold_rows, number, words};
 use sqlite::{Alter, Connection, Error, Row};
+use station_rows::MessageRow;
 use std::alloc::Global;
-use table_rows::MessageRow;
 
 /// The table `outbox`. Its key is `number`.
 struct OutboxTable;
@@ -16,8 +16,7 @@ struct OutboxTable;
 impl KeyedTable for OutboxTable {
     ghost use Rattle.std.specs.Prelude.{ℕ, ℤ, List, refl};
     ghost use Rattle.station_schema.specs.Tables.{Message, message_id};
-    ghost use Rattle.table_rows.specs.Shown.{message_shown};
-    ghost use Rattle.table_rows.specs.Shown.{message_read};
+    ghost use Rattle.station_rows.specs.Shown.{message_shown, message_read};
     ghost use Rattle.table_load.specs.Held.{by_number, HasOutboxTexts};
 
     type Row = MessageRow;

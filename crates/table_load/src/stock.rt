@@ -15,7 +15,7 @@ struct StockTable;
 impl KeyedTable for StockTable {
     ghost use Rattle.std.specs.Prelude.{ℕ, ℤ, List, refl};
     ghost use Rattle.station_schema.specs.Tables.{Stock, StockKey, stock_cmp, stock_row};
-    ghost use Rattle.station_rows.specs.Meant.{stock_read};
+    ghost use Rattle.station_rows.specs.Shown.{stock_read};
     ghost use Rattle.table_load.specs.Held.{by_key, HasStockTexts};
 
     type Row = StockRow;

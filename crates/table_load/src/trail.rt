@@ -2,13 +2,13 @@ ghost use Rattle.std.specs.Prelude.{[]};
 ghost use Rattle.sqlite.specs.State.{Survives};
 ghost use Rattle.sqlite.specs.Held.{state};
 ghost use Rattle.table_load.specs.Walks.{FoldsTable};
-ghost use Rattle.table_rows.specs.Meant.{trail_meant};
+ghost use Rattle.station_rows.specs.Meant.{trail_meant};
 ghost use Rattle.table_load.specs.Held.{HoldsTrail};
 
 use crate::{KeyedTable, RowFold, fold_rows, number, words};
 use sqlite::{Alter, Connection, Error, Row};
+use station_rows::TrailRow;
 use std::alloc::Global;
-use table_rows::TrailRow;
 
 /// The table `trail`. Its key is `number`.
 struct TrailTable;
@@ -16,8 +16,7 @@ struct TrailTable;
 impl KeyedTable for TrailTable {
     ghost use Rattle.std.specs.Prelude.{ℕ, ℤ, List, refl};
     ghost use Rattle.station_schema.specs.Tables.{TrailLine, trail_id};
-    ghost use Rattle.table_rows.specs.Shown.{trail_shown};
-    ghost use Rattle.table_rows.specs.Shown.{trail_read};
+    ghost use Rattle.station_rows.specs.Shown.{trail_shown, trail_read};
     ghost use Rattle.table_load.specs.Held.{by_number, HasTrailTexts};
 
     type Row = TrailRow;

@@ -1,13 +1,13 @@
 ghost use Rattle.sqlite.specs.State.{Survives};
 ghost use Rattle.sqlite.specs.Held.{state};
 ghost use Rattle.table_load.specs.Whole.{FindsTable};
-ghost use Rattle.table_rows.specs.Meant.{waybill_meant};
+ghost use Rattle.station_rows.specs.Meant.{waybill_meant};
 ghost use Rattle.table_load.specs.Held.{HoldsWaybill};
 
 use crate::{KeyedTable, found_rows, number, words};
 use sqlite::{Alter, Connection, Error, Row};
+use station_rows::WaybillRow;
 use std::alloc::Global;
-use table_rows::WaybillRow;
 
 /// The table `waybill2`. Its key is `awb`.
 struct WaybillTable;
@@ -15,8 +15,7 @@ struct WaybillTable;
 impl KeyedTable for WaybillTable {
     ghost use Rattle.std.specs.Prelude.{ℕ, ℤ, List, refl};
     ghost use Rattle.station_schema.specs.Tables.{Waybill, waybill_id};
-    ghost use Rattle.table_rows.specs.Shown.{waybill_shown};
-    ghost use Rattle.table_rows.specs.Shown.{waybill_read};
+    ghost use Rattle.station_rows.specs.Shown.{waybill_shown, waybill_read};
     ghost use Rattle.table_load.specs.Held.{by_number, HasWaybillTexts};
 
     type Row = WaybillRow;

@@ -27,8 +27,7 @@ use Rattle.station_schema.specs.Store as row
 use Rattle.station_schema.specs.Store.{View, IsShowing}
 use Rattle.station_schema.specs.Tables as table
 use Rattle.station_schema.specs.Tables.{Tables, Stock, stock_cmp, Count, count_cmp, Build, build_cmp, waybill_id, move_id}
-use Rattle.table_rows.specs.Meant.{with_flight, with_expected, with_move, with_part, with_trail_line, with_message, with_kept, with_kept_text}
-use Rattle.station_rows.specs.Meant.{confirming}
+use Rattle.station_rows.specs.Meant.{with_flight, with_expected, with_move, with_part, with_trail_line, with_message, with_kept, with_kept_text, confirming}
 use Rattle.row_codec.specs.Numbers.{is_count, AreNumbered}
 use Rattle.row_codec.specs.Moves.{book_in, is_move_row}
 use Rattle.row_codec.specs.Counts.{AreCounts, AreBuilds, running}

@@ -7,7 +7,7 @@ use Rattle.std.specs.List.{list_all}
 use Rattle.std.proofs.lemmas.Int.{ints}
 use Rattle.shipment_machine.specs.Book.{has_moves}
 use Rattle.station_schema.specs.Tables as table
-use Rattle.table_rows.specs.Meant.{is_of}
+use Rattle.station_rows.specs.Meant.{is_of}
 use Rattle.row_codec.specs.Numbers.{natural, is_number}
 use Rattle.row_codec.specs.Moves.{book_in, is_move_row}
 

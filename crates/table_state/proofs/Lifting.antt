@@ -1,16 +1,23 @@
 -- From what the tables of a store show to the state that they mean.
 use Rattle.std.proofs.Common.{◌≡◌, ◌⊎◌, inl, inr, ⊎_elim, ℕ, true, false, List, Option, Some, Result, Ok, Err, refl, sym, subst, ◌∙◌}
-use Rattle.std.specs.Prelude.{IfOk, OnOk}
+use Rattle.std.specs.Prelude.{IfOk, OnErr, OnOk}
 use Rattle.station_core.specs.Step.{State}
 use Rattle.station_schema.specs.Tables.{Tables}
 use Rattle.station_schema.specs.Store as row
 use Rattle.station_schema.specs.Store.{View, Displays, IsShowing, MayCommit}
+use Rattle.row_codec.specs.Counts.{running}
 use Rattle.row_codec.specs.Meaning.{Means}
+use Rattle.running_totals.specs.Known.{AreKnown}
+use Rattle.running_totals.specs.declared.known.KnownSums.{KnownSums}
+use Rattle.station_rows.specs.Clauses as rows
 use Rattle.station_rows.specs.Clauses.{ShowsStill, WasOpen}
-use Rattle.state_store.specs.Store.{Seen, at_rest, inside, Survives}
+use Rattle.state_store.specs.Store.{Changes, Reads, ReadsAtRest, Seen, Storing, Survives, at_rest, inside}
 use Rattle.table_state.specs.declared.counted.Counted.{Counted}
+use Rattle.table_state.specs.declared.missed.Missed.{Missed}
+use Rattle.table_state.specs.declared.open_lines.OpenLines.{OpenLines}
+use Rattle.table_state.specs.declared.state.TableState.{TableState}
 use Rattle.table_state.specs.Laws.{same_meaning}
-use Rattle.table_state.specs.Shown.{Stands, Knows, IsCounted, Shows, Finds, IfGivenBack}
+use Rattle.table_state.specs.Shown.{Stands, Knows, AreBoarded, HasOpen, HaveAsked, IsCounted, Shows, Finds, IfGivenBack, in_tables}
 
 -- what is said of each answer of a call is said of its result
 pub of_answer : {X E : Type 0} (Q : X → Type 0) (r : Result X E) → ((x : X) → r ≡ Ok x → Q x) → IfOk r Q
@@ -21,6 +28,10 @@ of_answer Q (Err e) so = tt
 pub on_answer : {X E A B C : Type 0} (r : Result X E) → ((A → B) → C) → (A → OnOk r B) → OnOk r C
 on_answer (Ok x) so done = so done
 on_answer (Err e) so done = tt
+
+answered : {X E A : Type 0} (r : Result X E) → A → OnOk r A
+answered (Ok x) a = a
+answered (Err e) a = tt
 
 -- what follows from an answer and from a fault
 pub either_way : {X E P : Type 0} (r : Result X E) → ((x : X) → r ≡ Ok x → P) → ((e : E) → r ≡ Err e → P) → P
@@ -39,14 +50,6 @@ displays v up = record { is_open = up; now_is = refl; committed_is = refl; mode 
 pub finds_on : (old new : View) → row.Survives old new → new.IsSound → (found : Option State) → Finds new found → Finds old found
 finds_on old new survives sound found finds = record { tables = finds.tables; left = survives.crash sound finds.tables finds.left; means = finds.means }
 
-pub both_survive : (a b c : View) → row.Survives a b → row.Survives b c → row.Survives a c
-both_survive a b c first second = record {
-  clean = λ clean. first.clean (second.clean clean);
-  still = λ was clean. second.still (first.still was (second.clean clean)) clean;
-  sound = λ sound. first.sound (second.sound sound);
-  crash = λ sound t left. first.crash (second.sound sound) t (second.crash sound t left);
-}
-
 -- what an open store gives back when its transaction is undone
 pub given_back : (old new : View) (here : List ℕ) (counted : Counted) (confirmed : ℕ) (x : Seen) → Shows old here counted confirmed x → (new.IsSound → old.IsSound)
     → (new.IsSound → new.is_open ≡ true → row.Shows old new old.committed old.committed false) → IfGivenBack new x.committed
@@ -54,16 +57,6 @@ given_back old new here counted confirmed x was down undone sound up =
     let d = undone sound up in
     let stands = (was (down sound)).holds.stands d.was_open in
     (d.mode, subst (λ t. Means t (Some x.committed)) (sym d.now_is) stands.committed)
-
-pub survives_so : {K : Type 0} (is_clean is_sound : K → Type 0) (may_find : K → Option State → Type 0) (old new : K) (v w : View) → row.Survives v w
-    → (is_clean new → w.IsClean) → (v.IsClean → is_clean old) → (is_sound old → v.IsSound) → (w.IsSound → is_sound new) → (is_sound new → w.IsSound) → (v.IsSound → is_sound old) → ((found : Option State) → may_find new found → Finds w found) → ((found : Option State) → Finds v found → may_find old found)
-    → Survives is_clean is_sound may_find old new
-survives_so is_clean is_sound may_find old new v w survives clean_down clean_up was_down was_up down up there back = record {
-  clean = λ clean. clean_up (survives.clean (clean_down clean));
-  still = λ was clean. was_up (survives.still (was_down was) (clean_down clean));
-  sound = λ sound. up (survives.sound (down sound));
-  leaves = λ sound found finds. back found (finds_on v w survives (down sound) found (there found finds));
-}
 
 pub may_find_on : (old new : View) (here : List ℕ) (counted : Counted) (confirmed : ℕ) (before s : State)
     → Shows old here counted confirmed (inside before s) → MayCommit old new → new.IsSound → (found : Option State) → Finds new found → Finds old found ⊎ (found ≡ Some s)
@@ -216,3 +209,100 @@ module _ (old new : View) (here : List ℕ) (counted : Counted) (confirmed : ℕ
   -- what a read of an open store returned
   pub told : (P : Tables → Type 0) (x : Seen) → Shows old here counted confirmed x → row.Survives old new → (IsShowing old (seen_in old) → new.IsSound → P old.now) → (new.IsSound → old.is_open ≡ true) → new.IsSound → P old.now × Means old.now (Some x.now)
   told P x was survives tells up sound = (tells (λ _. displays old (up sound)) sound, ((was (survives.sound sound)).holds.stands (up sound)).now)
+
+-- the same of a state in tables
+
+pub survives_so : {S : Type 0} (view : S → View) (old new : TableState S) → row.Survives (view old.store) (view new.store) → Survives (in_tables view) old new
+survives_so view old new survives = record {
+  clean = survives.clean;
+  still = survives.still;
+  sound = survives.sound;
+  leaves = λ sound found finds. finds_on (view old.store) (view new.store) survives sound found finds;
+}
+
+-- a write
+pub writes_so : {S E : Type 0} (view : S → View) (old new : TableState S) (r : Result (Unit {0}) E) (change : State → State) → row.Survives (view old.store) (view new.store)
+    → ((before s : State) → (in_tables view).shows old (inside before s) → OnOk r ((in_tables view).shows new (inside before (change s)))) → Changes (in_tables view) old new r change
+writes_so view old new r change survives done = record { done = done; survives = survives_so view old new survives }
+
+-- after a read of the store, with what is kept beside it from then on
+abbrev after : {S : Type 0} → TableState S → S → Counted → Missed → TableState S
+after old store counted missed = record old { store = store; counted = counted; missed = missed }
+
+module _ {S A E : Type 0} (view : S → View) (old : TableState S) (store : S) where
+  -- what was read is said of the tables, which mean the state
+  pub counted_by : {X F : Type 0} {found : X} {P : Tables → X → Type 0} (later : Counted) (missed : Missed) (r : Result A E) (Is : State → A → Type 0) → later.sizes ≡ old.counted.sizes → rows.Reads {E = F} (view old.store) (view store) (Ok found) P
+      → ((s : State) → Means (view old.store).now (Some s) → P (view old.store).now found → IsCounted old.counted s.cargo.book s.cargo.expected → IsCounted later s.cargo.book s.cargo.expected)
+      → ((s : State) → Means (view old.store).now (Some s) → P (view old.store).now found → IfOk r (Is s))
+      → Reads (in_tables view) old (after old store later missed) r Is
+  counted_by {found = found} {P = P} later missed r Is sizes read kept value = record {
+    value = λ x shown sound. let t = tells x shown sound in value x.now t.1 t.0;
+    same = λ x shown. answered r (keeps x shown (reads_on (view old.store) (view store) old.here old.counted old.confirmed x shown read.survives read.same read.was_open));
+    rests = λ s shown. at_rest_then s shown (rests_on (view old.store) (view store) old.here old.counted old.confirmed s shown read.survives read.rests);
+    survives = survives_so view old (after old store later missed) read.survives;
+  }
+    where
+      tells : (x : Seen) → (in_tables view).shows old x → (view store).IsSound → P (view old.store).now found × Means (view old.store).now (Some x.now)
+      tells x shown = told (view old.store) (view store) old.here old.counted old.confirmed (λ t. P t found) x shown read.survives (read.read (seen_in (view old.store))) read.was_open
+
+      keeps : (x : Seen) → (in_tables view).shows old x → Shows (view store) old.here old.counted old.confirmed x → Shows (view store) old.here later old.confirmed x
+      keeps x shown now = keeps_number (view store) old.here old.counted old.confirmed x now later sizes (λ sound. let t = tells x shown sound in kept x.now t.1 t.0 (now sound).kept)
+
+      at_rest_then : (s : State) → (in_tables view).shows old (at_rest s) → Shows (view store) old.here old.counted old.confirmed (at_rest s) → Shows (view store) old.here later old.confirmed (at_rest s)
+      at_rest_then s = keeps (at_rest s)
+
+  -- the same where nothing else is kept
+  pub read_by : {X F : Type 0} {found : X} {P : Tables → X → Type 0} (missed : Missed) (r : Result A E) (Is : State → A → Type 0) → rows.Reads {E = F} (view old.store) (view store) (Ok found) P
+      → ((s : State) → Means (view old.store).now (Some s) → P (view old.store).now found → IfOk r (Is s)) → Reads (in_tables view) old (after old store old.counted missed) r Is
+  read_by missed r Is read = counted_by old.counted missed r Is refl read (λ _ _ _ kept. kept)
+
+  -- a fault
+  failed : {X F : Type 0} {P : Tables → X → Type 0} (r : Result X F) (missed : Missed) (e : E) (Is : State → A → Type 0) → rows.Reads (view old.store) (view store) r P → Reads (in_tables view) old (after old store old.counted missed) (Err e) Is
+  failed r missed e Is read = record {
+    value = λ _ _ _. tt;
+    same = λ _ _. tt;
+    rests = λ s shown. rests_on (view old.store) (view store) old.here old.counted old.confirmed s shown read.survives read.rests;
+    survives = survives_so view old (after old store old.counted missed) read.survives;
+  }
+
+  -- what was read is returned
+  pub read_so : {P : Tables → A → Type 0} (missed : Missed) (r : Result A E) (Is : State → A → Type 0) → rows.Reads (view old.store) (view store) r P
+      → ((s : State) → Means (view old.store).now (Some s) → (a : A) → P (view old.store).now a → Is s a) → Reads (in_tables view) old (after old store old.counted missed) r Is
+  read_so missed (Ok a) Is read value = read_by missed (Ok a) Is read (λ s means. value s means a)
+  read_so missed (Err e) Is read value = failed (Err e) missed e Is read
+
+  -- where more is known of sums, and nothing else
+  module _ (later : Counted) (missed : Missed) (r : Result A E) (Is : State → A → Type 0) (sizes : later.sizes ≡ old.counted.sizes) (boarded : later.boarded ≡ old.counted.boarded) (waybills : later.waybills ≡ old.counted.waybills) (open_lines : later.open_lines ≡ old.counted.open_lines) where
+    counts_so : (s : State) → IsCounted old.counted s.cargo.book s.cargo.expected → AreKnown later.known (running s.cargo.book) → IsCounted later s.cargo.book s.cargo.expected
+    counts_so s kept known = record {
+      boarded = subst (λ o. AreBoarded o s.cargo.book) (sym boarded) kept.boarded;
+      known = known;
+      waybills = subst (λ o. HaveAsked o s.cargo.book) (sym waybills) kept.waybills;
+      open_lines = subst (λ (o : OpenLines). HasOpen o.kept s.cargo.expected) (sym open_lines) kept.open_lines;
+    }
+
+    pub sums_by : {X F : Type 0} {found : X} {P : Tables → X → Type 0} → rows.Reads {E = F} (view old.store) (view store) (Ok found) P
+        → ((s : State) → Means (view old.store).now (Some s) → P (view old.store).now found → IfOk r (Is s) × (AreKnown old.counted.known (running s.cargo.book) → AreKnown later.known (running s.cargo.book)))
+        → Reads (in_tables view) old (after old store later missed) r Is
+    sums_by read value = counted_by later missed r Is sizes read (λ s means tells kept. counts_so s kept ((value s means tells).1 kept.known)) (λ s means tells. (value s means tells).0)
+
+    -- a fault, after which no more is known
+    sums_failed : {X : Type 0} {P : Tables → X → Type 0} (e : E) → rows.Reads (view old.store) (view store) (Err e) P → later.known ≡ old.counted.known → Reads (in_tables view) old (after old store later missed) (Err e) Is
+    sums_failed e read is = record {
+      value = λ _ _ _. tt;
+      same = λ _ _. tt;
+      rests = λ s shown.
+          let now = rests_on (view old.store) (view store) old.here old.counted old.confirmed s shown read.survives read.rests in
+          keeps_number (view store) old.here old.counted old.confirmed (at_rest s) now later sizes (λ sound. counts_so s (now sound).kept (subst (λ (k : KnownSums). AreKnown k (running s.cargo.book)) (sym is) (now sound).kept.known));
+      survives = survives_so view old (after old store later missed) read.survives;
+    }
+
+  pub sums_so : {P : Tables → A → Type 0} (later : Counted) (missed : Missed) (r : Result A E) (Is : State → A → Type 0) → later.sizes ≡ old.counted.sizes → later.boarded ≡ old.counted.boarded → later.waybills ≡ old.counted.waybills → later.open_lines ≡ old.counted.open_lines
+      → rows.Reads (view old.store) (view store) r P → OnErr r (later.known ≡ old.counted.known)
+      → ((s : State) → Means (view old.store).now (Some s) → (a : A) → P (view old.store).now a → Is s a × (AreKnown old.counted.known (running s.cargo.book) → AreKnown later.known (running s.cargo.book)))
+      → Reads (in_tables view) old (after old store later missed) r Is
+  sums_so later missed (Ok a) Is sizes boarded waybills open_lines read is value = sums_by later missed (Ok a) Is sizes boarded waybills open_lines read (λ s means. value s means a)
+  sums_so later missed (Err e) Is sizes boarded waybills open_lines read is value = sums_failed later missed (Err e) Is sizes boarded waybills open_lines e read is
+
+pub at_rest_of : {K A E : Type 0} {k : Storing K} {old new : K} {r : Result A E} {Is : State → A → Type 0} → Reads k old new r Is → ReadsAtRest k old new r Is
+at_rest_of read = record { value = λ s. read.value (at_rest s); rests = read.rests; survives = read.survives }

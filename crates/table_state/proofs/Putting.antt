@@ -6,10 +6,10 @@ use Rattle.sqlite_keyed.specs.Keyed.{get_by}
 use Rattle.row_laws.specs.Columns.{adjust}
 use Rattle.station_schema.specs.Store.{View, Displays, IsShowing, inside}
 use Rattle.station_schema.specs.Tables.{Tables, Waybill, waybill_id, Flight, FlightKey, Expected, ExpectedKey}
-use Rattle.table_rows.specs.declared.waybills.WaybillRow.{WaybillRow}
-use Rattle.table_rows.specs.declared.flights.FlightRow.{FlightRow}
-use Rattle.table_rows.specs.declared.expected.ExpectedRow.{ExpectedRow}
-use Rattle.table_rows.specs.Meant.{waybill_meant, flight_meant, expected_meant, with_waybill, changing_waybill, with_flight, changing_flight, with_expected, changing_expected}
+use Rattle.station_rows.specs.declared.waybills.WaybillRow.{WaybillRow}
+use Rattle.station_rows.specs.declared.flights.FlightRow.{FlightRow}
+use Rattle.station_rows.specs.declared.expected.ExpectedRow.{ExpectedRow}
+use Rattle.station_rows.specs.Meant.{waybill_meant, flight_meant, expected_meant, with_waybill, changing_waybill, with_flight, changing_flight, with_expected, changing_expected}
 use Rattle.table_state.specs.Put.{put_over, putting_waybill}
 
 adjusts : {K V A : Type 0} {R : K → K → Ordering} (m : FinMap R V) (k : K) (meant : A → V) (found : Option A) (new : V) → is_some found ≡ true → option_map meant found ≡ get m k → adjust m k (λ _. new) ≡ insert m k new

@@ -4,7 +4,7 @@ use Rattle.shipment_machine.specs.declared.moves.Move.{Move}
 use Rattle.station_schema.specs.Store.{View}
 use Rattle.station_schema.specs.Tables as table
 use Rattle.station_schema.specs.Tables.{Tables}
-use Rattle.table_rows.specs.Meant.{with_move}
+use Rattle.station_rows.specs.Meant.{with_move}
 use Rattle.row_codec.specs.Moves.{move_row, move_by, is_move_row}
 use Rattle.running_totals.specs.Posted.{Posted}
 

@@ -14,7 +14,7 @@ use Rattle.row_codec.specs.Counts.{running}
 use Rattle.row_codec.specs.Meaning.{Means}
 use Rattle.running_totals.specs.Known.{AreKnown}
 use Rattle.state_store.specs.ExpectedLines.{Lines, lines_in}
-use Rattle.state_store.specs.Store.{Seen}
+use Rattle.state_store.specs.Store.{Seen, Storing}
 use Rattle.state_store.specs.Waybills.{is_asked_for}
 use Rattle.state_store.specs.declared.expected_lines.ExpectedLines.{ExpectedLines}
 use Rattle.state_store.specs.declared.query.WaybillQuery.{WaybillQuery}
@@ -24,6 +24,7 @@ use Rattle.station_core.specs.declared.stored.Sizes.{Sizes}
 use Rattle.table_state.specs.declared.counted.Boarded.{Boarded}
 use Rattle.table_state.specs.declared.counted.Boardings.{Boardings}
 use Rattle.table_state.specs.declared.counted.Counted.{Counted}
+use Rattle.table_state.specs.declared.state.TableState.{TableState}
 use Rattle.table_state.specs.declared.waybill_sets.WaybillSets.{WaybillSets}
 
 -- the tables mean what is shown; between two transactions they are those of the last commit
@@ -99,6 +100,15 @@ pub record Finds (v : View) (found : Option State) : Type 0 where
   pub tables : Tables
   pub left : v.may_leave tables
   pub means : Means tables found
+
+-- what a state in tables shows, and when it is sound, by the view of its store
+abbrev pub in_tables : {S : Type 0} → (S → View) → Storing (TableState S)
+in_tables view = record {
+  shows = λ k x. Shows (view k.store) k.here k.counted k.confirmed x;
+  is_clean = λ k. (view k.store).IsClean;
+  is_sound = λ k. (view k.store).IsSound;
+  may_find = λ k found. Finds (view k.store) found;
+}
 
 -- a sound connection that is open is outside a transaction, and its tables mean this state
 abbrev pub IfGivenBack : View → State → Type 0

@@ -1,12 +1,12 @@
 //! The changes that a plan writes, each in the transaction that is open.
-ghost use Rattle.std.specs.Prelude.{[], OnOk};
+#![tactic(auto, using(crate::proofs::Lifting::survives_so))]
+
+ghost use Rattle.std.specs.Prelude.{[]};
 ghost use Rattle.shipment_machine.specs.Cargo.{written};
 ghost use Rattle.shipment_machine.specs.declared.plans.Change.TheVariants.{Confirm, Declare, Expect, NoteFlight, NotePart, Trail, UseUp};
-ghost use Rattle.station_core.specs.Step.{State};
-ghost use Rattle.station_schema.specs.Store.{Survives};
-ghost use Rattle.state_store.specs.Store.{inside};
+ghost use Rattle.state_store.specs.Store.{Changes};
 ghost use Rattle.station_core.specs.Told.{on_cargo};
-ghost use Rattle.table_state.specs.Shown.{Shows};
+ghost use Rattle.table_state.specs.Shown.{in_tables};
 
 use crate::state::TableState;
 use crate::writing::{put_expected, put_flight, put_waybill};
@@ -21,13 +21,8 @@ use station_rows::{InsertPart, InsertTrailLine, TableStore, UpdateConfirmed};
 impl<S: TableStore> TableState<S> {
     /// What is declared of a waybill from now on.
     pub(crate) fn declare(&mut self, awb: &Awb, declared: &Declared) -> Result<(), StoreFault>
-        ensures done { (before s : State)
-            → Shows (S.view self.old.store) self.old.here self.old.counted self.old.confirmed
-            (inside before s)
-            → OnOk result (Shows (S.view self.new.store) self.new.here self.new.counted
-            self.new.confirmed (inside before
-            (on_cargo (written [] (Declare awb.now declared.now)) s))) }
-        ensures survives { Survives (S.view self.old.store) (S.view self.new.store) }
+        ensures { Changes (in_tables S.view) self.old self.new result
+            (on_cargo (written [] (Declare awb.now declared.now))) }
     {
         let row = waybill_row(self.alloc, awb, declared)?;
         let is_missing = self.missed.take_waybill(awb);
@@ -36,12 +31,8 @@ impl<S: TableStore> TableState<S> {
 
     /// An agent's number is used up.
     pub(crate) fn use_up(&mut self, awb: &Awb) -> Result<(), StoreFault>
-        ensures done { (before s : State)
-            → Shows (S.view self.old.store) self.old.here self.old.counted self.old.confirmed
-            (inside before s)
-            → OnOk result (Shows (S.view self.new.store) self.new.here self.new.counted
-            self.new.confirmed (inside before (on_cargo (written [] (UseUp awb.now)) s))) }
-        ensures survives { Survives (S.view self.old.store) (S.view self.new.store) }
+        ensures { Changes (in_tables S.view) self.old self.new result
+            (on_cargo (written [] (UseUp awb.now))) }
     {
         stock_tables::use_up(self.alloc, &mut self.store, awb)
     }
@@ -52,13 +43,8 @@ impl<S: TableStore> TableState<S> {
         flight: &FlightDate,
         outbound: &Outbound,
     ) -> Result<(), StoreFault>
-        ensures done { (before s : State)
-            → Shows (S.view self.old.store) self.old.here self.old.counted self.old.confirmed
-            (inside before s)
-            → OnOk result (Shows (S.view self.new.store) self.new.here self.new.counted
-            self.new.confirmed (inside before
-            (on_cargo (written [] (NoteFlight flight.now outbound.now)) s))) }
-        ensures survives { Survives (S.view self.old.store) (S.view self.new.store) }
+        ensures { Changes (in_tables S.view) self.old self.new result
+            (on_cargo (written [] (NoteFlight flight.now outbound.now))) }
     {
         let name = flight_text(self.alloc, &flight.flight)?;
         let row = outbound_row(self.alloc, outbound)?;
@@ -79,13 +65,8 @@ impl<S: TableStore> TableState<S> {
         awb: &Awb,
         expected: &Expected,
     ) -> Result<(), StoreFault>
-        ensures done { (before s : State)
-            → Shows (S.view self.old.store) self.old.here self.old.counted self.old.confirmed
-            (inside before s)
-            → OnOk result (Shows (S.view self.new.store) self.new.here self.new.counted
-            self.new.confirmed (inside before
-            (on_cargo (written [] (Expect flight.now awb.now expected.now)) s))) }
-        ensures survives { Survives (S.view self.old.store) (S.view self.new.store) }
+        ensures { Changes (in_tables S.view) self.old self.new result
+            (on_cargo (written [] (Expect flight.now awb.now expected.now))) }
     {
         let name = flight_text(self.alloc, &flight.flight)?;
         let row = expected_row(expected);
@@ -104,13 +85,8 @@ impl<S: TableStore> TableState<S> {
 
     /// The telegram in work, which has this text, is this part.
     pub(crate) fn note_part(&mut self, part: &Part, telegram: &[u8]) -> Result<(), StoreFault>
-        ensures done { (before s : State)
-            → Shows (S.view self.old.store) self.old.here self.old.counted self.old.confirmed
-            (inside before s)
-            → OnOk result (Shows (S.view self.new.store) self.new.here self.new.counted
-            self.new.confirmed (inside before
-            (on_cargo (written telegram.now (NotePart part.now)) s))) }
-        ensures survives { Survives (S.view self.old.store) (S.view self.new.store) }
+        ensures { Changes (in_tables S.view) self.old self.new result
+            (on_cargo (written telegram.now (NotePart part.now))) }
     {
         let name = flight_text(self.alloc, &part.flight.flight)?;
         let airport = text(self.alloc, &part.airport.letters())?;
@@ -129,12 +105,8 @@ impl<S: TableStore> TableState<S> {
 
     /// A line joins the trail of a waybill.
     pub(crate) fn add_line(&mut self, awb: &Awb, line: &TrailLine<'_>) -> Result<(), StoreFault>
-        ensures done { (before s : State)
-            → Shows (S.view self.old.store) self.old.here self.old.counted self.old.confirmed
-            (inside before s)
-            → OnOk result (Shows (S.view self.new.store) self.new.here self.new.counted
-            self.new.confirmed (inside before (on_cargo (written [] (Trail awb.now line.now)) s))) }
-        ensures survives { Survives (S.view self.old.store) (S.view self.new.store) }
+        ensures { Changes (in_tables S.view) self.old self.new result
+            (on_cargo (written [] (Trail awb.now line.now))) }
     {
         let number = self.counted.sizes.lines.checked_add(1).ok_or(StoreFault)?;
         let row = trail_row(self.alloc, number, awb, line)?;
@@ -145,12 +117,8 @@ impl<S: TableStore> TableState<S> {
 
     /// The messages up to this one are confirmed.
     pub(crate) fn confirm(&mut self, upto: u32) -> Result<(), StoreFault>
-        ensures done { (before s : State)
-            → Shows (S.view self.old.store) self.old.here self.old.counted self.old.confirmed
-            (inside before s)
-            → OnOk result (Shows (S.view self.new.store) self.new.here self.new.counted
-            self.new.confirmed (inside before (on_cargo (written [] (Confirm upto)) s))) }
-        ensures survives { Survives (S.view self.old.store) (S.view self.new.store) }
+        ensures { Changes (in_tables S.view) self.old self.new result
+            (on_cargo (written [] (Confirm upto))) }
     {
         self.store.write(UpdateConfirmed {
             confirmed: i64::from(upto),

@@ -1,10 +1,10 @@
 //! The waybills that are asked for by what their moves add up to.
-ghost use Rattle.std.specs.Prelude.{◌≡◌, ◌++◌, Some, IfOk, OnOk};
-ghost use Rattle.station_core.specs.Step.{State};
-ghost use Rattle.station_schema.specs.Store.{Survives};
-ghost use Rattle.state_store.specs.Store.{at_rest};
+#![tactic(auto, using(crate::proofs::Lifting::rests_on, crate::proofs::Lifting::survives_so))]
+
+ghost use Rattle.std.specs.Prelude.{◌≡◌, ◌++◌, Some};
+ghost use Rattle.state_store.specs.Store.{ReadsAtRest};
 ghost use Rattle.state_store.specs.Waybills.{asked, waybills_for};
-ghost use Rattle.table_state.specs.Shown.{HasAsked, Shows};
+ghost use Rattle.table_state.specs.Shown.{HasAsked, in_tables};
 
 use crate::state::TableState;
 use crate::waybill_sets::asked_among;
@@ -22,15 +22,8 @@ impl<S: TableStore> TableState<S> {
         query: WaybillQuery,
         number: u64,
     ) -> Result<(), StoreFault>
-        ensures value { (s : State)
-            → Shows (S.view self.old.store) self.old.here self.old.counted self.old.confirmed
-            (at_rest s) → (S.view self.new.store).IsSound
-            → OnOk result (rows.new.items ≡ rows.old.items ++ asked query s.cargo.book number) }
-        ensures rests { (s : State)
-            → Shows (S.view self.old.store) self.old.here self.old.counted self.old.confirmed
-            (at_rest s) → Shows (S.view self.new.store) self.new.here self.new.counted
-            self.new.confirmed (at_rest s) }
-        ensures survives { Survives (S.view self.old.store) (S.view self.new.store) }
+        ensures { ReadsAtRest (in_tables S.view) self.old self.new result
+            (λ s done. rows.new.items ≡ rows.old.items ++ asked query s.cargo.book number) }
     {
         let awb = Awb::of_key(number).ok_or(StoreFault)?;
         let balances = running_totals::balances(&mut self.store, &mut self.counted.known, &awb)?;
@@ -48,16 +41,9 @@ impl<S: TableStore> TableState<S> {
         query: WaybillQuery,
         waybills: &BTreeSet<u64>,
     ) -> Result<Vec<WaybillBalances>, StoreFault>
-        ensures value { (s : State)
-            → Shows (S.view self.old.store) self.old.here self.old.counted self.old.confirmed
-            (at_rest s) → HasAsked query (Some waybills.now) s.cargo.book
-            → (S.view self.new.store).IsSound
-            → IfOk result (λ rows. rows.items ≡ waybills_for query s.cargo.book) }
-        ensures rests { (s : State)
-            → Shows (S.view self.old.store) self.old.here self.old.counted self.old.confirmed
-            (at_rest s) → Shows (S.view self.new.store) self.new.here self.new.counted
-            self.new.confirmed (at_rest s) }
-        ensures survives { Survives (S.view self.old.store) (S.view self.new.store) }
+        ensures { ReadsAtRest (in_tables S.view) self.old self.new result
+            (λ s rows. HasAsked query (Some waybills.now) s.cargo.book
+            → rows.items ≡ waybills_for query s.cargo.book) }
     {
         let mut rows = Vec::new(self.alloc);
         for number in waybills {
@@ -69,15 +55,8 @@ impl<S: TableStore> TableState<S> {
     /// The waybills of the book that are asked for, ascending, each with its balances: one pass
     /// over all balances.
     fn asked_in_all(&mut self, query: WaybillQuery) -> Result<Vec<WaybillBalances>, StoreFault>
-        ensures value { (s : State)
-            → Shows (S.view self.old.store) self.old.here self.old.counted self.old.confirmed
-            (at_rest s) → (S.view self.new.store).IsSound
-            → IfOk result (λ rows. rows.items ≡ waybills_for query s.cargo.book) }
-        ensures rests { (s : State)
-            → Shows (S.view self.old.store) self.old.here self.old.counted self.old.confirmed
-            (at_rest s) → Shows (S.view self.new.store) self.new.here self.new.counted
-            self.new.confirmed (at_rest s) }
-        ensures survives { Survives (S.view self.old.store) (S.view self.new.store) }
+        ensures { ReadsAtRest (in_tables S.view) self.old self.new result
+            (λ s rows. rows.items ≡ waybills_for query s.cargo.book) }
     {
         let all = running_totals::all_balances(self.alloc, &mut self.store)?;
         asked_among(self.alloc, query, &all)
@@ -87,15 +66,8 @@ impl<S: TableStore> TableState<S> {
     /// each that is kept, or one pass over all balances. What is kept of them is handed out of
     /// `self` before.
     pub(crate) fn asked(&mut self, query: WaybillQuery) -> Result<Vec<WaybillBalances>, StoreFault>
-        ensures value { (s : State)
-            → Shows (S.view self.old.store) self.old.here self.old.counted self.old.confirmed
-            (at_rest s) → (S.view self.new.store).IsSound
-            → IfOk result (λ rows. rows.items ≡ waybills_for query s.cargo.book) }
-        ensures rests { (s : State)
-            → Shows (S.view self.old.store) self.old.here self.old.counted self.old.confirmed
-            (at_rest s) → Shows (S.view self.new.store) self.new.here self.new.counted
-            self.new.confirmed (at_rest s) }
-        ensures survives { Survives (S.view self.old.store) (S.view self.new.store) }
+        ensures { ReadsAtRest (in_tables S.view) self.old self.new result
+            (λ s rows. rows.items ≡ waybills_for query s.cargo.book) }
     {
         match self.counted.waybills.take(query) {
             Some(kept) => self.asked_in(query, &kept),

@@ -1,14 +1,14 @@
 //! What is noted of flights and what they are to bring, by rows.
 ghost use Rattle.std.specs.Prelude.{◌≡◌, map, Some, IfOk};
-ghost use Rattle.table_rows.specs.Meant.{listed_waybill_meant, noted_flight_meant};
+ghost use Rattle.station_rows.specs.Meant.{listed_waybill_meant, noted_flight_meant};
 ghost use Rattle.row_codec.specs.Flights.{noted_by};
 ghost use Rattle.row_codec.specs.Manifests.{expectation_by};
 
 use row_codec::{expectation_by, noted_by};
 use state_store::StoreFault;
 use station_core::{Expectation, NotedFlight};
+use station_rows::{ListedWaybillRow, NotedFlightRow};
 use std::alloc::Global;
-use table_rows::{ListedWaybillRow, NotedFlightRow};
 
 /// The flights that rows are of, and what they note of them.
 pub(crate) fn flights_noted(

@@ -9,7 +9,7 @@ ghost use Rattle.station_schema.specs.Connection.{connection_view, IsVacant};
 ghost use Rattle.station_schema.specs.Names.{takes_name};
 ghost use Rattle.station_schema.specs.Store.{IsUnchanged};
 ghost use Rattle.station_schema.specs.Own.{IsOwn, LiesInOrder};
-ghost use Rattle.station_rows.specs.Shown.{rows_view};
+ghost use Rattle.station_rows.specs.View.{rows_view};
 ghost use Rattle.station_rows.specs.Own.{are_declared};
 ghost use Rattle.state_store.specs.Store.{Seen, at_rest};
 ghost use Rattle.table_state.specs.File.{IsFileOf};
@@ -34,12 +34,12 @@ pub fn create<S: Alter>(
     ensures free { OnOk result (takes_name (state S.Store conn).now.schema ≡ false) }
     ensures declared { IfOk result
         (λ tables. IsTrue (are_declared tables.store) ↔ IsVacant S.Store conn) }
-    ensures sound { IfOk result (λ tables. ⟦<TableState<Rows<S>> as StateStore>⟧.is_sound tables
-        → (connection_view S.Store conn).IsSound) }
+    ensures sound { IfOk result (λ tables. ⟦<TableState<Rows<S>> as StateStore>⟧.storing.is_sound
+        tables → (connection_view S.Store conn).IsSound) }
 
     // It shows the opening state, and a crash leaves that alone.
-    ensures shows { IfOk result
-        (λ tables. ⟦<TableState<Rows<S>> as StateStore>⟧.shows tables (at_rest (opening here))) }
+    ensures shows { IfOk result (λ tables. ⟦<TableState<Rows<S>> as StateStore>⟧.storing.shows
+        tables (at_rest (opening here))) }
 
     // Occupied exactly where one of the names is taken, and then nothing changed.
     ensures inside { (connection_view S.Store conn).in_transaction ≡ true
@@ -91,16 +91,16 @@ impl<S: Alter> TableState<Rows<S>> {
             → LiesInOrder S.Store → (db : Trees)
             → (state S.Store result).may_leave db → IsOwn db }
         ensures clean { HasCleanDisk (state S.Store result)
-            → ⟦<TableState<Rows<S>> as StateStore>⟧.is_clean self }
+            → ⟦<TableState<Rows<S>> as StateStore>⟧.storing.is_clean self }
         ensures leaves { (connection_view S.Store result).IsSound → (found : Option State)
             → Finds (connection_view S.Store result) found
-            → ⟦<TableState<Rows<S>> as StateStore>⟧.may_find self found }
+            → ⟦<TableState<Rows<S>> as StateStore>⟧.storing.may_find self found }
         ensures sound { (rows_view S.Store result (are_declared self.store)).IsSound
-            → ⟦<TableState<Rows<S>> as StateStore>⟧.is_sound self }
+            → ⟦<TableState<Rows<S>> as StateStore>⟧.storing.is_sound self }
 
         // A connection that is open is outside a transaction, and its tables mean the state of the
         // last commit.
-        ensures shown { (x : Seen) → ⟦<TableState<Rows<S>> as StateStore>⟧.shows self x
+        ensures shown { (x : Seen) → ⟦<TableState<Rows<S>> as StateStore>⟧.storing.shows self x
             → IfGivenBack (rows_view S.Store result (are_declared self.store)) x.committed }
     {
         self.into_store().release()

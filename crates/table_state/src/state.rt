@@ -1,11 +1,13 @@
-ghost use Rattle.std.specs.Prelude.{◌≡◌, ◌≤◌, Some};
+#![tactic(auto, using(crate::proofs::Lifting::rests_on, crate::proofs::Lifting::survives_so))]
+
+ghost use Rattle.std.specs.Prelude.{◌≡◌, Some};
 ghost use Rattle.station_core.specs.Step.{State, opening};
 ghost use Rattle.station_schema.specs.Tables.{Tables};
 ghost use Rattle.row_codec.specs.Meaning.{Means};
 ghost use Rattle.station_schema.specs.Connection.{IsOpening};
 ghost use Rattle.state_store.specs.Store.{at_rest};
 ghost use Rattle.table_state.specs.Laws.{finds_what_it_shows, all_numbered};
-ghost use Rattle.table_state.specs.Shown.{Shows, Finds, HasThese, Knows};
+ghost use Rattle.table_state.specs.Shown.{HasThese, Knows, in_tables};
 
 use crate::counted::{Boarded, Boardings, Counted};
 use crate::handing::{Telling, ended};
@@ -62,8 +64,9 @@ impl<S: TableStore> TableState<S> {
         ensures shows { (t : Tables) (s : State) → Means t (Some s)
             → Knows here sizes confirmed (at_rest s)
             → ((S.view store).IsSound → HasThese t (S.view store))
-            → ⟦<TableState<S> as StateStore>⟧.shows result (at_rest s) }
-        ensures sound { ⟦<TableState<S> as StateStore>⟧.is_sound result → (S.view store).IsSound }
+            → ⟦<TableState<S> as StateStore>⟧.storing.shows result (at_rest s) }
+        ensures sound { ⟦<TableState<S> as StateStore>⟧.storing.is_sound result
+            → (S.view store).IsSound }
         ensures same { result.store ≡ store }
     {
         TableState {
@@ -85,8 +88,9 @@ impl<S: TableStore> TableState<S> {
     /// The state of a new station at an airport.
     pub(crate) fn new(alloc: Global, store: S, here: Airport) -> TableState<S>
         ensures shows { ((S.view store).IsSound → IsOpening here (S.view store))
-            → ⟦<TableState<S> as StateStore>⟧.shows result (at_rest (opening here)) }
-        ensures sound { ⟦<TableState<S> as StateStore>⟧.is_sound result → (S.view store).IsSound }
+            → ⟦<TableState<S> as StateStore>⟧.storing.shows result (at_rest (opening here)) }
+        ensures sound { ⟦<TableState<S> as StateStore>⟧.storing.is_sound result
+            → (S.view store).IsSound }
         ensures same { result.store ≡ store }
     {
         let sizes = Sizes {
@@ -114,13 +118,7 @@ impl<S: TableStore> TableState<S> {
 }
 
 impl<S: TableStore> StateStore for TableState<S> {
-    ghost shows = { λ k x. Shows (S.view k.store) k.here k.counted k.confirmed x };
-
-    ghost is_clean = { λ k. (S.view k.store).IsClean };
-
-    ghost is_sound = { λ k. (S.view k.store).IsSound };
-
-    ghost may_find = { λ k found. Finds (S.view k.store) found };
+    ghost storing = { in_tables S.view };
 
     #[tactic(auto, using(crate::proofs::Lifting::begins, crate::proofs::Lifting::survives_so))]
     fn begin(&mut self) -> Result<(), StoreFault> {
@@ -131,7 +129,6 @@ impl<S: TableStore> StateStore for TableState<S> {
         self.store.commit()
     }
 
-    #[tactic(auto, using(crate::proofs::Lifting::survives_so))]
     fn kept_key(&mut self, key: &Key) -> Result<Option<KeptReply>, StoreFault> {
         match self.store.read(KeptUnder { id: key.as_str() })? {
             None => Ok(None),
@@ -139,7 +136,6 @@ impl<S: TableStore> StateStore for TableState<S> {
         }
     }
 
-    #[tactic(auto, using(crate::proofs::Lifting::rests_on, crate::proofs::Lifting::survives_so))]
     fn kept_text(&mut self, text: &[u8]) -> Result<Option<u32>, StoreFault> {
         let Ok(text) = std::str::from_utf8(text) else {
             return Err(StoreFault);
@@ -150,7 +146,6 @@ impl<S: TableStore> StateStore for TableState<S> {
         }
     }
 
-    #[tactic(auto, using(crate::proofs::Lifting::rests_on, crate::proofs::Lifting::survives_so))]
     fn declared(&mut self, awb: &Awb) -> Result<Option<Declared>, StoreFault> {
         match self.store.read(WaybillOf { awb: awb_key(awb) })? {
             None => {
@@ -161,22 +156,18 @@ impl<S: TableStore> StateStore for TableState<S> {
         }
     }
 
-    #[tactic(auto, using(crate::proofs::Lifting::reads_so, crate::proofs::Lifting::rests_on, crate::proofs::Lifting::survives_so))]
     fn holder(&mut self, awb: &Awb) -> Result<Option<Holder>, StoreFault> {
         stock_tables::holder(&mut self.store, awb)
     }
 
-    #[tactic(auto, using(crate::proofs::Lifting::rests_on, crate::proofs::Lifting::survives_so))]
     fn has_moves(&mut self, awb: &Awb) -> Result<bool, StoreFault> {
         Ok(!self.store.read(MovesOf { awb: awb_key(awb) })?.is_empty())
     }
 
-    #[tactic(auto, using(crate::proofs::Lifting::rests_on, crate::proofs::Lifting::survives_so))]
     fn balances(&mut self, awb: &Awb) -> Result<Balances, StoreFault> {
         running_totals::balances(&mut self.store, &mut self.counted.known, awb)
     }
 
-    #[tactic(auto, using(crate::proofs::Lifting::rests_on, crate::proofs::Lifting::survives_so))]
     fn load(&mut self, awb: &Awb, flight: &FlightDate) -> Result<Amount, StoreFault> {
         running_totals::load(
             self.alloc,
@@ -187,12 +178,10 @@ impl<S: TableStore> StateStore for TableState<S> {
         )
     }
 
-    #[tactic(auto, using(crate::proofs::Lifting::reads_so, crate::proofs::Lifting::rests_on, crate::proofs::Lifting::survives_so))]
     fn aboard(&mut self, flight: &FlightDate) -> Result<Vec<Load>, StoreFault> {
         running_totals::aboard(self.alloc, &mut self.store, flight)
     }
 
-    #[tactic(auto, using(crate::proofs::Lifting::rests_on, crate::proofs::Lifting::survives_so))]
     fn waybills_on(&mut self, flight: &FlightDate) -> Result<usize, StoreFault> {
         if let Some(number) = self.counted.boarded.number_on(flight) {
             return Ok(number);
@@ -205,7 +194,6 @@ impl<S: TableStore> StateStore for TableState<S> {
         Ok(waybills)
     }
 
-    #[tactic(auto, using(crate::proofs::Lifting::rests_on, crate::proofs::Lifting::survives_so))]
     fn outbound(&mut self, flight: &FlightDate) -> Result<Option<Outbound>, StoreFault> {
         let text = flight_text(self.alloc, &flight.flight)?;
         match self.store.read(FlightOn {
@@ -220,7 +208,6 @@ impl<S: TableStore> StateStore for TableState<S> {
         }
     }
 
-    #[tactic(auto, using(crate::proofs::Lifting::rests_on, crate::proofs::Lifting::survives_so))]
     fn expected(&mut self, flight: &FlightDate, awb: &Awb) -> Result<Option<Expected>, StoreFault> {
         let text = flight_text(self.alloc, &flight.flight)?;
         match self.store.read(ExpectedOn {
@@ -236,7 +223,6 @@ impl<S: TableStore> StateStore for TableState<S> {
         }
     }
 
-    #[tactic(auto, using(crate::proofs::Lifting::rests_on, crate::proofs::Lifting::survives_so))]
     fn has_part(&mut self, part: &Part) -> Result<bool, StoreFault> {
         let flight = flight_text(self.alloc, &part.flight.flight)?;
         let airport = part.airport.letters();
@@ -266,7 +252,6 @@ impl<S: TableStore> StateStore for TableState<S> {
         self.confirmed
     }
 
-    #[tactic(auto, using(crate::proofs::Lifting::survives_so))]
     fn add_move(&mut self, movement: &Move) -> Result<(), StoreFault> {
         let number = self.counted.sizes.moves.checked_add(1).ok_or(StoreFault)?;
         let were = record_move(
@@ -282,7 +267,6 @@ impl<S: TableStore> StateStore for TableState<S> {
         Ok(())
     }
 
-    #[tactic(auto, using(crate::proofs::Lifting::survives_so))]
     fn write(&mut self, text: &[u8], change: &Change<'_>) -> Result<(), StoreFault> {
         match change {
             Change::Declare { awb, declared } => self.declare(awb, declared),
@@ -299,7 +283,6 @@ impl<S: TableStore> StateStore for TableState<S> {
         }
     }
 
-    #[tactic(auto, using(crate::proofs::Lifting::survives_so))]
     fn add_message(&mut self, text: &[u8]) -> Result<(), StoreFault> {
         let number = self
             .counted
@@ -313,7 +296,6 @@ impl<S: TableStore> StateStore for TableState<S> {
         Ok(())
     }
 
-    #[tactic(auto, using(crate::proofs::Lifting::survives_so))]
     fn keep_key(&mut self, key: &Key, request: &str, count: u32) -> Result<(), StoreFault> {
         let _text = request.as_bytes();
         self.store.write(InsertKept {
@@ -323,7 +305,6 @@ impl<S: TableStore> StateStore for TableState<S> {
         })
     }
 
-    #[tactic(auto, using(crate::proofs::Lifting::survives_so))]
     fn keep_text(&mut self, text: &[u8], count: u32) -> Result<(), StoreFault> {
         let Ok(text) = std::str::from_utf8(text) else {
             return Err(StoreFault);
@@ -334,17 +315,14 @@ impl<S: TableStore> StateStore for TableState<S> {
         })
     }
 
-    #[tactic(auto, using(crate::proofs::Lifting::survives_so))]
     fn carry_out_order(&mut self, order: &Order) -> Result<(), StockFault<StoreFault>> {
         stock_tables::carry_out_order(self.alloc, &mut self.store, order)
     }
 
-    #[tactic(auto, using(crate::proofs::Lifting::rests_on, crate::proofs::Lifting::survives_so))]
     fn runs(&mut self) -> Result<Vec<StockRun>, StoreFault> {
         stock_tables::runs(self.alloc, &mut self.store)
     }
 
-    #[tactic(auto, using(crate::proofs::Lifting::survives_so))]
     fn waybills(&mut self, query: WaybillQuery) -> Result<Vec<WaybillBalances>, StoreFault> {
         let rows = self.asked(query)?;
         let kept = numbers_of(self.alloc, &rows)?;
@@ -352,13 +330,11 @@ impl<S: TableStore> StateStore for TableState<S> {
         Ok(rows)
     }
 
-    #[tactic(auto, using(crate::proofs::Lifting::rests_on, crate::proofs::Lifting::survives_so))]
     fn noted(&mut self) -> Result<Vec<NotedFlight>, StoreFault> {
         let rows = self.store.read(AllFlights)?;
         flights_noted(self.alloc, &rows)
     }
 
-    #[tactic(auto, using(crate::proofs::Lifting::survives_so))]
     fn expectations(&mut self, query: &ExpectedQuery) -> Result<Vec<Expectation>, StoreFault> {
         match query {
             ExpectedQuery::All => self.all_lines(),
@@ -366,7 +342,6 @@ impl<S: TableStore> StateStore for TableState<S> {
         }
     }
 
-    #[tactic(auto, using(crate::proofs::Lifting::rests_on, crate::proofs::Lifting::survives_so))]
     fn book_by<K: Sink<BookRow>>(
         &mut self,
         query: &BookQuery,
@@ -380,7 +355,6 @@ impl<S: TableStore> StateStore for TableState<S> {
         ended(read, telling.is_stuck())
     }
 
-    #[tactic(auto, using(crate::proofs::Lifting::rests_on, crate::proofs::Lifting::survives_so))]
     fn pending<K: Sink<Message>>(&mut self, sink: &mut K) -> Result<(), StoreFault> {
         let mut telling = Telling::new(sink);
         let sent = MessagesAfter {
@@ -390,7 +364,6 @@ impl<S: TableStore> StateStore for TableState<S> {
         ended(read, telling.is_stuck())
     }
 
-    #[tactic(auto, using(crate::proofs::Lifting::rests_on, crate::proofs::Lifting::survives_so))]
     fn trail_by<K: Sink<TrailRow>>(
         &mut self,
         query: &TrailQuery,

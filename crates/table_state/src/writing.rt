@@ -1,14 +1,13 @@
 //! Rows that are written over the one with their key, or anew, in a transaction.
 ghost use Rattle.station_schema.specs.Store.{Survives};
-ghost use Rattle.table_rows.specs.Meant.{waybill_meant, flight_meant, with_flight, expected_meant, with_expected};
+ghost use Rattle.station_rows.specs.Meant.{waybill_meant, flight_meant, with_flight, expected_meant, with_expected};
 ghost use Rattle.station_rows.specs.Clauses.{ShowsChange};
 ghost use Rattle.table_state.specs.Put.{putting_waybill};
 
 use station_rows::{
-    ExpectedOn, FlightOn, InsertExpected, InsertFlight, InsertWaybill, StoreFault, TableStore,
-    UpdateExpected, UpdateFlight, UpdateWaybill, WaybillOf,
+    ExpectedOn, ExpectedRow, FlightOn, FlightRow, InsertExpected, InsertFlight, InsertWaybill,
+    StoreFault, TableStore, UpdateExpected, UpdateFlight, UpdateWaybill, WaybillOf, WaybillRow,
 };
-use table_rows::{ExpectedRow, FlightRow, WaybillRow};
 
 /// Writes what is declared of a waybill. A row that is known to be missing isn't looked for.
 pub(crate) fn put_waybill<S: TableStore>(

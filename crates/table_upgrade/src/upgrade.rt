@@ -9,7 +9,7 @@ ghost use Rattle.table_upgrade.specs.Upgrade.{Adds, IsInsideOld, IsUpgraded, Upg
 
 use row_laws::{begin, commit, roll_back};
 use sqlite::{Alter, Connection, Error};
-use station_schema::shows_own;
+use station_schema::{declarations, shows_own};
 
 /// Makes `waybill2` in a file of version 1, inside a transaction.
 fn create_waybill2<S: Alter>(conn: &mut Connection<S>) -> Result<usize, Error>
@@ -18,10 +18,7 @@ fn create_waybill2<S: Alter>(conn: &mut Connection<S>) -> Result<usize, Error>
     ensures survives { Survives (state S.Store conn.old) (state S.Store conn.new)
         (λ _. ¬ IsInsideOld (state S.Store conn.old)) }
 {
-    conn.execute(
-        "CREATE TABLE waybill2 (awb INTEGER PRIMARY KEY, origin TEXT NOT NULL, destination TEXT NOT NULL, pieces INTEGER NOT NULL, tenths INTEGER NOT NULL, goods TEXT NOT NULL, notified INTEGER NOT NULL, since INTEGER NOT NULL) STRICT",
-        &[],
-    )
+    conn.execute(declarations::WAYBILL2, &[])
 }
 
 /// Copies each row of `waybill` to `waybill2`, without a day.

@@ -31,17 +31,14 @@ impl Failing {
 impl Keeper for Failing {
     ghost use Rattle.station_core.specs.Step.{State};
 
-    ghost keeps = { λ k s. ⟦<PlainStation as Keeper>⟧.keeps k.station s };
-
-    ghost is_clean = { λ k. Unit {0} };
-
-    ghost is_sound = { λ k. Unit {0} };
-
-    ghost is_broken = { λ k. k.is_broken };
-
-    ghost may_find = { λ k found. ⊥ };
-
-    ghost may_fail = { Unit {0} };
+    ghost keeping = { record {
+      keeps = λ k s. ⟦<PlainStation as Keeper>⟧.keeping.keeps k.station s;
+      is_clean = λ k. Unit {0};
+      is_sound = λ k. Unit {0};
+      is_broken = λ k. k.is_broken;
+      may_find = λ k found. ⊥;
+      may_fail = Unit {0};
+    } };
 
     ghost settled = { λ k s keeps sound found finds. absurd finds };
 

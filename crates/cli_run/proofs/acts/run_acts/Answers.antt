@@ -1,6 +1,5 @@
-use Rattle.std.proofs.Common.{◌∙◌, refl, sym, inr, true, None, []}
+use Rattle.std.proofs.Common.{rules, ◌∙◌, refl, sym, inr, true, None, []}
 use Rattle.cli_run.specs.Acts.{HasAnsweredLine}
-use Rattle.station_core.specs.Keeping.{keeping}
 use Rattle.cli_run.specs.InTurn.{come}
 use Rattle.stock_list.proofs.Told.{told_works, told_read, told_whole}
 use Rattle.cli_run.proofs.Told.{told_lines, none_first, never_reads}
@@ -11,13 +10,16 @@ returns-in_default-clause-answered g c = ([], (None, none_first (g.R.Read.remain
 
 pub returns-clause-answered : goal.returns-clause-answered
 returns-clause-answered g c =
-    let Step = HasAnsweredLine (keeping g.K.Keeper.keeps g.K.Keeper.is_clean g.K.Keeper.is_sound g.K.Keeper.is_broken g.K.Keeper.may_find g.K.Keeper.may_fail) c.args.at g.E.ByteOut.taken in
-    rw c.told_by.ensures (told_lines Step (never_reads (keeping g.K.Keeper.keeps g.K.Keeper.is_clean g.K.Keeper.is_sound g.K.Keeper.is_broken g.K.Keeper.may_find g.K.Keeper.may_fail) c.args.at g.E.ByteOut.taken)
+    let Step = HasAnsweredLine g.K.Keeper.keeping c.args.at g.E.ByteOut.taken in
+    rw c.told_by.ensures (told_lines Step (never_reads g.K.Keeper.keeping c.args.at g.E.ByteOut.taken)
     (g.R.Read.remaining c.args.reader.now) (come c.args.keeper.now (g.W.ByteOut.taken c.args.writer.now) c.args.errors.now)
     (come c.run_lines-ended.new.keeper (g.W.ByteOut.taken c.run_lines-ended.new.writer) c.run_lines-ended.new.errors) c.run_lines-ended.result c.has_failed.result (rw c.in-Ok.ensures at c.run_lines-ended.ensures.answered))
 
-pub returns-clause-works : goal.returns-clause-works
-returns-clause-works g c = λ works. rw c.told_by.ensures (told_works _ c.run_lines-ended.result c.has_failed.result (c.run_lines-ended.ensures.works works))
+pub returns-clause-service : goal.returns-clause-service
+returns-clause-service g c = record {
+  premise = search rules;
+  works = λ works. rw c.told_by.ensures (told_works _ c.run_lines-ended.result c.has_failed.result (c.run_lines-ended.ensures.service.works works));
+}
 
 pub returns-clause-read_cause : goal.returns-clause-read_cause
 returns-clause-read_cause g c = λ is. told_read _ c.run_lines-ended.result c.has_failed.result c.has_failed.ensures.0 (sym c.told_by.ensures ∙ is)

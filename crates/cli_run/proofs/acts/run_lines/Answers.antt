@@ -1,6 +1,5 @@
 use Rattle.std.proofs.Common.{arith, ◌≡◌, ◌+◌, ◌<◌, refl, subst, ℕ, List, [], ◌∷◌, ◌++◌, length, Some, Ok, Err}
 use Rattle.cli_run.specs.Acts.{HasAnsweredLine}
-use Rattle.station_core.specs.Keeping.{keeping}
 use Rattle.station_core.proofs.Premise.{kept_at, kept_on}
 use Rattle.cli_run.specs.InTurn.{come}
 use Rattle.cli_run.proofs.InTurn.{answered_more, length_more}
@@ -25,13 +24,13 @@ loop-number-preserved g c =
     let b = g.R.Read.remaining c.read_until.new.self in
     let some : 0 < length line = omega (arith, c.as_slice-text.ensures.len, c.in-Ok.ensures.ok, c.new-line.ensures.len, c.in-Ok.field-0-test) in
     let front = front_of a c.new-line.result.items c.read_until.new.buf.items line c.new-line.ensures.items c.as_slice-text.ensures.value c.in-Ok.ensures.bytes in
-    let Step = HasAnsweredLine (keeping g.K.Keeper.keeps g.K.Keeper.is_clean g.K.Keeper.is_sound g.K.Keeper.is_broken g.K.Keeper.may_find g.K.Keeper.may_fail) c.args.at g.E.ByteOut.taken in
+    let Step = HasAnsweredLine g.K.Keeper.keeping c.args.at g.E.ByteOut.taken in
     let mid = come c.loop-number.keeper (g.W.ByteOut.taken c.loop-number.writer) c.loop-number.errors in
     let new = come c.answer_line.new.keeper (g.W.ByteOut.taken c.answer_line.new.writer) c.answer_line.new.errors in
     let step = subst (λ (k : ℕ). Step k line mid new (Ok c.in_ok-accepted-in-Ok.accepted)) inv.lines.1 one.answered in
     record {
-      premise = kept_on inv.premise one.premise;
-      works = λ works. one.works (inv.works works);
+      premise = kept_on inv.premise one.service.premise;
+      works = λ works. one.service.works (inv.works works);
       lines = (
         lines ++ line ∷ [],
         omega (arith, inv.lines.1, length_more lines line),
@@ -49,7 +48,7 @@ returns-in_err-accepted-in-Ok-clause-answered g c =
     let b = g.R.Read.remaining c.read_until.new.self in
     let some : 0 < length line = omega (arith, c.as_slice-text.ensures.len, c.in-Ok.ensures.ok, c.new-line.ensures.len, c.in-Ok.field-0-test) in
     let front = front_of a c.new-line.result.items c.read_until.new.buf.items line c.new-line.ensures.items c.as_slice-text.ensures.value c.in-Ok.ensures.bytes in
-    let Step = HasAnsweredLine (keeping g.K.Keeper.keeps g.K.Keeper.is_clean g.K.Keeper.is_sound g.K.Keeper.is_broken g.K.Keeper.may_find g.K.Keeper.may_fail) c.args.at g.E.ByteOut.taken in
+    let Step = HasAnsweredLine g.K.Keeper.keeping c.args.at g.E.ByteOut.taken in
     let mid = come c.loop-number.keeper (g.W.ByteOut.taken c.loop-number.writer) c.loop-number.errors in
     let new = come c.answer_line.new.keeper (g.W.ByteOut.taken c.answer_line.new.writer) c.answer_line.new.errors in
     let e = c.in_err-accepted-in-Ok.field-0.0 in

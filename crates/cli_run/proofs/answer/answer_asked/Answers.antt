@@ -2,7 +2,6 @@ use Rattle.std.proofs.Common.{refl, sym, subst}
 use Rattle.cli_run.specs.declared.asked.Asked.{Asked}
 use Rattle.cli_run.specs.declared.asked.Asked.TheVariants as asked
 use Rattle.cli_run.specs.Shut.{IsAnsweredShut}
-use Rattle.station_core.specs.Keeping.{keeping}
 use Rattle.cli_run.specs.Explained.{HasExplained}
 use Rattle.cli_run.specs.InTurn.{come}
 use Rattle.cli_run.proofs.Reasons.{explained_unasked}
@@ -29,7 +28,7 @@ returns-in-Bad-clause-reopen g c = λ broken.
 
 pub returns-in-Input-clause-reasons : goal.returns-in-Input-clause-reasons
 returns-in-Input-clause-reasons g c =
-    let k = (keeping g.K.Keeper.keeps g.K.Keeper.is_clean g.K.Keeper.is_sound g.K.Keeper.is_broken g.K.Keeper.may_find g.K.Keeper.may_fail) in
+    let k = g.K.Keeper.keeping in
     let old = come c.args.keeper.now (g.O.ByteOut.taken c.args.writer.now) c.args.errors.now in
     let new = come c.answer_input.new.keeper (g.O.ByteOut.taken c.answer_input.new.writer) c.answer_input.new.errors in
     subst (λ (a : Asked). HasExplained c.args.number k a c.args.at g.E.ByteOut.taken old new c.answer_input.result) (sym c.in-Input.is)
@@ -37,7 +36,7 @@ returns-in-Input-clause-reasons g c =
 
 pub returns-in-Refused-clause-reasons : goal.returns-in-Refused-clause-reasons
 returns-in-Refused-clause-reasons g c =
-    let k = (keeping g.K.Keeper.keeps g.K.Keeper.is_clean g.K.Keeper.is_sound g.K.Keeper.is_broken g.K.Keeper.may_find g.K.Keeper.may_fail) in
+    let k = g.K.Keeper.keeping in
     let old = come c.args.keeper.now (g.O.ByteOut.taken c.args.writer.now) c.args.errors.now in
     let new = come c.args.keeper.now (g.O.ByteOut.taken c.answer_refusal.new.writer) c.answer_refusal.new.errors in
     subst (λ (a : Asked). HasExplained c.args.number k a c.args.at g.E.ByteOut.taken old new c.answer_refusal.result) (sym c.in-Refused.is)
@@ -45,7 +44,7 @@ returns-in-Refused-clause-reasons g c =
 
 pub returns-in-Bad-clause-reasons : goal.returns-in-Bad-clause-reasons
 returns-in-Bad-clause-reasons g c =
-    let k = (keeping g.K.Keeper.keeps g.K.Keeper.is_clean g.K.Keeper.is_sound g.K.Keeper.is_broken g.K.Keeper.may_find g.K.Keeper.may_fail) in
+    let k = g.K.Keeper.keeping in
     let old = come c.args.keeper.now (g.O.ByteOut.taken c.args.writer.now) c.args.errors.now in
     let new = come c.args.keeper.now (g.O.ByteOut.taken c.answer_bad.new.writer) c.answer_bad.new.errors in
     subst (λ (a : Asked). HasExplained c.args.number k a c.args.at g.E.ByteOut.taken old new c.answer_bad.result) (sym c.in-Bad.is)
@@ -67,7 +66,7 @@ returns-in-BadLine-clause-reopen g c = λ broken.
 
 pub returns-in-BadLine-clause-reasons : goal.returns-in-BadLine-clause-reasons
 returns-in-BadLine-clause-reasons g c =
-    let k = (keeping g.K.Keeper.keeps g.K.Keeper.is_clean g.K.Keeper.is_sound g.K.Keeper.is_broken g.K.Keeper.may_find g.K.Keeper.may_fail) in
+    let k = g.K.Keeper.keeping in
     let old = come c.args.keeper.now (g.O.ByteOut.taken c.args.writer.now) c.args.errors.now in
     let new = come c.args.keeper.now (g.O.ByteOut.taken c.answer_bad_line.new.writer) c.answer_bad_line.new.errors in
     subst (λ (a : Asked). HasExplained c.args.number k a c.args.at g.E.ByteOut.taken old new c.answer_bad_line.result) (sym c.in-BadLine.is)

@@ -1,4 +1,4 @@
-use Rattle.std.proofs.Common.{subst, ℕ, List}
+use Rattle.std.proofs.Common.{rules, subst, ℕ, List}
 use Rattle.std.specs.Prelude.{string_bytes}
 use Rattle.cli_run.specs.Seen.{has_reason, IsSeen}
 use Rattle.cli_run.proofs.Looks.{all_seen, part_seen}
@@ -17,3 +17,10 @@ returns-in-Ok-clause-stopped g c =
     part_seen _ _ _ _ c.in_ok-bytes.bytes.items (string_bytes seen.text) seen.good (has_reason seen.refusal) c.write_seen.result
     c.in_ok-bytes.ensures.come (subst (λ (bytes : List ℕ). IsSeen bytes (string_bytes seen.text) seen.good (has_reason seen.refusal)) c.as_slice.ensures.value c.in-Ok.ensures)
     c.write_seen.ensures.why c.write_seen.ensures.part
+
+pub returns-in-Ok-clause-writing : goal.returns-in-Ok-clause-writing
+returns-in-Ok-clause-writing g c = record {
+  cause = search rules;
+  told = search rules;
+  untroubled = search rules;
+}

@@ -1,6 +1,5 @@
-use Rattle.std.proofs.Common.{refl, inr, None}
+use Rattle.std.proofs.Common.{rules, refl, inr, None}
 use Rattle.cli_run.specs.Asked.{IsTelegramAsked}
-use Rattle.station_core.specs.Keeping.{keeping}
 use Rattle.cli_run.specs.InTurn.{come}
 use Rattle.cli_run.proofs.Reasons.{explained_run, unexplained, quiet_run}
 use Rattle.cli_run.proofs.Ran.{has_run, has_run_shut, not_come, works_unheard, passed_on, each_heard}
@@ -8,7 +7,7 @@ use Rattle.cli_run.proofs.take.run_take.Goals as goal
 
 pub returns-in-Ok-clause-ran : goal.returns-in-Ok-clause-ran
 returns-in-Ok-clause-ran g c = λ s keeps works sound.
-    has_run IsTelegramAsked (keeping g.K.Keeper.keeps g.K.Keeper.is_clean g.K.Keeper.is_sound g.K.Keeper.is_broken g.K.Keeper.may_find g.K.Keeper.may_fail) s c.args.at
+    has_run IsTelegramAsked g.K.Keeper.keeping s c.args.at
     (come c.args.keeper.now (g.O.ByteOut.taken c.args.writer.now) c.args.errors.now, g.I.ByteIn.given c.args.reader.now)
     (come c.answer_asked.new.keeper (g.O.ByteOut.taken c.answer_asked.new.writer) c.answer_asked.new.errors, g.I.ByteIn.given c.read_input.new.reader)
     c.in_ok-bytes.bytes.items c.in-Ok.asked c.answer_asked.result c.in_ok-bytes.ensures.come (rw c.as_slice.ensures.value at c.in-Ok.ensures)
@@ -32,9 +31,12 @@ returns-in_err-bytes-clause-breaks g c = λ works.
 pub returns-in_err-bytes-clause-read_told : goal.returns-in_err-bytes-clause-read_told
 returns-in_err-bytes-clause-read_told g c = passed_on c.from_residual.result c.in_err-bytes.field-0.0 _ c.from_residual.ensures.1 c.in_err-bytes.ensures.told
 
-pub returns-in_err-bytes-clause-write_told : goal.returns-in_err-bytes-clause-write_told
-returns-in_err-bytes-clause-write_told g c =
-    passed_on c.from_residual.result c.in_err-bytes.field-0.0 _ c.from_residual.ensures.1 (inr (record { failures = refl; idle = refl }))
+pub returns-in_err-bytes-clause-writing : goal.returns-in_err-bytes-clause-writing
+returns-in_err-bytes-clause-writing g c = record {
+  cause = search rules;
+  told = passed_on c.from_residual.result c.in_err-bytes.field-0.0 _ c.from_residual.ensures.1 (inr (record { failures = refl; idle = refl }));
+  untroubled = search rules;
+}
 
 pub returns-in_err-bytes-clause-unwritten : goal.returns-in_err-bytes-clause-unwritten
 returns-in_err-bytes-clause-unwritten g c = passed_on c.from_residual.result c.in_err-bytes.field-0.0 _ c.from_residual.ensures.1 (inr refl)
@@ -44,13 +46,13 @@ returns-in-Ok-clause-read_told g c = each_heard c.answer_asked.result _ _ c.in_o
 
 pub returns-in-Ok-clause-quiet : goal.returns-in-Ok-clause-quiet
 returns-in-Ok-clause-quiet g c =
-    quiet_run None (keeping g.K.Keeper.keeps g.K.Keeper.is_clean g.K.Keeper.is_sound g.K.Keeper.is_broken g.K.Keeper.may_find g.K.Keeper.may_fail) c.in-Ok.asked c.args.at g.E.ByteOut.taken
+    quiet_run None g.K.Keeper.keeping c.in-Ok.asked c.args.at g.E.ByteOut.taken
     (come c.args.keeper.now (g.O.ByteOut.taken c.args.writer.now) c.args.errors.now)
     (come c.answer_asked.new.keeper (g.O.ByteOut.taken c.answer_asked.new.writer) c.answer_asked.new.errors) c.answer_asked.result c.answer_asked.ensures.reasons
 
 pub returns-in-Ok-clause-reasons : goal.returns-in-Ok-clause-reasons
 returns-in-Ok-clause-reasons g c =
-    explained_run IsTelegramAsked (keeping g.K.Keeper.keeps g.K.Keeper.is_clean g.K.Keeper.is_sound g.K.Keeper.is_broken g.K.Keeper.may_find g.K.Keeper.may_fail) c.args.at g.E.ByteOut.taken
+    explained_run IsTelegramAsked g.K.Keeper.keeping c.args.at g.E.ByteOut.taken
     (come c.args.keeper.now (g.O.ByteOut.taken c.args.writer.now) c.args.errors.now, g.I.ByteIn.given c.args.reader.now)
     (come c.answer_asked.new.keeper (g.O.ByteOut.taken c.answer_asked.new.writer) c.answer_asked.new.errors, g.I.ByteIn.given c.read_input.new.reader)
     c.in_ok-bytes.bytes.items c.in-Ok.asked c.answer_asked.result c.in_ok-bytes.ensures.come (rw c.as_slice.ensures.value at c.in-Ok.ensures)
@@ -58,7 +60,7 @@ returns-in-Ok-clause-reasons g c =
 
 pub returns-in_err-bytes-clause-reasons : goal.returns-in_err-bytes-clause-reasons
 returns-in_err-bytes-clause-reasons g c =
-    unexplained IsTelegramAsked (keeping g.K.Keeper.keeps g.K.Keeper.is_clean g.K.Keeper.is_sound g.K.Keeper.is_broken g.K.Keeper.may_find g.K.Keeper.may_fail) c.args.at g.E.ByteOut.taken
+    unexplained IsTelegramAsked g.K.Keeper.keeping c.args.at g.E.ByteOut.taken
     (come c.args.keeper.now (g.O.ByteOut.taken c.args.writer.now) c.args.errors.now, g.I.ByteIn.given c.args.reader.now)
     (come c.args.keeper.now (g.O.ByteOut.taken c.args.writer.now) c.args.errors.now, g.I.ByteIn.given c.read_input.new.reader)
     c.from_residual.result c.in_err-bytes.field-0.0 refl c.from_residual.ensures.1

@@ -1,13 +1,12 @@
 use Rattle.std.proofs.Common.{◌+◌, ◌-◌, sym, subst, arith}
 use Rattle.std.specs.Prelude.{⊤}
-use Rattle.station_core.specs.Keeping.{keeping}
 use Rattle.desk_server.specs.Served.{AtMost}
 use Rattle.desk_server.proofs.Serving.{then_more, wider, counted}
 use Rattle.desk_server.proofs.server.serve.Goals as goal
 
 pub returns-in-Err : goal.returns-in-Err
 returns-in-Err g c =
-    let k = (keeping g.K.Keeper.keeps g.K.Keeper.is_clean g.K.Keeper.is_sound g.K.Keeper.is_broken g.K.Keeper.may_find g.K.Keeper.may_fail) in
+    let k = g.K.Keeper.keeping in
     let most = c.most_of-most.result in
     counted k most c.args.count _ c.args.keeper.now c.serve_places.new.keeper
     (wider k ((most - c.loop.left) + c.loop.left) most _ _ c.args.keeper.now c.serve_places.new.keeper (omega (arith, c.loop.invariant.0)) (λ good. absurd (let no = good in cc))
@@ -16,7 +15,7 @@ returns-in-Err g c =
 
 pub loop-preserved : goal.loop-preserved
 loop-preserved g c =
-    let k = (keeping g.K.Keeper.keeps g.K.Keeper.is_clean g.K.Keeper.is_sound g.K.Keeper.is_broken g.K.Keeper.may_find g.K.Keeper.may_fail) in
+    let k = g.K.Keeper.keeping in
     let most = c.most_of-most.result in
     let done = c.in-Ok.ensures.answered in (
       omega (arith, c.loop.invariant.0),

@@ -1,5 +1,4 @@
 use Rattle.std.proofs.Common.{sym, subst, refl, ℕ, List}
-use Rattle.station_core.specs.Keeping.{keeping}
 use Rattle.http_desk.specs.declared.wanted.Wanted.{Wanted}
 use Rattle.http_desk.specs.declared.wanted.Wanted.TheVariants as wanted
 use Rattle.http_desk.specs.Reply.{look_reply}
@@ -10,19 +9,19 @@ use Rattle.http_desk.proofs.asking.ask.Goals as goal
 
 pub returns-in-Fault-clause-asked : goal.returns-in-Fault-clause-asked
 returns-in-Fault-clause-asked g c = λ s kept works sound.
-    let left = station_after (keeping g.K.Keeper.keeps g.K.Keeper.is_clean g.K.Keeper.is_sound g.K.Keeper.is_broken g.K.Keeper.may_find g.K.Keeper.may_fail) c.args.keeper.now in
+    let left = station_after g.K.Keeper.keeping c.args.keeper.now in
     subst (λ (w : Wanted). HasAsked s c.args.at w c.fault_told.result left) (sym c.in-Fault.is)
     (asked_json s c.args.at (wanted.Fault c.in-Fault.fault) c.fault_told.result left c.fault_told.ensures refl (works, kept))
 
 pub returns-in-Unreadable-clause-asked : goal.returns-in-Unreadable-clause-asked
 returns-in-Unreadable-clause-asked g c = λ s kept works sound.
-    let left = station_after (keeping g.K.Keeper.keeps g.K.Keeper.is_clean g.K.Keeper.is_sound g.K.Keeper.is_broken g.K.Keeper.may_find g.K.Keeper.may_fail) c.args.keeper.now in
+    let left = station_after g.K.Keeper.keeping c.args.keeper.now in
     subst (λ (w : Wanted). HasAsked s c.args.at w c.refusal_told.result left) (sym c.in-Unreadable.is)
     (asked_json s c.args.at (wanted.Unreadable c.in-Unreadable.refusal) c.refusal_told.result left c.refusal_told.ensures refl (works, kept))
 
 pub returns-in-Look-clause-asked : goal.returns-in-Look-clause-asked
 returns-in-Look-clause-asked g c = λ s kept works sound.
-    let left = station_after (keeping g.K.Keeper.keeps g.K.Keeper.is_clean g.K.Keeper.is_sound g.K.Keeper.is_broken g.K.Keeper.may_find g.K.Keeper.may_fail) c.args.keeper.now in
+    let left = station_after g.K.Keeper.keeping c.args.keeper.now in
     subst (λ (w : Wanted). HasAsked s c.args.at w c.look_told.result left) (sym c.in-Look.is)
     (asked_json s c.args.at (wanted.Look c.in-Look.seen) c.look_told.result left (subst (λ (seen : List ℕ). IsToldAs (look_reply seen) c.look_told.result) c.as_str.ensures.value c.look_told.ensures) refl (works, kept))
 

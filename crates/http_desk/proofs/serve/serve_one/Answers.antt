@@ -1,5 +1,4 @@
 use Rattle.std.proofs.Common.{rules, ◌≡◌, ◌∙◌, ap, sym, subst, refl, inl, false, List, ℕ, ◌++◌}
-use Rattle.station_core.specs.Keeping.{keeping}
 use Rattle.http_desk.specs.declared.asking.Told.TheVariants as told
 use Rattle.http_desk.specs.StationAfter.{station_after}
 use Rattle.http_desk.specs.Serving.{added, IsUnfinished}
@@ -14,7 +13,7 @@ returns-in-Ok-clause-served g c = λ s kept works sound.
     let before = g.I.ByteIn.given c.args.reader.now in
     let now = g.I.ByteIn.given c.read_request.new.reader in
     let come : added before now ≡ bytes = added_is before now bytes (c.in-Ok.ensures.come ∙ ap (λ (b : List ℕ). before.bytes ++ b) (sym c.as_slice.ensures.value)) in
-    served_all (keeping g.K.Keeper.keeps g.K.Keeper.is_clean g.K.Keeper.is_sound g.K.Keeper.is_broken g.K.Keeper.may_find g.K.Keeper.may_fail) s c.args.at (added before now) bytes come c.told_for-told.new.keeper c.write_told.new.keeper c.write_told.ensures.reads sound (g.O.ByteOut.taken c.args.writer.now) (g.O.ByteOut.taken c.write_told.new.writer)
+    served_all g.K.Keeper.keeping s c.args.at (added before now) bytes come c.told_for-told.new.keeper c.write_told.new.keeper c.write_told.ensures.reads sound (g.O.ByteOut.taken c.args.writer.now) (g.O.ByteOut.taken c.write_told.new.writer)
     c.told_for-told.result c.write_told.result (c.told_for-told.ensures.told s kept works (c.write_told.ensures.reads.premise.sound sound)) (c.write_told.ensures.written s)
 
 pub returns-in-Ok-clause-told : goal.returns-in-Ok-clause-told
@@ -23,7 +22,7 @@ returns-in-Ok-clause-told g c = λ s kept works sound.
     let before = g.I.ByteIn.given c.args.reader.now in
     let now = g.I.ByteIn.given c.read_request.new.reader in
     let come : added before now ≡ bytes = added_is before now bytes (c.in-Ok.ensures.come ∙ ap (λ (b : List ℕ). before.bytes ++ b) (sym c.as_slice.ensures.value)) in
-    reopen_all (keeping g.K.Keeper.keeps g.K.Keeper.is_clean g.K.Keeper.is_sound g.K.Keeper.is_broken g.K.Keeper.may_find g.K.Keeper.may_fail) s c.args.at (added before now) bytes come c.told_for-told.new.keeper c.write_told.new.keeper c.write_told.ensures.reads sound (g.O.ByteOut.taken c.args.writer.now) (g.O.ByteOut.taken c.write_told.new.writer)
+    reopen_all g.K.Keeper.keeping s c.args.at (added before now) bytes come c.told_for-told.new.keeper c.write_told.new.keeper c.write_told.ensures.reads sound (g.O.ByteOut.taken c.args.writer.now) (g.O.ByteOut.taken c.write_told.new.writer)
     c.told_for-told.result c.write_told.result (c.told_for-told.ensures.told s kept works (c.write_told.ensures.reads.premise.sound sound)) (c.write_told.ensures.written s)
     (c.told_for-told.ensures.tells works)
 
@@ -33,21 +32,21 @@ returns-in-Ok-clause-unavailable g c = λ s kept works sound begins.
     let before = g.I.ByteIn.given c.args.reader.now in
     let now = g.I.ByteIn.given c.read_request.new.reader in
     let come : added before now ≡ bytes = added_is before now bytes (c.in-Ok.ensures.come ∙ ap (λ (b : List ℕ). before.bytes ++ b) (sym c.as_slice.ensures.value)) in
-    unavailable_all (keeping g.K.Keeper.keeps g.K.Keeper.is_clean g.K.Keeper.is_sound g.K.Keeper.is_broken g.K.Keeper.may_find g.K.Keeper.may_fail) s c.args.at (added before now) bytes come c.told_for-told.new.keeper c.write_told.new.keeper c.write_told.ensures.reads sound (g.O.ByteOut.taken c.args.writer.now) (g.O.ByteOut.taken c.write_told.new.writer)
+    unavailable_all g.K.Keeper.keeping s c.args.at (added before now) bytes come c.told_for-told.new.keeper c.write_told.new.keeper c.write_told.ensures.reads sound (g.O.ByteOut.taken c.args.writer.now) (g.O.ByteOut.taken c.write_told.new.writer)
     c.told_for-told.result c.write_told.result (c.told_for-told.ensures.told s kept works (c.write_told.ensures.reads.premise.sound sound)) (c.write_told.ensures.written s) begins
 
 pub returns-in-Err-Memory-clause-served : goal.returns-in-Err-Memory-clause-served
 returns-in-Err-Memory-clause-served g c = λ s kept works sound.
     let before = g.I.ByteIn.given c.args.reader.now in
     let now = g.I.ByteIn.given c.read_request.new.reader in
-    served_all (keeping g.K.Keeper.keeps g.K.Keeper.is_clean g.K.Keeper.is_sound g.K.Keeper.is_broken g.K.Keeper.may_find g.K.Keeper.may_fail) s c.args.at (added before now) (added before now) refl c.args.keeper.now c.write_told-in-Err-Memory.new.keeper c.write_told-in-Err-Memory.ensures.reads sound (g.O.ByteOut.taken c.args.writer.now) (g.O.ByteOut.taken c.write_told-in-Err-Memory.new.writer)
+    served_all g.K.Keeper.keeping s c.args.at (added before now) (added before now) refl c.args.keeper.now c.write_told-in-Err-Memory.new.keeper c.write_told-in-Err-Memory.ensures.reads sound (g.O.ByteOut.taken c.args.writer.now) (g.O.ByteOut.taken c.write_told-in-Err-Memory.new.writer)
     (told.Unavailable false) c.write_told-in-Err-Memory.result (inl (works, kept)) (c.write_told-in-Err-Memory.ensures.written s)
 
 pub returns-in-Err-Memory-clause-told : goal.returns-in-Err-Memory-clause-told
 returns-in-Err-Memory-clause-told g c = λ s kept works sound.
     let before = g.I.ByteIn.given c.args.reader.now in
     let now = g.I.ByteIn.given c.read_request.new.reader in
-    reopen_all (keeping g.K.Keeper.keeps g.K.Keeper.is_clean g.K.Keeper.is_sound g.K.Keeper.is_broken g.K.Keeper.may_find g.K.Keeper.may_fail) s c.args.at (added before now) (added before now) refl c.args.keeper.now c.write_told-in-Err-Memory.new.keeper c.write_told-in-Err-Memory.ensures.reads sound (g.O.ByteOut.taken c.args.writer.now) (g.O.ByteOut.taken c.write_told-in-Err-Memory.new.writer)
+    reopen_all g.K.Keeper.keeping s c.args.at (added before now) (added before now) refl c.args.keeper.now c.write_told-in-Err-Memory.new.keeper c.write_told-in-Err-Memory.ensures.reads sound (g.O.ByteOut.taken c.args.writer.now) (g.O.ByteOut.taken c.write_told-in-Err-Memory.new.writer)
     (told.Unavailable false) c.write_told-in-Err-Memory.result (inl (works, kept)) (c.write_told-in-Err-Memory.ensures.written s)
     (sym works)
 
@@ -55,27 +54,27 @@ pub returns-in-Err-Memory-clause-unavailable : goal.returns-in-Err-Memory-clause
 returns-in-Err-Memory-clause-unavailable g c = λ s kept works sound begins.
     let before = g.I.ByteIn.given c.args.reader.now in
     let now = g.I.ByteIn.given c.read_request.new.reader in
-    unavailable_all (keeping g.K.Keeper.keeps g.K.Keeper.is_clean g.K.Keeper.is_sound g.K.Keeper.is_broken g.K.Keeper.may_find g.K.Keeper.may_fail) s c.args.at (added before now) (added before now) refl c.args.keeper.now c.write_told-in-Err-Memory.new.keeper c.write_told-in-Err-Memory.ensures.reads sound (g.O.ByteOut.taken c.args.writer.now) (g.O.ByteOut.taken c.write_told-in-Err-Memory.new.writer)
+    unavailable_all g.K.Keeper.keeping s c.args.at (added before now) (added before now) refl c.args.keeper.now c.write_told-in-Err-Memory.new.keeper c.write_told-in-Err-Memory.ensures.reads sound (g.O.ByteOut.taken c.args.writer.now) (g.O.ByteOut.taken c.write_told-in-Err-Memory.new.writer)
     (told.Unavailable false) c.write_told-in-Err-Memory.result (inl (works, kept)) (c.write_told-in-Err-Memory.ensures.written s) begins
 
 pub returns-in-Ok-clause-begun : goal.returns-in-Ok-clause-begun
 returns-in-Ok-clause-begun g c = λ s kept works sound.
     let new = c.write_told.new.keeper in
     begun s c.args.at (added (g.I.ByteIn.given c.args.reader.now) (g.I.ByteIn.given c.read_request.new.reader)) (g.O.ByteOut.taken c.args.writer.now) (g.O.ByteOut.taken c.write_told.new.writer)
-    (station_after (keeping g.K.Keeper.keeps g.K.Keeper.is_clean g.K.Keeper.is_sound g.K.Keeper.is_broken g.K.Keeper.may_find g.K.Keeper.may_fail) new) (λ t is found finds. g.met.K.Keeper.settled new t is sound found finds)
+    (station_after g.K.Keeper.keeping new) (λ t is found finds. g.met.K.Keeper.settled new t is sound found finds)
     c.write_told.result (λ is. absurd (c.write_told.ensures.read is)) (returns-in-Ok-clause-served g c s kept works sound)
 
 pub returns-in-Err-Memory-clause-begun : goal.returns-in-Err-Memory-clause-begun
 returns-in-Err-Memory-clause-begun g c = λ s kept works sound.
     let new = c.write_told-in-Err-Memory.new.keeper in
     begun s c.args.at (added (g.I.ByteIn.given c.args.reader.now) (g.I.ByteIn.given c.read_request.new.reader)) (g.O.ByteOut.taken c.args.writer.now) (g.O.ByteOut.taken c.write_told-in-Err-Memory.new.writer)
-    (station_after (keeping g.K.Keeper.keeps g.K.Keeper.is_clean g.K.Keeper.is_sound g.K.Keeper.is_broken g.K.Keeper.may_find g.K.Keeper.may_fail) new) (λ t is found finds. g.met.K.Keeper.settled new t is sound found finds)
+    (station_after g.K.Keeper.keeping new) (λ t is found finds. g.met.K.Keeper.settled new t is sound found finds)
     c.write_told-in-Err-Memory.result (λ is. absurd (c.write_told-in-Err-Memory.ensures.read is)) (returns-in-Err-Memory-clause-served g c s kept works sound)
 
 pub returns-in-Ok-clause-same : goal.returns-in-Ok-clause-same
 returns-in-Ok-clause-same g c = λ broken.
     let same = c.told_for-told.ensures.same broken in
-    c.write_told.ensures.same (ap g.K.Keeper.is_broken same ∙ broken) ∙ same
+    c.write_told.ensures.same (ap g.K.Keeper.keeping.is_broken same ∙ broken) ∙ same
 
 pub returns-in-Ok-clause-reopen : goal.returns-in-Ok-clause-reopen
 returns-in-Ok-clause-reopen g c = λ broken.
@@ -84,7 +83,7 @@ returns-in-Ok-clause-reopen g c = λ broken.
     let now = g.I.ByteIn.given c.read_request.new.reader in
     let come : added before now ≡ bytes = added_is before now bytes (c.in-Ok.ensures.come ∙ ap (λ (b : List ℕ). before.bytes ++ b) (sym c.as_slice.ensures.value)) in
     shut_all c.args.at (added before now) bytes come (g.O.ByteOut.taken c.args.writer.now) (g.O.ByteOut.taken c.write_told.new.writer) c.told_for-told.result c.write_told.result
-    (c.told_for-told.ensures.shut broken) (c.write_told.ensures.shut (ap g.K.Keeper.is_broken (c.told_for-told.ensures.same broken) ∙ broken))
+    (c.told_for-told.ensures.shut broken) (c.write_told.ensures.shut (ap g.K.Keeper.keeping.is_broken (c.told_for-told.ensures.same broken) ∙ broken))
 
 pub returns-in-Err-Memory-clause-reopen : goal.returns-in-Err-Memory-clause-reopen
 returns-in-Err-Memory-clause-reopen g c = λ broken.

@@ -1,12 +1,11 @@
 use Rattle.std.proofs.Common.{refl, inl}
-use Rattle.station_core.specs.Keeping.{keeping}
 use Rattle.http_desk.specs.StationAfter.{station_after}
 use Rattle.http_desk.proofs.Joining.{told_bytes, shut_bytes}
 use Rattle.http_desk.proofs.serve.told_for.Goals as goal
 
 pub returns-in-Ok-clause-told : goal.returns-in-Ok-clause-told
 returns-in-Ok-clause-told g c = λ s kept works sound.
-    told_bytes c.args.bytes.now s c.args.at c.in-Ok.wanted c.ask.result (station_after (keeping g.K.Keeper.keeps g.K.Keeper.is_clean g.K.Keeper.is_sound g.K.Keeper.is_broken g.K.Keeper.may_find g.K.Keeper.may_fail) c.ask.new.keeper) c.in-Ok.ensures (c.ask.ensures.asked s kept works sound)
+    told_bytes c.args.bytes.now s c.args.at c.in-Ok.wanted c.ask.result (station_after g.K.Keeper.keeping c.ask.new.keeper) c.in-Ok.ensures (c.ask.ensures.asked s kept works sound)
 
 pub returns-in-Ok-clause-shut : goal.returns-in-Ok-clause-shut
 returns-in-Ok-clause-shut g c = λ broken.

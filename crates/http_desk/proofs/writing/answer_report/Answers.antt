@@ -10,8 +10,8 @@ pub returns-in-Write-clause-reported : goal.returns-in-Write-clause-reported
 returns-in-Write-clause-reported g c = λ s kept works sound.
     let old = g.O.ByteOut.taken c.args.writer.now in
     let mid = g.O.ByteOut.taken c.write_listing.new.writer in
-    let Works : Type 0 = g.K.Keeper.is_broken c.args.keeper.now ≡ false in
-    let May : Type 0 = g.K.Keeper.may_fail in
+    let Works : Type 0 = g.K.Keeper.keeping.is_broken c.args.keeper.now ≡ false in
+    let May : Type 0 = g.K.Keeper.keeping.may_fail in
     let ended = ended_early Works May s old mid c.in-Err.field-0 c.args.printout c.as_bytes.result.now (c.as_bytes.ensures.value ∙ c.in-Ok.ensures) (c.in-Err.ensures.ended s kept sound) in
     after_write s c.args.printout old mid Works May c.in-Err.field-0 c.in-Write.is ended
 
@@ -19,8 +19,8 @@ pub returns-then-sent-gt0-clause-reported : goal.returns-then-sent-gt0-clause-re
 returns-then-sent-gt0-clause-reported g c = λ s kept works sound.
     let old = g.O.ByteOut.taken c.args.writer.now in
     let mid = g.O.ByteOut.taken c.write_listing.new.writer in
-    let Works : Type 0 = g.K.Keeper.is_broken c.args.keeper.now ≡ false in
-    let May : Type 0 = g.K.Keeper.may_fail in
+    let Works : Type 0 = g.K.Keeper.keeping.is_broken c.args.keeper.now ≡ false in
+    let May : Type 0 = g.K.Keeper.keeping.may_fail in
     let front : List ℕ = c.as_bytes.result.now in
     let is : front ≡ report_head c.args.printout = c.as_bytes.ensures.value ∙ c.in-Ok.ensures in
     let some : length (report_head c.args.printout) < c.in-Err.field-0.sent = some_of_report front c.in-Err.field-0 c.in-Act.fault old mid c.in-Act.is c.in-Err.ensures.writes c.args.printout is (omega arith) in
@@ -31,8 +31,8 @@ pub returns-clause-reported : goal.returns-clause-reported
 returns-clause-reported g c = λ s kept works sound.
     let old = g.O.ByteOut.taken c.args.writer.now in
     let mid = g.O.ByteOut.taken c.write_listing.new.writer in
-    let Works : Type 0 = g.K.Keeper.is_broken c.args.keeper.now ≡ false in
-    let May : Type 0 = g.K.Keeper.may_fail in
+    let Works : Type 0 = g.K.Keeper.keeping.is_broken c.args.keeper.now ≡ false in
+    let May : Type 0 = g.K.Keeper.keeping.may_fail in
     let ended = ended_early Works May s old mid c.in-Err.field-0 c.args.printout c.as_bytes.result.now (c.as_bytes.ensures.value ∙ c.in-Ok.ensures) (c.in-Err.ensures.ended s kept sound) in
     let none : c.in-Err.field-0.sent ≡ 0 = omega arith in
     after_none s c.args.printout old mid Works May c.in-Err.field-0 c.in-Act.fault c.is_reopen.result (g.O.ByteOut.taken c.send_answer-in-Act.new.writer) c.send_answer-in-Act.result

@@ -1,4 +1,4 @@
-use Rattle.std.proofs.Common.{◌≡◌, ◌&&◌, ◌==◌, Ordering, rules, get_or, refl, ◌∙◌}
+use Rattle.std.proofs.Common.{Ordering, rules, get_or, refl, ◌∙◌}
 use Rattle.std.proofs.lemmas.Fn.{always_returns_same}
 use Rattle.shipment_machine.specs.Flights.{same_flight_date}
 use Rattle.shipment_machine.proofs.FlightKeys.{same-sym}

@@ -1,13 +1,9 @@
+use Rattle.std.proofs.Common.{rules}
 use Rattle.reports.specs.Lines.{manifest_line}
 use Rattle.reports.specs.Manifest.{manifest_rows}
 use Rattle.reports.specs.Objects.{manifest_data}
-use Rattle.reports.proofs.Handing.{one_ended, one_each, only}
+use Rattle.reports.proofs.Handing.{reported_these}
 use Rattle.reports.proofs.reports.write_manifest.Goals as goal
 
-pub returns-clause-ended : goal.returns-clause-ended
-returns-clause-ended g c = λ s keeps sound.
-    one_ended manifest_line manifest_data c.args.form (manifest_rows s.cargo c.args.flight.now) _ _ _ _ _ _ (c.write_all.ensures.ended s keeps sound)
-
-pub returns-clause-each : goal.returns-clause-each
-returns-clause-each g c = λ s keeps sound.
-    one_each manifest_line manifest_data c.args.form (manifest_rows s.cargo c.args.flight.now) _ _ _ _ _ _ (c.write_all.ensures.each s keeps sound (only (manifest_rows s.cargo c.args.flight.now)))
+pub returns : goal.returns
+returns g c = reported_these _ manifest_line manifest_data c.args.form (λ rows. rows) (λ s. manifest_rows s.cargo c.args.flight.now) _ _ _ _ (λ row. search rules) c.write_all.ensures

@@ -1,7 +1,7 @@
 use Rattle.std.proofs.Common.{◌∙◌, sym, ap, Option, Some, None, option_map, option_copied, int_eq, to_z-of_z}
 use Rattle.std.specs.List.{find}
-use Rattle.table_rows.specs.Meant.{count_meant}
-use Rattle.table_rows.specs.declared.counts.CountRow.{CountRow}
+use Rattle.station_rows.specs.Meant.{count_meant}
+use Rattle.station_rows.specs.declared.counts.CountRow.{CountRow}
 use Rattle.row_codec.specs.Counts.{Running, running_in}
 use Rattle.running_totals.specs.declared.tally.Tally.{Tally}
 use Rattle.running_totals.proofs.Found.{tally_found}

@@ -1,6 +1,6 @@
 use Rattle.std.proofs.Common.{◌∙◌, ap, map, option_map, w64, of_z, to_z, to_z-of_z}
 use Rattle.std.specs.FinMap.{get}
-use Rattle.table_rows.specs.Meant.{count_meant}
+use Rattle.station_rows.specs.Meant.{count_meant}
 use Rattle.station_schema.specs.Tables.{CountKey}
 use Rattle.row_codec.specs.Counts.{running_in}
 use Rattle.running_totals.proofs.counting.counted.Goals as goal

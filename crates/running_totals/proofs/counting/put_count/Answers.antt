@@ -1,5 +1,5 @@
 use Rattle.std.proofs.Common.{sym, subst, ◌∙◌, to_z-of_z}
-use Rattle.table_rows.specs.Meant.{without_count, changing_count, with_count}
+use Rattle.station_rows.specs.Meant.{without_count, changing_count, with_count}
 use Rattle.station_rows.specs.Clauses.{ShowsChange}
 use Rattle.station_schema.specs.Tables.{Count, CountKey}
 use Rattle.row_codec.specs.Counts.{count_row}

@@ -1,6 +1,6 @@
 use Rattle.std.proofs.Common.{◌≡◌, [], drop, get_or, pos, sym, subst, arith, rules, FitsSigned, w64, to_z-of_z}
 use Rattle.std.proofs.lemmas.List.{drop_all, length-drop}
-use Rattle.table_rows.specs.declared.counts.CountRow.{CountRow}
+use Rattle.station_rows.specs.declared.counts.CountRow.{CountRow}
 use Rattle.running_totals.proofs.EachWaybill.{Lists, none_listed, one_step, all_listed, rest_is}
 use Rattle.running_totals.proofs.listing.waybills_by.Goals as goal
 

@@ -2,7 +2,7 @@ use Rattle.std.proofs.Common.{◌≡◌, ◌≤◌, ◌-◌, List, drop, length,
 use Rattle.std.specs.FinMap.{FinMap, entries}
 use Rattle.shipment_machine.specs.declared.moves.Move.{Move}
 use Rattle.station_schema.specs.Tables.{Count, count_cmp}
-use Rattle.table_rows.specs.Meant.{count_meant}
+use Rattle.station_rows.specs.Meant.{count_meant}
 use Rattle.row_codec.specs.Counts.{AreCounts}
 use Rattle.running_totals.proofs.EachWaybill.{Lists}
 use Rattle.running_totals.proofs.listing.waybills_by.Given as goal

@@ -1,6 +1,6 @@
 use Rattle.std.proofs.Common.{◌≡◌, take, map}
 use Rattle.std.specs.List.{filter}
-use Rattle.table_rows.specs.Meant.{build_meant}
+use Rattle.station_rows.specs.Meant.{build_meant}
 use Rattle.running_totals.specs.Loaded.{load_said, row_said, is_loaded}
 use Rattle.running_totals.proofs.loading.loads_in.Given as goal
 

@@ -1,14 +1,15 @@
 use Rattle.std.proofs.Common.{◌∙◌, ℕ, ℤ, pos, int_lt, List, length, ap, ap₂, map, rules, FitsSigned, w64, to_z-of_z}
 use Rattle.std.specs.List.{filter}
 use Rattle.std.specs.FinMap.{entries}
-use Rattle.table_rows.specs.Meant.{is_on, pieces_in}
+use Rattle.station_rows.specs.Meant.{is_on, pieces_in}
 use Rattle.running_totals.proofs.FlightRows.{number_is}
+use Rattle.running_totals.proofs.Stores.{made_of}
 use Rattle.running_totals.proofs.loading.waybills_on.Goals as goal
 
-pub returns-clause-value : goal.returns-clause-value
-returns-clause-value g c x shows sound book are =
+pub returns : goal.returns
+returns g c = made_of (g.S.TableStore.view c.args.store.now) _ _ _ c.in_ok-pieces.ensures (λ x shows sound book are.
     let day_fits : FitsSigned w64 c.whole-day.result = search rules in
     let read = c.deref.ensures.value ∙ c.in_ok-pieces.ensures.read x shows sound
     ∙ ap₂ (λ (text : List ℕ) (day : ℤ). map pieces_in (filter (is_on text day) (entries x.now.builds))) (c.as_str.ensures.value ∙ c.in_ok-text.ensures.value) (to_z-of_z day_fits ∙ c.whole-day.ensures ∙ ap pos c.number.ensures.value) in
     c.count_loaded.ensures ∙ ap (λ (all : List ℤ). length (filter (int_lt (pos 0)) all)) read
-    ∙ number_is x.now.builds book c.args.flight.now c.written.ensures.designator are
+    ∙ number_is x.now.builds book c.args.flight.now c.written.ensures.designator are)

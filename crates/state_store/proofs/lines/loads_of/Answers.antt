@@ -2,13 +2,12 @@ use Rattle.std.proofs.Common.{map, sym, ap, ◌∙◌}
 use Rattle.shipment_machine.specs.Book.{waybills_on}
 use Rattle.state_store.specs.Lines.{aboard_of}
 use Rattle.station_core.specs.Told.{load_on}
-use Rattle.state_store.proofs.Walks.{map_twice}
+use Rattle.state_store.proofs.Walks.{map_twice, reads_then}
 use Rattle.state_store.proofs.lines.loads_of.Goals as goal
 
-pub returns-in-Some-clause-value : goal.returns-in-Some-clause-value
-returns-in-Some-clause-value g c = λ x shows sound.
-    let s = x.now.cargo in
+pub returns-in-Some : goal.returns-in-Some
+returns-in-Some g c =
     let flight = c.args.flight.now in
-    c.in-Some.ensures.value ∙ c.in_ok-rows.ensures.value x (c.in_ok-aboard.ensures.same x shows) sound
-    ∙ ap (map (aboard_of s)) (c.deref.ensures.value ∙ c.in_ok-aboard.ensures.value x shows (c.declared_loads.ensures.survives.sound sound))
-    ∙ sym (map_twice (aboard_of s) (load_on s.book flight) (waybills_on s.book flight))
+    reads_then _ _ _ _ _ _ c.in_ok-aboard.ensures c.in_ok-rows.ensures (λ s listed rows. c.in-Some.ensures.value ∙ rows
+    ∙ ap (map (aboard_of s.cargo)) (c.deref.ensures.value ∙ listed)
+    ∙ sym (map_twice (aboard_of s.cargo) (load_on s.cargo.book flight) (waybills_on s.cargo.book flight)))

@@ -1,13 +1,7 @@
-use Rattle.std.proofs.Common.{◌≡◌, take, map}
+use Rattle.std.proofs.Common.{◌≡◌, Ok, take, map}
 use Rattle.station_core.specs.Readers.{flight_row}
-use Rattle.station_core.specs.Step.{State}
-use Rattle.state_store.specs.Store.{at_rest, Survives}
+use Rattle.state_store.specs.Store.{ReadsAtRest}
 use Rattle.state_store.proofs.telling.flights_among.Given as goal
 
 abbrev pub invariant-loop-noted : goal.invariant-loop-noted
-invariant-loop-noted g l = record {
-  survives : Survives g.S.StateStore.is_clean g.S.StateStore.is_sound g.S.StateStore.may_find l.fn.store l.store;
-  rests : (s : State) → g.S.StateStore.shows l.fn.store (at_rest s) → g.S.StateStore.shows l.store (at_rest s);
-  value : (s : State) → g.S.StateStore.shows l.fn.store (at_rest s) → g.S.StateStore.is_sound l.store
-      → l.rows.items ≡ map (flight_row s.cargo) (take l.noted-index l.flights);
-}
+invariant-loop-noted g l = ReadsAtRest {E = Unit {0}} g.S.StateStore.storing l.fn.store l.store (Ok l.rows.items) (λ s rows. rows ≡ map (flight_row s.cargo) (take l.noted-index l.flights))

@@ -10,7 +10,7 @@ use Rattle.station_core.specs.Told.{shed_by}
 use Rattle.state_store.specs.declared.query.WaybillQuery.TheVariants.{Stored}
 use Rattle.state_store.proofs.Listed.{rows_of}
 use Rattle.state_store.proofs.Stored.{stored_is}
-use Rattle.state_store.proofs.Walks.{told_so}
+use Rattle.state_store.proofs.Walks.{rests_then}
 use Rattle.state_store.proofs.telling.shed_rows.Goals as goal
 
 -- the row of a waybill with so much in store
@@ -24,11 +24,8 @@ with_stored s w stored = record {
   notified = (declaration s w).notified;
 }
 
-pub returns-clause-value : goal.returns-clause-value
-returns-clause-value g c = λ s shows law sound.
-    let listed = c.in_ok-waybills.ensures.value s shows (c.shed_among.ensures.survives.sound sound) in
+pub returns : goal.returns
+returns g c = rests_then g.S.StateStore.storing _ _ _ _ c.in_ok-waybills.ensures c.shed_among.ensures (λ s listed rows are law.
     let stored = λ (w : ℕ). stored_is s.cargo.book w (c.conservation_law.ensures s.cargo w law) in
-    told_so _ _ c.shed_among.result
-    (λ rows are. are ∙ ap (map (shed_by s.cargo)) (c.deref.ensures.value ∙ listed)
+    are ∙ ap (map (shed_by s.cargo)) (c.deref.ensures.value ∙ listed)
     ∙ rows_of (shed_by s.cargo) Stored s.cargo.book (is_in_shed s.cargo) (shed_row s.cargo) (λ w. ap (λ (a : Amount). nat_lt 0 a.pieces) (stored w)) (λ w. ap (with_stored s.cargo w) (stored w)) (waybills_of s.cargo.book))
-    (c.shed_among.ensures.value s (c.in_ok-waybills.ensures.rests s shows) sound)

@@ -1,8 +1,6 @@
 use Rattle.shipment_machine.specs.declared.view.Rows.TheVariants as rows
+use Rattle.state_store.proofs.Walks.{reads_then}
 use Rattle.state_store.proofs.viewing.manifest_rows.Goals as goal
 
-pub returns-clause-value : goal.returns-clause-value
-returns-clause-value g c = λ x shows sound.
-    let waybill = c.in_ok-waybill.ensures.value x shows (c.flight_view.ensures.survives.sound sound) in
-    let beside = c.in_ok-beside.ensures.value x (c.in_ok-waybill.ensures.same x shows) sound in
-    λ i. rows.Manifest (waybill i) (beside i)
+pub returns : goal.returns
+returns g c = reads_then g.S.StateStore.storing _ _ _ _ _ c.in_ok-waybill.ensures c.in_ok-beside.ensures (λ s waybill beside i. rows.Manifest (waybill i) (beside i))

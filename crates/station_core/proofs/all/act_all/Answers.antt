@@ -27,7 +27,7 @@ loop-input-preserved g c =
       count = omega (arith, ap length c.in-Ok-push.ensures.items, ap length c.try_reserve.ensures.items, c.loop-input.invariant.count, length-append c.try_reserve.new.self.items (c.in-Ok.answer ∷ []));
       works = λ works. c.in-Ok.ensures.works (c.loop-input.invariant.works works);
       idle = λ broken.
-          let still : g.K.Keeper.is_broken c.loop-input.keeper ≡ true = subst (λ keeper. g.K.Keeper.is_broken keeper ≡ true) (sym (c.loop-input.invariant.idle broken).1) broken in
+          let still : g.K.Keeper.keeping.is_broken c.loop-input.keeper ≡ true = subst (λ keeper. g.K.Keeper.keeping.is_broken keeper ≡ true) (sym (c.loop-input.invariant.idle broken).1) broken in
           absurd (never_both (c.in-Ok.ensures.reopen still).0);
       premise = kept_on c.loop-input.invariant.premise c.answer_one.ensures.premise;
       told = λ s keeps works sound.
@@ -40,5 +40,5 @@ loop-input-preserved g c =
       state = λ s keeps works sound.
           let before = c.answer_one.ensures.premise.sound sound in
           let given = c.in-Ok.ensures.answers (after_all s (take at c.args.inputs.now)) (c.loop-input.invariant.state s keeps works before) (c.loop-input.invariant.works works) sound in
-          subst (g.K.Keeper.keeps c.answer_one.new.keeper) (state_after s c.args.inputs.now at c.input-item.result c.loop-input-test.true c.input-item.is) given.1;
+          subst (g.K.Keeper.keeping.keeps c.answer_one.new.keeper) (state_after s c.args.inputs.now at c.input-item.result c.loop-input-test.true c.input-item.is) given.1;
     }

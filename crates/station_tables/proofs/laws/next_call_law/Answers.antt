@@ -1,7 +1,7 @@
 use Rattle.std.proofs.Common.{refl}
 use Rattle.sqlite.specs.Held.{state}
 use Rattle.station_rows.specs.Own.{are_declared}
-use Rattle.station_rows.specs.Shown.{rows_view}
+use Rattle.station_rows.specs.View.{rows_view}
 use Rattle.station_tables.specs.Attached.{connection_in}
 use Rattle.station_tables.specs.Found.{Finds}
 use Rattle.station_tables.proofs.Looked.{either}

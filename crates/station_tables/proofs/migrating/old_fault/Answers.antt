@@ -1,7 +1,7 @@
 use Rattle.std.proofs.Common.{subst}
 use Rattle.table_load.specs.Reading.{read_as}
 use Rattle.table_load.specs.declared.station.FileVersion.TheVariants.{First}
-use Rattle.file_audit.specs.Verdict.{IsUnfit}
+use Rattle.table_audits.specs.Verdict.{IsUnfit}
 use Rattle.station_tables.proofs.migrating.old_fault.Goals as goal
 
 pub returns-in-Unlawful-clause-refuses : goal.returns-in-Unlawful-clause-refuses

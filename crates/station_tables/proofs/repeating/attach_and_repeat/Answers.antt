@@ -17,24 +17,24 @@ returns-in-Ok-clause-repeated g c =
 pub returns-in-Ok-clause-own : goal.returns-in-Ok-clause-own
 returns-in-Ok-clause-own g c =
     let station = ghosts g.row.S g.S.Alter g.S.Alter-dict g.S.Store g.S.Store-dict in
-    sound_on _ c.args.input.now c.args.at station.keeps station.is_sound (λ k. HasCleanDisk (state g.S.Store (connection_in k))) c.in-Ok.station _ c.in-Ok.ensures.found (IsOwn (state g.S.Store c.args.conn).now.trees) (LiesInOrder g.S.Store)
+    sound_on _ c.args.input.now c.args.at station.keeping.keeps station.keeping.is_sound (λ k. HasCleanDisk (state g.S.Store (connection_in k))) c.in-Ok.station _ c.in-Ok.ensures.found (IsOwn (state g.S.Store c.args.conn).now.trees) (LiesInOrder g.S.Store)
     (λ clean own lies. (clean, c.in-Ok.ensures.own clean own, lies)) c.repeat_on.ensures.clean c.repeat_on.ensures.still
 
 pub returns-in-Ok-clause-refused : goal.returns-in-Ok-clause-refused
 returns-in-Ok-clause-refused g c =
     let station = ghosts g.row.S g.S.Alter g.S.Alter-dict g.S.Store g.S.Store-dict in
-    refuses_on _ c.args.input.now c.args.at station.keeps station.is_sound (λ k. HasCleanDisk (state g.S.Store (connection_in k))) c.in-Ok.station _ c.in-Ok.ensures.found (λ conn. HasCleanDisk (state g.S.Store conn)) c.repeat_on.ensures.fault
+    refuses_on _ c.args.input.now c.args.at station.keeping.keeps station.keeping.is_sound (λ k. HasCleanDisk (state g.S.Store (connection_in k))) c.in-Ok.station _ c.in-Ok.ensures.found (λ conn. HasCleanDisk (state g.S.Store conn)) c.repeat_on.ensures.fault
 
 pub returns-in-Ok-clause-leaves : goal.returns-in-Ok-clause-leaves
 returns-in-Ok-clause-leaves g c =
     let station = ghosts g.row.S g.S.Alter g.S.Alter-dict g.S.Store g.S.Store-dict in
-    left_on _ c.args.input.now c.args.at station.keeps station.is_sound (λ k. HasCleanDisk (state g.S.Store (connection_in k))) c.in-Ok.station _ c.in-Ok.ensures.found (λ conn. HasCleanDisk (state g.S.Store conn)) (λ conn. Finds (connection_view g.S.Store conn)) _
+    left_on _ c.args.input.now c.args.at station.keeping.keeps station.keeping.is_sound (λ k. HasCleanDisk (state g.S.Store (connection_in k))) c.in-Ok.station _ c.in-Ok.ensures.found (λ conn. HasCleanDisk (state g.S.Store conn)) (λ conn. Finds (connection_view g.S.Store conn)) _
     (IsOwn (state g.S.Store c.args.conn).now.trees) (LiesInOrder g.S.Store) (λ clean own lies. (clean, c.in-Ok.ensures.own clean own, lies)) c.repeat_on.ensures.left_clean c.repeat_on.ensures.leaves
 
 pub returns-in-Ok-clause-spares : goal.returns-in-Ok-clause-spares
 returns-in-Ok-clause-spares g c =
     let station = ghosts g.row.S g.S.Alter g.S.Alter-dict g.S.Store g.S.Store-dict in
-    spared_on _ c.args.input.now c.args.at station.keeps station.is_sound (λ k. HasCleanDisk (state g.S.Store (connection_in k))) c.in-Ok.station _ c.in-Ok.ensures.found (λ conn. HasCleanDisk (state g.S.Store conn)) (λ conn. Finds (connection_view g.S.Store conn)) _ c.repeat_on.ensures.left_clean
+    spared_on _ c.args.input.now c.args.at station.keeping.keeps station.keeping.is_sound (λ k. HasCleanDisk (state g.S.Store (connection_in k))) c.in-Ok.station _ c.in-Ok.ensures.found (λ conn. HasCleanDisk (state g.S.Store conn)) (λ conn. Finds (connection_view g.S.Store conn)) _ c.repeat_on.ensures.left_clean
 
 pub returns-in-Err-clause-leaves : goal.returns-in-Err-clause-leaves
 returns-in-Err-clause-leaves g c = λ clean own lies found finds. inl (c.in-Err.ensures.leaves clean found finds)
@@ -45,7 +45,7 @@ returns-in-Err-clause-spares g c = λ clean none found finds. c.in-Err.ensures.l
 pub returns-in-Ok-clause-memory : goal.returns-in-Ok-clause-memory
 returns-in-Ok-clause-memory g c =
     let station = ghosts g.row.S g.S.Alter g.S.Alter-dict g.S.Store g.S.Store-dict in
-    memory_on _ c.args.input.now c.args.at station.keeps station.is_sound (λ k. HasCleanDisk (state g.S.Store (connection_in k))) c.in-Ok.station _ c.in-Ok.ensures.found (λ conn. HasCleanDisk (state g.S.Store conn)) (λ conn. Finds (connection_view g.S.Store conn)) _
+    memory_on _ c.args.input.now c.args.at station.keeping.keeps station.keeping.is_sound (λ k. HasCleanDisk (state g.S.Store (connection_in k))) c.in-Ok.station _ c.in-Ok.ensures.found (λ conn. HasCleanDisk (state g.S.Store conn)) (λ conn. Finds (connection_view g.S.Store conn)) _
     (IsOwn (state g.S.Store c.args.conn).now.trees) (LiesInOrder g.S.Store) (λ clean own lies. (clean, c.in-Ok.ensures.own clean own, lies)) c.repeat_on.ensures.left_clean c.repeat_on.ensures.memory
 
 pub returns-in-Err-clause-memory : goal.returns-in-Err-clause-memory
@@ -54,7 +54,7 @@ returns-in-Err-clause-memory g c = λ is clean own lies found finds. inl (c.in-E
 pub returns-in-Ok-clause-untouched : goal.returns-in-Ok-clause-untouched
 returns-in-Ok-clause-untouched g c =
     let station = ghosts g.row.S g.S.Alter g.S.Alter-dict g.S.Store g.S.Store-dict in
-    untouched_on _ c.args.input.now c.args.at station.keeps station.is_sound (λ k. HasCleanDisk (state g.S.Store (connection_in k))) c.in-Ok.station _ c.in-Ok.ensures.found (λ conn. HasCleanDisk (state g.S.Store conn))
+    untouched_on _ c.args.input.now c.args.at station.keeping.keeps station.keeping.is_sound (λ k. HasCleanDisk (state g.S.Store (connection_in k))) c.in-Ok.station _ c.in-Ok.ensures.found (λ conn. HasCleanDisk (state g.S.Store conn))
     (λ conn. Survives (state g.S.Store c.args.conn) (state g.S.Store conn) (λ _. ⊥)) c.repeat_on.ensures.left_clean
 
 pub returns-in-Err-clause-untouched : goal.returns-in-Err-clause-untouched

@@ -14,7 +14,7 @@ returns-in-Err-clause-stopped g c = λ s keeps works sound.
     inr (record {
       why = keeper_cause c.in-Err.fault _ c.keeper_fault.ensures;
       nothing = refl;
-      memory = λ is. still_kept s input c.args.at c.in-Err.fault (g.K.Keeper.keeps c.answer_one.new.keeper) (c.in-Err.ensures.answers s keeps works sound) (sym c.keeper_fault.ensures ∙ is);
+      memory = λ is. still_kept s input c.args.at c.in-Err.fault (g.K.Keeper.keeping.keeps c.answer_one.new.keeper) (c.in-Err.ensures.answers s keeps works sound) (sym c.keeper_fault.ensures ∙ is);
       states = λ found left. ⊎_elim (λ before. inl before) (λ store. inr (c.keeper_fault.ensures ∙ store.0, store.1))
           (found_row s (fields_of c.args.row.now) c.args.at c.in-Some.asked c.in-Err.fault found (sym c.read_row.ensures ∙ c.in-Some.is) (c.in-Err.ensures.leaves s keeps works sound found left));
     })

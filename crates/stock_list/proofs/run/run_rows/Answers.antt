@@ -49,9 +49,6 @@ overflow_add-number g c =
     let left : 0 < c.loop-row.row-iterator.left = inv.left in
     omega (arith, bound, left)
 
-pub returns-in_err-accepted-in-Ok-clause-premise : goal.returns-in_err-accepted-in-Ok-clause-premise
-returns-in_err-accepted-in-Ok-clause-premise g c = kept_on c.loop-row.invariant.premise c.answer_listed.ensures.premise
-
 pub loop-row-preserved : goal.loop-row-preserved
 loop-row-preserved g c =
     let inv = c.loop-row.invariant in
@@ -67,37 +64,28 @@ loop-row-preserved g c =
       left = step.2;
       config = step.0.2 ∙ inv.config;
       counted = omega (arith, bound, fewer);
-      premise = kept_on inv.premise c.answer_listed.ensures.premise;
-      works = λ works. c.in_ok-accepted-in-Ok.ensures.works (inv.works works);
+      premise = kept_on inv.premise c.answer_listed.ensures.service.premise;
+      works = λ works. c.in_ok-accepted-in-Ok.ensures.service.works (inv.works works);
       untroubled = untroubled_more (g.W.ByteOut.taken c.args.writer.now) (g.W.ByteOut.taken c.loop-row.writer) (g.W.ByteOut.taken c.answer_listed.new.writer)
-          inv.untroubled c.in_ok-accepted-in-Ok.ensures.untroubled;
+          inv.untroubled c.in_ok-accepted-in-Ok.ensures.writing.untroubled;
       quiet = quiet_more g.E.ByteOut.taken (row_asks f) c.loop-row.good c.in_ok-accepted-in-Ok.accepted c.args.errors.now c.loop-row.errors c.answer_listed.new.errors
           inv.quiet c.in_ok-accepted-in-Ok.ensures.reasons;
-      same = λ broken. c.answer_listed.ensures.same (ap g.K.Keeper.is_broken (inv.same broken) ∙ broken) ∙ inv.same broken;
+      same = λ broken. c.answer_listed.ensures.same (ap g.K.Keeper.keeping.is_broken (inv.same broken) ∙ broken) ∙ inv.same broken;
       rows = (
         rows ++ f ∷ [],
         counted_more c.loop-row.number rows f inv.rows.1,
         known_more g.R.Read.remaining c.loop-row.row-iterator.rdr c.next.new.self.rdr f rows (g.R.Read.remaining c.args.reader) inv.config step.0 inv.rows.2,
         λ s keeps works sound.
-            let run = inv.rows.3 s keeps works (c.answer_listed.ensures.premise.sound sound) in
+            let run = inv.rows.3 s keeps works (c.answer_listed.ensures.service.premise.sound sound) in
             run_more s rows f c.args.at c.loop-row.number c.loop-row.good c.in_ok-accepted-in-Ok.accepted _ _ _ _ _ inv.rows.1 run
             (c.in_ok-accepted-in-Ok.ensures.answered (rows_after s rows c.args.at) run.state (inv.works works) sound),
         λ broken. shut_more rows f c.loop-row.number c.loop-row.good c.in_ok-accepted-in-Ok.accepted (g.W.ByteOut.taken c.args.writer.now).bytes
             (g.W.ByteOut.taken c.loop-row.writer) (g.W.ByteOut.taken c.answer_listed.new.writer) inv.rows.1 (inv.rows.4 broken)
-            (c.in_ok-accepted-in-Ok.ensures.reopen (ap g.K.Keeper.is_broken (inv.same broken) ∙ broken)),
+            (c.in_ok-accepted-in-Ok.ensures.reopen (ap g.K.Keeper.keeping.is_broken (inv.same broken) ∙ broken)),
         told_more g.E.ByteOut.taken rows f c.in_ok-accepted-in-Ok.accepted (g.E.ByteOut.taken c.args.errors.now).bytes c.loop-row.errors c.answer_listed.new.errors
             inv.rows.5 c.in_ok-accepted-in-Ok.ensures.reasons,
       );
     }
-
-pub returns-in-Err-clause-premise : goal.returns-in-Err-clause-premise
-returns-in-Err-clause-premise g c = c.loop-row.invariant.premise
-
-pub returns-clause-premise : goal.returns-clause-premise
-returns-clause-premise g c = c.loop-row.invariant.premise
-
-pub returns-clause-works : goal.returns-clause-works
-returns-clause-works g c = c.loop-row.invariant.works
 
 pub returns-in-Err-clause-breaks : goal.returns-in-Err-clause-breaks
 returns-in-Err-clause-breaks g c = λ works. works_still _ c.list_fault.result _ c.list_fault.ensures (c.loop-row.invariant.works works)
@@ -134,7 +122,7 @@ returns-in_err-accepted-in-Ok-clause-stopped g c = λ s keeps works sound.
     let rows : List Row = inv.rows.0 in
     let f : Row = fields_of c.in-Ok.row in
     let step = rw (c.in-Some.is, c.in-Ok.is) at ((c.next.ensures.steps inv.left inv.trim).0 inv.ready) in
-    let run = inv.rows.3 s keeps works (c.answer_listed.ensures.premise.sound sound) in
+    let run = inv.rows.3 s keeps works (c.answer_listed.ensures.service.premise.sound sound) in
     let known = known_more g.R.Read.remaining c.loop-row.row-iterator.rdr c.next.new.self.rdr f rows (g.R.Read.remaining c.args.reader) inv.config step.0 inv.rows.2 in
     let stopped = c.in_err-accepted-in-Ok.ensures.stopped (rows_after s rows c.args.at) run.state (inv.works works) sound in
     passed_on c.from_residual.result c.in_err-accepted-in-Ok.field-0.0 _ c.from_residual.ensures.1 (
@@ -144,34 +132,10 @@ returns-in_err-accepted-in-Ok-clause-stopped g c = λ s keeps works sound.
         (
           known_first g.R.Read.remaining c.next.new.self.rdr (rows ++ f ∷ []) (g.R.Read.remaining c.args.reader) known,
           stops_more s rows f c.args.at c.loop-row.number c.loop-row.good _ _ _ _ _
-              (kept (g.K.Keeper.keeps c.answer_listed.new.keeper) (g.K.Keeper.may_find c.answer_listed.new.keeper)) inv.rows.1 run stopped,
+              (kept (g.K.Keeper.keeping.keeps c.answer_listed.new.keeper) (g.K.Keeper.keeping.may_find c.answer_listed.new.keeper)) inv.rows.1 run stopped,
         ),
       ),
     )
-
-pub returns-in-Err-clause-write_cause : goal.returns-in-Err-clause-write_cause
-returns-in-Err-clause-write_cause g c = λ is. no_write _ c.list_fault.result _ c.list_fault.ensures is
-
-pub returns-in_err-accepted-in-Ok-clause-write_cause : goal.returns-in_err-accepted-in-Ok-clause-write_cause
-returns-in_err-accepted-in-Ok-clause-write_cause g c = λ is.
-    let old = g.W.ByteOut.taken c.args.writer.now in
-    let new = g.W.ByteOut.taken c.answer_listed.new.writer in
-    passed_cause c.from_residual.result c.in_err-accepted-in-Ok.field-0.0 (HasCause old new) c.from_residual.ensures.1
-    (λ write. cause_behind old (g.W.ByteOut.taken c.loop-row.writer) new c.loop-row.invariant.untroubled (c.in_err-accepted-in-Ok.ensures.write_cause (ap Err write))) is
-
-pub returns-in-Err-clause-write_told : goal.returns-in-Err-clause-write_told
-returns-in-Err-clause-write_told g c = inr c.loop-row.invariant.untroubled
-
-pub returns-in_err-accepted-in-Ok-clause-write_told : goal.returns-in_err-accepted-in-Ok-clause-write_told
-returns-in_err-accepted-in-Ok-clause-write_told g c =
-    let old = g.W.ByteOut.taken c.args.writer.now in
-    let mid = g.W.ByteOut.taken c.loop-row.writer in
-    let new = g.W.ByteOut.taken c.answer_listed.new.writer in
-    passed_on c.from_residual.result c.in_err-accepted-in-Ok.field-0.0 _ c.from_residual.ensures.1
-    (told_behind c.in_err-accepted-in-Ok.field-0.0 old mid new c.loop-row.invariant.untroubled c.in_err-accepted-in-Ok.ensures.write_told)
-
-pub returns-clause-untroubled : goal.returns-clause-untroubled
-returns-clause-untroubled g c = c.loop-row.invariant.untroubled
 
 pub returns-in-Err-clause-same : goal.returns-in-Err-clause-same
 returns-in-Err-clause-same g c = c.loop-row.invariant.same
@@ -182,7 +146,7 @@ returns-clause-same g c = c.loop-row.invariant.same
 pub returns-in_err-accepted-in-Ok-clause-same : goal.returns-in_err-accepted-in-Ok-clause-same
 returns-in_err-accepted-in-Ok-clause-same g c = λ broken.
     let same = c.loop-row.invariant.same broken in
-    c.answer_listed.ensures.same (ap g.K.Keeper.is_broken same ∙ broken) ∙ same
+    c.answer_listed.ensures.same (ap g.K.Keeper.keeping.is_broken same ∙ broken) ∙ same
 
 pub returns-clause-reopen : goal.returns-clause-reopen
 returns-clause-reopen g c = λ broken.
@@ -217,7 +181,7 @@ returns-in_err-accepted-in-Ok-clause-reopen g c = λ broken.
     let mid = g.W.ByteOut.taken c.loop-row.writer in
     let new = g.W.ByteOut.taken c.answer_listed.new.writer in
     let shut = inv.rows.4 broken in
-    let told = c.in_err-accepted-in-Ok.ensures.reopen (ap g.K.Keeper.is_broken (inv.same broken) ∙ broken) in
+    let told = c.in_err-accepted-in-Ok.ensures.reopen (ap g.K.Keeper.keeping.is_broken (inv.same broken) ∙ broken) in
     passed_shut (g.R.Read.remaining c.args.reader) old.bytes new.bytes c.from_residual.result c.in_err-accepted-in-Ok.field-0.0 c.from_residual.ensures.1 (
       rows,
       (
@@ -257,3 +221,50 @@ returns-in_err-accepted-in-Ok-clause-reasons g c =
       known_first g.R.Read.remaining c.loop-row.row-iterator.rdr inv.rows.0 (g.R.Read.remaining c.args.reader) inv.rows.2,
       told_stop g.E.ByteOut.taken inv.rows.0 (g.E.ByteOut.taken c.args.errors.now).bytes c.loop-row.errors c.answer_listed.new.errors inv.rows.5 c.in_err-accepted-in-Ok.ensures.reasons,
     )
+
+pub returns-in-Err-clause-service : goal.returns-in-Err-clause-service
+returns-in-Err-clause-service g c = record {
+  premise = c.loop-row.invariant.premise;
+  works = search rules;
+}
+
+pub returns-in_err-accepted-in-Ok-clause-service : goal.returns-in_err-accepted-in-Ok-clause-service
+returns-in_err-accepted-in-Ok-clause-service g c = record {
+  premise = kept_on c.loop-row.invariant.premise c.answer_listed.ensures.service.premise;
+  works = search rules;
+}
+
+pub returns-clause-service : goal.returns-clause-service
+returns-clause-service g c = record {
+  premise = c.loop-row.invariant.premise;
+  works = c.loop-row.invariant.works;
+}
+
+pub returns-in-Err-clause-writing : goal.returns-in-Err-clause-writing
+returns-in-Err-clause-writing g c = record {
+  cause = λ is. no_write _ c.list_fault.result _ c.list_fault.ensures is;
+  told = inr c.loop-row.invariant.untroubled;
+  untroubled = search rules;
+}
+
+pub returns-in_err-accepted-in-Ok-clause-writing : goal.returns-in_err-accepted-in-Ok-clause-writing
+returns-in_err-accepted-in-Ok-clause-writing g c = record {
+  cause = λ is.
+      let old = g.W.ByteOut.taken c.args.writer.now in
+      let new = g.W.ByteOut.taken c.answer_listed.new.writer in
+      passed_cause c.from_residual.result c.in_err-accepted-in-Ok.field-0.0 (HasCause old new) c.from_residual.ensures.1
+      (λ write. cause_behind old (g.W.ByteOut.taken c.loop-row.writer) new c.loop-row.invariant.untroubled (c.in_err-accepted-in-Ok.ensures.writing.cause (ap Err write))) is;
+  told = let old = g.W.ByteOut.taken c.args.writer.now in
+      let mid = g.W.ByteOut.taken c.loop-row.writer in
+      let new = g.W.ByteOut.taken c.answer_listed.new.writer in
+      passed_on c.from_residual.result c.in_err-accepted-in-Ok.field-0.0 _ c.from_residual.ensures.1
+      (told_behind c.in_err-accepted-in-Ok.field-0.0 old mid new c.loop-row.invariant.untroubled c.in_err-accepted-in-Ok.ensures.writing.told);
+  untroubled = search rules;
+}
+
+pub returns-clause-writing : goal.returns-clause-writing
+returns-clause-writing g c = record {
+  cause = search rules;
+  told = search rules;
+  untroubled = c.loop-row.invariant.untroubled;
+}

@@ -7,4 +7,4 @@ pub returns-clause-done : goal.returns-clause-done
 returns-clause-done g c = λ before t showing stocked sound.
     uses_up (g.S.TableStore.view c.give.new.store) before t c.of_one-run.result c.args.awb.now c.of_one-run.ensures.value
     (c.in_ok-give.ensures.done before t (c.in_ok-near.ensures.same (inside before t) showing) stocked
-    (λ read. c.deref.ensures.value ∙ c.in_ok-near.ensures.rows (inside before t) showing read stocked) sound)
+    (λ read. c.deref.ensures.value ∙ c.in_ok-near.ensures.read (inside before t) showing read stocked) sound)

@@ -6,17 +6,14 @@ use Rattle.station_schema.specs.Tables.{Stock, StockKey}
 use Rattle.stock_tables.specs.Rows.{AreRuns, holders_by}
 use Rattle.station_rows.specs.Meant.{stock_meant}
 use Rattle.row_codec.specs.Stock.{run_in}
-use Rattle.stock_tables.proofs.Showing.{shown_on}
+use Rattle.stock_tables.proofs.Showing.{if_given, made_of}
 use Rattle.stock_tables.proofs.Meant.{same_holders, are_in_order}
 use Rattle.stock_tables.proofs.listing.runs.Goals as goal
 
-pub returns-clause-value : goal.returns-clause-value
-returns-clause-value g c = λ x showing sound stocked.
+pub returns : goal.returns
+returns g c = made_of (g.S.TableStore.view c.args.store.now) _ _ _ c.in_ok-rows.ensures (λ x showing sound. if_given _ c.runs_of.result (λ stocked.
     let are : map stock_meant c.deref.result.now ≡ entries x.now.stock =
     ap (map stock_meant) c.deref.ensures.value ∙ c.in_ok-rows.ensures.read x showing sound in
     let made = c.runs_of.ensures (subst (λ (es : List (StockKey × Stock)). AreRuns (map run_in es)) (sym are) (are_in_order x.now.stock stocked.rows stocked.apart)) in
     subst (λ (h : Holders). IfOk c.runs_of.result (λ runs. AreStockRuns h runs.items))
-    (ap (λ (es : List (StockKey × Stock)). holders_by (map run_in es)) are ∙ sym (same_holders x.now.stock stocked.rows)) made
-
-pub returns-clause-same : goal.returns-clause-same
-returns-clause-same g c = shown_on (g.S.TableStore.view c.args.store.now) (g.S.TableStore.view c.read.new.self) c.runs_of.result c.in_ok-rows.ensures.same
+    (ap (λ (es : List (StockKey × Stock)). holders_by (map run_in es)) are ∙ sym (same_holders x.now.stock stocked.rows)) made))

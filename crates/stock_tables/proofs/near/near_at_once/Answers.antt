@@ -6,10 +6,11 @@ use Rattle.station_rows.specs.Meant.{stock_meant, last_rows_up_to}
 use Rattle.stock_tables.specs.Reads.{reaches, are_enough}
 use Rattle.row_codec.specs.Stock.{run_in}
 use Rattle.stock_tables.proofs.Held.{near_is_last}
+use Rattle.stock_tables.proofs.Showing.{made_of}
 use Rattle.stock_tables.proofs.near.near_at_once.Goals as goal
 
-pub returns-in-Some-reaching_rows-clause-rows : goal.returns-in-Some-reaching_rows-clause-rows
-returns-in-Some-reaching_rows-clause-rows g c = λ seen showing sound stocked.
+pub returns-in-Some-reaching_rows : goal.returns-in-Some-reaching_rows
+returns-in-Some-reaching_rows g c = made_of (g.S.TableStore.view c.args.store.now) _ _ _ c.in_ok-rows.ensures (λ seen showing sound stocked.
     let run = c.args.run.now in
     let p : ℤ = to_z w64 (of_z w64 c.from-3.result) in
     let e : ℤ = to_z w64 (of_z w64 (to_z w64 (of_z w64 c.from.result) +ℤ to_z w64 (of_z w64 c.from-2.result))) in
@@ -21,4 +22,4 @@ returns-in-Some-reaching_rows-clause-rows g c = λ seen showing sound stocked.
     let rows : c.in-Some.rows.items ≡ map run_in (map stock_meant items) = c.in-Some.ensures ∙ ap (λ l. map run_in (map stock_meant l)) c.deref.ensures.value in
     let enough : are_enough 3 run (map run_in (map stock_meant items)) ≡ true =
     sym (c.are_all_near.ensures ∙ ap (are_enough 3 run) (c.deref-2.ensures.value ∙ rows)) ∙ c.if-not-are_all_near.false in
-    c.in-Some-reaching_rows.ensures ∙ ap (filter (reaches run)) (c.deref-3.ensures.value ∙ rows) ∙ near_is_last seen.now.stock stocked run 3 items read enough
+    c.in-Some-reaching_rows.ensures ∙ ap (filter (reaches run)) (c.deref-3.ensures.value ∙ rows) ∙ near_is_last seen.now.stock stocked run 3 items read enough)

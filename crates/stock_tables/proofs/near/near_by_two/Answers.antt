@@ -7,10 +7,11 @@ use Rattle.station_rows.specs.declared.stock.StockRow.{StockRow}
 use Rattle.station_rows.specs.Meant.{stock_meant, is_between, last_up_to}
 use Rattle.row_codec.specs.Stock.{run_in}
 use Rattle.stock_tables.proofs.Held.{near_is}
+use Rattle.stock_tables.proofs.Showing.{made_of, reads_after}
 use Rattle.stock_tables.proofs.near.near_by_two.Goals as goal
 
-pub returns-in-Some-clause-rows : goal.returns-in-Some-clause-rows
-returns-in-Some-clause-rows g c = λ seen showing sound stocked.
+pub returns-in-Some : goal.returns-in-Some
+returns-in-Some g c = made_of (g.S.TableStore.view c.args.store.now) _ _ _ (reads_after _ _ _ _ c.in_ok-row.ensures c.in_ok-rows.ensures) (λ seen showing sound stocked.
     let run = c.args.run.now in
     let down = c.read-2.ensures.survives.sound sound in
     let p : ℤ = to_z w64 (of_z w64 c.from-prefix.result) in
@@ -27,7 +28,4 @@ returns-in-Some-clause-rows g c = λ seen showing sound stocked.
     c.in_ok-rows.ensures.read seen (c.in_ok-row.ensures.same seen showing) sound ∙ (λ i. filter (is_between (prefix i) (first i) (last i)) (entries seen.now.stock)) in
     c.in-Some.ensures
     ∙ ap₂ (λ (a : List StockRun) (b : List StockRow). a ++ map run_in (map stock_meant b)) (c.deref.ensures.value ∙ c.in_ok-ahead.ensures) c.deref-2.ensures.value
-    ∙ near_is seen.now.stock stocked run z low c.in_ok-row.row read c.in_ok-rows.rows.items rows
-
-pub returns-in-Some-clause-same : goal.returns-in-Some-clause-same
-returns-in-Some-clause-same g c = λ seen showing. c.in_ok-rows.ensures.same seen (c.in_ok-row.ensures.same seen showing)
+    ∙ near_is seen.now.stock stocked run z low c.in_ok-row.row read c.in_ok-rows.rows.items rows)

@@ -1,4 +1,4 @@
 use Rattle.stock_tables.proofs.orders.carry_out_order.Goals as goal
 
-pub returns-clause-done : goal.returns-clause-done
-returns-clause-done g c = λ t showing stocked. rw (c.terms.ensures.run, c.terms.ensures.holder) at (c.change.ensures.done t showing stocked)
+pub returns-clause-ordered : goal.returns-clause-ordered
+returns-clause-ordered g c = rw (c.terms.ensures.run, c.terms.ensures.test, c.terms.ensures.holder, c.terms.ensures.refusal) at c.change.ensures.ordered

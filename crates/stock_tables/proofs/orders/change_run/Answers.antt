@@ -3,29 +3,40 @@ use Rattle.agent_stock.specs.Stock.{refused_by}
 use Rattle.station_schema.specs.Store.{at_rest}
 use Rattle.row_codec.specs.Stock.{holders_in}
 use Rattle.stock_tables.proofs.Restocking.{near_stand, near_held}
+use Rattle.stock_tables.proofs.Showing.{survives_goes_on}
 use Rattle.stock_tables.proofs.orders.change_run.Goals as goal
 
-pub returns-in-Some-clause-refused : goal.returns-in-Some-clause-refused
-returns-in-Some-clause-refused g c = λ t showing stocked read.
-    let run = c.args.terms.now.run in
-    let near = c.deref.result.now in
-    let are = c.deref.ensures.value ∙ c.in-Ok.ensures.rows (at_rest t) showing read stocked in
-    let lowest = c.lowest_of.ensures (holders_in t.stock) (near_stand run c.requires t stocked near are) (near_held run c.requires t stocked near are) in
-    ap (λ lowest. refused_by lowest c.args.terms.now.refusal) (sym lowest ∙ c.in-Some.is)
+pub returns-in-Some : goal.returns-in-Some
+returns-in-Some g c = record {
+  accepted = λ _ _ _ _. tt;
+  done = λ _ _ _. tt;
+  refused = λ t showing stocked read.
+      let run = c.args.terms.now.run in
+      let near = c.deref.result.now in
+      let are = c.deref.ensures.value ∙ c.in-Ok.ensures.read (at_rest t) showing read stocked in
+      let lowest = c.lowest_of.ensures (holders_in t.stock) (near_stand run c.requires t stocked near are) (near_held run c.requires t stocked near are) in
+      ap (λ lowest. refused_by lowest c.args.terms.now.refusal) (sym lowest ∙ c.in-Some.is);
+  same = λ t showing. c.in-Ok.ensures.same (at_rest t) showing;
+  was_open = tt;
+  open_at_refusal = λ _. c.in-Ok.ensures.was_open;
+  survives = c.in-Ok.ensures.survives;
+}
 
-pub returns-in-Some-clause-same : goal.returns-in-Some-clause-same
-returns-in-Some-clause-same g c = λ t showing. c.in-Ok.ensures.same (at_rest t) showing
-
-pub returns-in-Ok-begin_giving-clause-accepted : goal.returns-in-Ok-begin_giving-clause-accepted
-returns-in-Ok-begin_giving-clause-accepted g c = λ t showing stocked sound.
-    let run = c.args.terms.now.run in
-    let near = c.deref.result.now in
-    let read = c.begin_giving.ensures.survives.sound sound in
-    let are = c.deref.ensures.value ∙ c.in-Ok.ensures.rows (at_rest t) showing read stocked in
-    let lowest = c.lowest_of.ensures (holders_in t.stock) (near_stand run c.requires t stocked near are) (near_held run c.requires t stocked near are) in
-    ap (λ lowest. refused_by lowest c.args.terms.now.refusal) (sym lowest ∙ c.in-None.is)
-
-pub returns-in-Ok-begin_giving-clause-done : goal.returns-in-Ok-begin_giving-clause-done
-returns-in-Ok-begin_giving-clause-done g c = λ t showing stocked.
-    c.in-Ok-begin_giving.ensures.done t (c.in-Ok.ensures.same (at_rest t) showing) stocked
-    (λ read. c.deref-in-None.ensures.value ∙ c.in-Ok.ensures.rows (at_rest t) showing read stocked)
+pub returns-in-Ok-begin_giving : goal.returns-in-Ok-begin_giving
+returns-in-Ok-begin_giving g c = record {
+  accepted = λ t showing stocked sound.
+      let run = c.args.terms.now.run in
+      let near = c.deref.result.now in
+      let read = c.begin_giving.ensures.survives.sound sound in
+      let are = c.deref.ensures.value ∙ c.in-Ok.ensures.read (at_rest t) showing read stocked in
+      let lowest = c.lowest_of.ensures (holders_in t.stock) (near_stand run c.requires t stocked near are) (near_held run c.requires t stocked near are) in
+      ap (λ lowest. refused_by lowest c.args.terms.now.refusal) (sym lowest ∙ c.in-None.is);
+  done = λ t showing stocked.
+      c.in-Ok-begin_giving.ensures.done t (c.in-Ok.ensures.same (at_rest t) showing) stocked
+      (λ read. c.deref-in-None.ensures.value ∙ c.in-Ok.ensures.read (at_rest t) showing read stocked);
+  refused = λ _ _ _ _. tt;
+  same = λ _ _. tt;
+  was_open = λ sound. c.in-Ok.ensures.was_open (c.begin_giving.ensures.survives.sound sound);
+  open_at_refusal = λ _. tt;
+  survives = survives_goes_on _ _ _ c.in-Ok.ensures.survives c.begin_giving.ensures.survives;
+}

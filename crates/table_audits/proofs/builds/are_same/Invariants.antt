@@ -1,5 +1,5 @@
 use Rattle.std.proofs.Common.{Some, drop, map}
-use Rattle.table_rows.specs.Meant.{build_meant}
+use Rattle.station_rows.specs.Meant.{build_meant}
 use Rattle.table_load.specs.Held.{flight_entry}
 use Rattle.table_audits.specs.Sums.{build_entry}
 use Rattle.table_audits.proofs.Walk.{SameAhead}

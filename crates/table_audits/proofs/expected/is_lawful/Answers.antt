@@ -2,11 +2,11 @@ use Rattle.std.proofs.Common.{rules, ◌≡◌, ◌&&◌, ◌∙◌, false, map,
 use Rattle.std.specs.Prelude.{int_le}
 use Rattle.std.proofs.lemmas.Bool.{and_from}
 use Rattle.std.proofs.lemmas.Int.{to_z-of_z}
-use Rattle.table_rows.specs.Meant.{waybill_meant}
+use Rattle.station_rows.specs.Meant.{waybill_meant}
 use Rattle.table_load.specs.Held.{expected_entry}
 use Rattle.row_codec.specs.Manifests.{is_expected_row}
 use Rattle.table_audits.specs.Rows.{has_waybill}
-use Rattle.table_audits.proofs.Judged.{unlawful, as_tested, number_is, enough_is}
+use Rattle.table_audits.proofs.RowValues.{unlawful, as_tested, number_is, enough_is}
 use Rattle.table_audits.proofs.expected.is_lawful.Goals as goal
 
 pub returns-then-not-is_enough : goal.returns-then-not-is_enough

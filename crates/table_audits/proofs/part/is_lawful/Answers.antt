@@ -1,6 +1,6 @@
-use Rattle.std.proofs.Common.{◌∙◌, sym}
+use Rattle.std.proofs.Common.{rules}
 use Rattle.table_audits.proofs.Texts.{part_is}
 use Rattle.table_audits.proofs.part.is_lawful.Goals as goal
 
 pub returns : goal.returns
-returns c = c.has_part.ensures ∙ sym (part_is c.args.row.now)
+returns c = rw (part_is c.args.row.now) (search rules)

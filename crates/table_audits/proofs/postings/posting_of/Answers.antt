@@ -1,5 +1,5 @@
 use Rattle.std.proofs.Common.{◌≡◌, ◌∙◌, true, map, sym, subst, true≢false}
-use Rattle.table_rows.specs.Meant.{move_meant, waybill_meant}
+use Rattle.station_rows.specs.Meant.{move_meant, waybill_meant}
 use Rattle.table_load.specs.Held.{flight_entry}
 use Rattle.row_codec.specs.Moves.{is_move_row}
 use Rattle.table_audits.specs.Posted.{IsPosted, IsPostedOr}

@@ -2,7 +2,7 @@ use Rattle.std.proofs.Common.{◌≡◌, ℕ, List, Equal, Err, get_or, subst}
 use Rattle.std.specs.List.Sorted.{IsBinarySearchResult}
 use Rattle.station_schema.specs.Tables.{flight_cmp}
 use Rattle.station_schema.proofs.Keys.{flight_total, flight_same}
-use Rattle.table_rows.specs.Meant.{move_meant}
+use Rattle.station_rows.specs.Meant.{move_meant}
 use Rattle.table_load.specs.Held.{flight_entry}
 use Rattle.table_audits.proofs.Searches.{no_entry}
 use Rattle.table_audits.proofs.PostedLaws.{found_spot, lost_spot}

@@ -1,7 +1,7 @@
 use Rattle.std.proofs.Common.{◌≡◌, ◌∙◌, map, sym, ap, subst, true≢false, arith, w64, to_z}
 use Rattle.std.specs.Prelude.{IsTrue, int_le}
 use Rattle.std.proofs.lemmas.Int.{ints, to_z-of_z}
-use Rattle.table_rows.specs.Meant.{waybill_meant}
+use Rattle.station_rows.specs.Meant.{waybill_meant}
 use Rattle.table_audits.specs.Rows.{has_waybill}
 use Rattle.table_audits.proofs.stock.are_declared.Goals as goal
 

@@ -1,6 +1,6 @@
 use Rattle.std.proofs.Common.{ℤ, map}
 use Rattle.std.specs.Prelude.{IsTrue, int_le, int_lt}
-use Rattle.table_rows.specs.Meant.{waybill_meant}
+use Rattle.station_rows.specs.Meant.{waybill_meant}
 use Rattle.table_audits.specs.Order.{RisesByNumber}
 use Rattle.table_audits.specs.Rows.{has_waybill}
 use Rattle.table_audits.proofs.stock.are_declared.Given as goal

@@ -1,7 +1,7 @@
 use Rattle.std.proofs.Common.{◌≡◌, true, map, sym, ap, subst, ◌∙◌}
 use Rattle.std.specs.List.{AllByRecursion}
 use Rattle.std.specs.FinMap.{entries}
-use Rattle.table_rows.specs.Meant.{waybill_meant}
+use Rattle.station_rows.specs.Meant.{waybill_meant}
 use Rattle.row_codec.specs.Stock.{are_apart}
 use Rattle.table_audits.specs.Rows.{IsLawfulStock}
 use Rattle.table_audits.proofs.StockLaws.{are_stocks, lawful_stocks}

@@ -1,5 +1,5 @@
 use Rattle.std.proofs.Common.{◌≡◌, Some, take, map}
-use Rattle.table_rows.specs.Meant.{noted_flight_meant}
+use Rattle.station_rows.specs.Meant.{noted_flight_meant}
 use Rattle.row_codec.specs.Flights.{noted_by}
 use Rattle.table_state.proofs.noted.flights_noted.Given as goal
 

@@ -1,4 +1,4 @@
-use Rattle.table_rows.specs.Meant.{move_meant, with_move}
+use Rattle.station_rows.specs.Meant.{move_meant, with_move}
 use Rattle.table_state.proofs.Lifting.{of_answer}
 use Rattle.table_state.proofs.recording.record_move.Goals as goal
 

@@ -4,15 +4,15 @@ use Rattle.std.specs.Map.{lookup}
 use Rattle.shipment_machine.specs.Cargo.{Cargo, same_part}
 use Rattle.map_state.specs.Maps.{part_of}
 use Rattle.state_store.proofs.Keyed.{found_by, some_mapped}
-use Rattle.map_state.proofs.Surviving.{cargo_is}
+use Rattle.map_state.proofs.Surviving.{cargo_is, reads_so}
 use Rattle.map_state.proofs.Writing.{by_part, by_part_keyed}
 use Rattle.map_state.proofs.store.MapStateStateStore.has_part.Goals as goal
 
-pub returns-clause-value : goal.returns-clause-value
-returns-clause-value c = λ x h _.
+pub returns : goal.returns
+returns c = reads_so _ _ _ (λ s h.
     let k = c.args.self.now in
     let part = c.args.part.now in
     let is : part_of (c.of-flight.result, c.letters.result, c.number.result) ≡ part = λ i. record { flight = c.of-flight.ensures i; airport = c.letters.ensures.value i; number = c.number.ensures.value i } in
     let found : c.contains_key.result ≡ is_some (get by_part k.parts (c.of-flight.result, c.letters.result, c.number.result)) = search rules in
     found ∙ ap (λ o. is_some o) (found_by by_part part_of same_part by_part_keyed k.parts.entries (c.of-flight.result, c.letters.result, c.number.result) part is)
-    ∙ some_mapped (λ text. text.items) (lookup (λ q. same_part part (part_of q)) k.parts.entries) ∙ ap (λ (g : Cargo). is_some (g.parts part)) (cargo_is k x.now h)
+    ∙ some_mapped (λ text. text.items) (lookup (λ q. same_part part (part_of q)) k.parts.entries) ∙ ap (λ (g : Cargo). is_some (g.parts part)) (cargo_is k s h))

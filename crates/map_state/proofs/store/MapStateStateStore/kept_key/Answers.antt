@@ -4,12 +4,13 @@ use Rattle.std.specs.Prelude.{string_bytes}
 use Rattle.std.specs.Str.{bytes_eq}
 use Rattle.station_core.specs.Step.{State}
 use Rattle.station_core.specs.Told.{kept_of}
+use Rattle.map_state.proofs.Surviving.{reads_so}
 use Rattle.map_state.proofs.store.MapStateStateStore.kept_key.Goals as goal
 
-pub returns-in_ok-clone-in-Some-clause-value : goal.returns-in_ok-clone-in-Some-clause-value
-returns-in_ok-clone-in-Some-clause-value c = λ x h _.
+pub returns-in_ok-clone-in-Some : goal.returns-in_ok-clone-in-Some
+returns-in_ok-clone-in-Some c = reads_so c.args.self.now _ _ (λ s h.
     let k = c.args.self.now in
     let key = c.args.key.now in
     let same : string_bytes c.in_ok-clone-in-Some.field-0 ≡ string_bytes c.in-Some.kept.now.request = search rules in
     let at : Some c.in-Some.kept.now ≡ get_by (λ v. bytes_eq key v.items) k.kept_keys = search rules in
-    (λ i. Some (record { request = same i; count = c.in-Some.kept.now.count })) ∙ ap (option_map kept_of) at ∙ ap (λ (s : State). s.kept_keys key) h.is
+    (λ i. Some (record { request = same i; count = c.in-Some.kept.now.count })) ∙ ap (option_map kept_of) at ∙ ap (λ (t : State). t.kept_keys key) h.is)

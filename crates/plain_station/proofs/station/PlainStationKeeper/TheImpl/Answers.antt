@@ -1,45 +1,46 @@
+use Rattle.std.proofs.Common.{◌≡◌}
 use Rattle.agent_stock.specs.Runs.{AreStockRuns}
 use Rattle.station_core.specs.Readers.{AreExpectedBy, AreFlightRows, book_by, irregular_rows, pending_messages, shed_rows, trail_by}
 use Rattle.plain_station.specs.State.{state_of}
-use Rattle.plain_station.proofs.Handed.{hands_out, hands_out_these}
+use Rattle.plain_station.proofs.Handed.{hands_out}
 use Rattle.plain_station.proofs.station.PlainStationKeeper.TheImpl.Goals as goal
 
 pub book_by-tells : goal.book_by-tells
 book_by-tells g c =
-    hands_out_these g.S.Sink.takes (book_by c.args.query.now) state_of c.args.self.now c.new.self.now c.result c.args.sink.now c.new.sink.now
-    c.ensures.rows c.ensures.beginning c.ensures.memory c.ensures.none c.ensures.as_before
+    hands_out g.S.Sink.takes (λ s rows. rows ≡ book_by c.args.query.now s) state_of c.args.self.now c.new.self.now c.result c.args.sink.now c.new.sink.now
+    c.ensures.hands c.ensures.as_before
 
 pub expected_by-tells : goal.expected_by-tells
 expected_by-tells g c =
     hands_out g.S.Sink.takes (AreExpectedBy c.args.query.now) state_of c.args.self.now c.new.self.now c.result c.args.sink.now c.new.sink.now
-    c.ensures.rows c.ensures.beginning c.ensures.memory c.ensures.none c.ensures.as_before
+    c.ensures.hands c.ensures.as_before
 
 pub flights-tells : goal.flights-tells
 flights-tells g c =
     hands_out g.S.Sink.takes AreFlightRows state_of c.args.self.now c.new.self.now c.result c.args.sink.now c.new.sink.now
-    c.ensures.rows c.ensures.beginning c.ensures.memory c.ensures.none c.ensures.as_before
+    c.ensures.hands c.ensures.as_before
 
 pub irregular-tells : goal.irregular-tells
 irregular-tells g c =
-    hands_out_these g.S.Sink.takes irregular_rows state_of c.args.self.now c.new.self.now c.result c.args.sink.now c.new.sink.now
-    c.ensures.rows c.ensures.beginning c.ensures.memory c.ensures.none c.ensures.as_before
+    hands_out g.S.Sink.takes (λ s rows. rows ≡ irregular_rows s) state_of c.args.self.now c.new.self.now c.result c.args.sink.now c.new.sink.now
+    c.ensures.hands c.ensures.as_before
 
 pub pending-tells : goal.pending-tells
 pending-tells g c =
-    hands_out_these g.S.Sink.takes pending_messages state_of c.args.self.now c.new.self.now c.result c.args.sink.now c.new.sink.now
-    c.ensures.rows c.ensures.beginning c.ensures.memory c.ensures.none c.ensures.as_before
+    hands_out g.S.Sink.takes (λ s rows. rows ≡ pending_messages s) state_of c.args.self.now c.new.self.now c.result c.args.sink.now c.new.sink.now
+    c.ensures.hands c.ensures.as_before
 
 pub shed-tells : goal.shed-tells
 shed-tells g c =
-    hands_out_these g.S.Sink.takes shed_rows state_of c.args.self.now c.new.self.now c.result c.args.sink.now c.new.sink.now
-    c.ensures.rows c.ensures.beginning c.ensures.memory c.ensures.none c.ensures.as_before
+    hands_out g.S.Sink.takes (λ s rows. rows ≡ shed_rows s) state_of c.args.self.now c.new.self.now c.result c.args.sink.now c.new.sink.now
+    c.ensures.hands c.ensures.as_before
 
 pub trail_by-tells : goal.trail_by-tells
 trail_by-tells g c =
-    hands_out_these g.S.Sink.takes (trail_by c.args.query.now) state_of c.args.self.now c.new.self.now c.result c.args.sink.now c.new.sink.now
-    c.ensures.rows c.ensures.beginning c.ensures.memory c.ensures.none c.ensures.as_before
+    hands_out g.S.Sink.takes (λ s rows. rows ≡ trail_by c.args.query.now s) state_of c.args.self.now c.new.self.now c.result c.args.sink.now c.new.sink.now
+    c.ensures.hands c.ensures.as_before
 
 pub stock-tells : goal.stock-tells
 stock-tells g c =
     hands_out g.S.Sink.takes (λ s rows. AreStockRuns s.holders rows) state_of c.args.self.now c.new.self.now c.result c.args.sink.now c.new.sink.now
-    c.ensures.rows c.ensures.beginning c.ensures.memory c.ensures.none c.ensures.as_before
+    c.ensures.hands c.ensures.as_before

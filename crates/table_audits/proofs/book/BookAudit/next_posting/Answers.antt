@@ -1,6 +1,6 @@
 use Rattle.std.proofs.Common.{◌+◌, pos, sym, ap, subst, ◌∙◌, true≢false, rules, w64}
 use Rattle.std.proofs.lemmas.Int.{to_z-of_z}
-use Rattle.table_rows.specs.Meant.{move_meant}
+use Rattle.station_rows.specs.Meant.{move_meant}
 use Rattle.table_audits.specs.Departed.{is_marked}
 use Rattle.table_audits.specs.Taken.{IsNextOr}
 use Rattle.table_audits.proofs.ClosedLaws.{listed_distinct}

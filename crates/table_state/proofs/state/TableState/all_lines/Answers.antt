@@ -1,16 +1,15 @@
 use Rattle.std.proofs.Common.{ap, map, ◌∙◌}
-use Rattle.table_rows.specs.declared.expected.ListedWaybillRow.{ListedWaybillRow}
-use Rattle.table_rows.specs.Meant.{listed_waybill_meant}
+use Rattle.station_rows.specs.declared.expected.ListedWaybillRow.{ListedWaybillRow}
+use Rattle.station_rows.specs.Meant.{listed_waybill_meant}
 use Rattle.row_codec.specs.Manifests.{expectation_by}
-use Rattle.state_store.specs.Store.{at_rest}
 use Rattle.state_store.proofs.Walks.{told_so}
-use Rattle.table_state.proofs.Lifting.{seen_in}
+use Rattle.table_state.proofs.Lifting.{at_rest_of, read_by}
 use Rattle.table_state.proofs.Values.{expectations_are}
 use Rattle.table_state.proofs.state.TableState.all_lines.Goals as goal
 
-pub returns-clause-value : goal.returns-clause-value
-returns-clause-value g c = λ s shown sound.
+pub returns : goal.returns
+returns g c = at_rest_of (read_by g.S.TableStore.view c.args.self.now _ _ _ _ c.in_ok-rows.ensures (λ s means tells.
     told_so _ _ c.waybills_expected.result
-    (λ all are. expectations_are _ _ _ _ _ (at_rest s) shown c.in_ok-rows.ensures.survives c.in_ok-rows.ensures.was_open sound c.in_ok-rows.rows.items all.items
-    (are ∙ ap (map (λ (row : ListedWaybillRow). expectation_by (listed_waybill_meant row))) c.deref.ensures.value) (c.in_ok-rows.ensures.read (seen_in (g.S.TableStore.view c.args.self.now.store))))
-    c.waybills_expected.ensures
+    (λ all are. expectations_are _ s means c.in_ok-rows.rows.items all.items
+    (are ∙ ap (map (λ (row : ListedWaybillRow). expectation_by (listed_waybill_meant row))) c.deref.ensures.value) tells)
+    c.waybills_expected.ensures))

@@ -1,19 +1,31 @@
-use Rattle.std.proofs.Common.{◌∙◌}
+use Rattle.std.proofs.Common.{rules, ◌∙◌}
 use Rattle.state_store.specs.Waybills.{asked}
+use Rattle.state_store.proofs.Walks.{survives_then}
+use Rattle.table_state.specs.Shown.{in_tables}
 use Rattle.table_state.proofs.Balances.{all_put, from_numbers, put_next}
-use Rattle.table_state.proofs.Lifting.{both_survive}
 use Rattle.table_state.proofs.state.TableState.asked_in.Goals as goal
 
 pub loop-number-preserved : goal.loop-number-preserved
 loop-number-preserved g c = let before = c.loop-number.invariant in record {
-  survives = both_survive _ _ _ before.survives c.put_asked.ensures.survives;
-  rests = λ s shown. c.put_asked.ensures.rests s (before.rests s shown);
   value = λ s shown sound.
       put_next (asked c.args.query s.cargo.book) c.loop-number.rows.items c.put_asked.new.rows.items c.in-Some.number.now c.loop-number.number-iterator _ c.args.waybills.now.keys c.in-Some.ensures.steps
       (c.in_ok-put_asked.ensures.value s (before.rests s shown) sound) (before.value s shown (c.put_asked.ensures.survives.sound sound));
+  rests = λ s shown. c.put_asked.ensures.rests s (before.rests s shown);
+  survives = survives_then (in_tables g.S.TableStore.view) _ _ _ before.survives c.put_asked.ensures.survives;
 }
 
-pub returns-clause-value : goal.returns-clause-value
-returns-clause-value g c = λ s shown kept sound.
-    all_put (asked c.args.query s.cargo.book) c.loop-number.rows.items c.loop-number.number-iterator c.args.waybills.now.keys (c.loop-number.invariant.value s shown sound) c.in-None.ensures.steps.0
-    ∙ from_numbers c.args.query s.cargo.book c.args.waybills.now.keys c.into_iter-number-iterator.ensures.into_iter_gives.4 kept
+pub returns-in_err-put_asked : goal.returns-in_err-put_asked
+returns-in_err-put_asked g c = record {
+  value = λ s shown sound. search rules;
+  rests = λ s shown. c.put_asked.ensures.rests s (c.loop-number.invariant.rests s shown);
+  survives = survives_then (in_tables g.S.TableStore.view) _ _ _ c.loop-number.invariant.survives c.put_asked.ensures.survives;
+}
+
+pub returns : goal.returns
+returns g c = record {
+  value = λ s shown sound kept.
+      all_put (asked c.args.query s.cargo.book) c.loop-number.rows.items c.loop-number.number-iterator c.args.waybills.now.keys (c.loop-number.invariant.value s shown sound) c.in-None.ensures.steps.0
+      ∙ from_numbers c.args.query s.cargo.book c.args.waybills.now.keys c.into_iter-number-iterator.ensures.into_iter_gives.4 kept;
+  rests = c.loop-number.invariant.rests;
+  survives = c.loop-number.invariant.survives;
+}

@@ -3,11 +3,12 @@ use Rattle.std.proofs.lemmas.Bool.{and_from}
 use Rattle.std.proofs.lemmas.Int.{to_z-of_z}
 use Rattle.row_codec.specs.Flights.{flight_key}
 use Rattle.table_state.proofs.Changes.{notes_flight_on}
-use Rattle.table_state.proofs.Lifting.{on_answer}
+use Rattle.table_state.proofs.Lifting.{on_answer, writes_so}
 use Rattle.table_state.proofs.state.TableState.note_flight.Goals as goal
 
-pub returns-clause-done : goal.returns-clause-done
-returns-clause-done g c = λ before s shown.
+pub returns : goal.returns
+returns g c =
     let day_fits : SFits w64 c.day_number.result = search rules in
+    writes_so g.S.TableStore.view _ _ _ _ c.put_flight.ensures.survives (λ before s shown.
     on_answer c.put_flight.result (notes_flight_on _ _ _ _ _ before s shown c.put_flight.ensures.survives [] _ _ c.args.flight.now c.args.outbound.now _ (c.deref.ensures ∙ c.in_ok-name.ensures.text) (to_z-of_z w64 c.day_number.result day_fits ∙ c.day_number.ensures.value) c.in_ok-row.ensures.value
-    c.flight_text.ensures.designator (c.outbound_row.ensures.lawful (flight_key c.args.flight.now) (and_from _ _ c.flight_text.ensures.written c.day_number.ensures.in_range))) (c.put_flight.ensures.done _ _)
+    c.flight_text.ensures.designator (c.outbound_row.ensures.lawful (flight_key c.args.flight.now) (and_from _ _ c.flight_text.ensures.written c.day_number.ensures.in_range))) (c.put_flight.ensures.done _ _))

@@ -5,7 +5,11 @@ use Rattle.state_store.proofs.Walks.{told_so}
 use Rattle.table_state.specs.Shown.{HasOpen}
 use Rattle.table_state.proofs.state.TableState.open_lines.Goals as goal
 
-pub returns-in-Some-clause-value : goal.returns-in-Some-clause-value
-returns-in-Some-clause-value g c = λ s shown sound.
-    let was : c.args.self.now.counted.open_lines.kept ≡ Some c.in-Some.kept = search rules in
-    told_so _ _ c.listed.result (λ rows are. subst (λ (lines : Lines). AreExpectations lines rows.items) (subst (λ o. HasOpen o s.cargo.expected) was (shown sound).kept.open_lines) are) c.listed.ensures
+pub returns-in-Some : goal.returns-in-Some
+returns-in-Some g c = record {
+  value = λ s shown sound.
+      let was : c.args.self.now.counted.open_lines.kept ≡ Some c.in-Some.kept = search rules in
+      told_so _ _ c.listed.result (λ rows are. subst (λ (lines : Lines). AreExpectations lines rows.items) (subst (λ o. HasOpen o s.cargo.expected) was (shown sound).kept.open_lines) are) c.listed.ensures;
+  rests = λ s shown. shown;
+  survives = record { clean = λ clean. clean; still = λ was _. was; sound = λ sound. sound; leaves = λ _ found finds. finds };
+}

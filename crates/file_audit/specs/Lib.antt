@@ -1,3 +1,0 @@
-pub mod Good
-pub mod Verdict
-pub mod Judged

@@ -1,0 +1,108 @@
+-- The table `build`.
+use Rattle.std.proofs.Common.{ap, ap₂, filter, map, refl, sym, false, true, pos, inl, Ok, Err, Result, List, [], ℕ, ℤ, int_cmp, int_eq, ◌∙◌, ◌∷◌, ◌≡◌}
+use Rattle.std.specs.FinMap.{entries}
+use Rattle.std.specs.Ordering.{eq_by_cmp, ordering_then}
+use Rattle.std.specs.Prelude.{IfOk, Vec, ◌&&◌}
+use Rattle.std.specs.declared.alloc.Global.{Global}
+use Rattle.sqlite.specs.Order.{Row}
+use Rattle.sqlite.specs.Query.{Output, Query, output, output_cmp}
+use Rattle.sqlite.specs.State.{IsUnchanged, Shown, State}
+use Rattle.sqlite.specs.Term.{Term, eval_all}
+use Rattle.sqlite.specs.declared.error.Error.{Error}
+use Rattle.sqlite.specs.declared.types.Value.TheVariants.{Int, Text}
+use Rattle.sqlite_value.proofs.OrderLemmas.{value_cmp-Int}
+use Rattle.sqlite_value.specs.Keys.{first_key}
+use Rattle.sqlite_sql.specs.declared.ops.CompareOp.TheVariants.{Eq}
+use Rattle.sqlite_trees.proofs.ListLemmas.{map-map}
+use Rattle.sqlite_keyed.proofs.SortLemmas.{pair_cmp}
+use Rattle.sqlite_keyed.proofs.ListLemmas.{map_back}
+use Rattle.sqlite_typed.proofs.TestLemmas.{at_ints, at_texts, last_key, last_term, then_term}
+use Rattle.sqlite_typed.specs.Tests.{bytes_cmp}
+use Rattle.row_laws.proofs.Keyed.{one_table}
+use Rattle.row_laws.proofs.Keys.{first_true, int_both, int_tied, pair_eq, second_true, texts_both}
+use Rattle.row_laws.proofs.Shared.{cast_int, cast_null}
+use Rattle.row_laws.proofs.Texts.{Asks, by_column}
+use Rattle.row_laws.specs.Calls.{Reads}
+use Rattle.station_schema.proofs.Keys.{build_same, build_total}
+use Rattle.station_schema.proofs.Stored.{edits_builds}
+use Rattle.station_schema.specs.Schema.{build, station_schema}
+use Rattle.station_schema.specs.Tables.{BuildKey, Build, IsStation, build_cmp, build_in, build_row, tables_of, typed_builds}
+use Rattle.station_rows.specs.Meant.{is_on, pieces_in}
+use Rattle.station_rows.specs.Shown.{pieces_read, pieces_shown}
+use Rattle.station_rows.proofs.KeyedLemmas.{IsTableOf, KeyedTable, lists}
+use Rattle.station_rows.proofs.Terms.{columns, key_terms}
+use Rattle.station_rows.proofs.Texts.{build_names, list_build_is, list_build_text, list_pieces_columns, list_pieces_is, list_pieces_names, list_pieces_text}
+
+abbrev pub build_table : KeyedTable BuildKey Build
+build_table = record {
+  place = 12;
+  table = build;
+  key_width = 3;
+  width = 5;
+  cmp = build_cmp;
+  key_row = λ k. Text k.0 ∷ Int k.1.0 ∷ Int k.1.1 ∷ [];
+  to_row = build_row;
+  from_row = build_in;
+  map_in = λ tables. tables.builds;
+  with_map = λ tables m. record tables { builds = m };
+}
+
+build_eq : (j k : BuildKey) → (eq_by_cmp bytes_cmp j.0 k.0 && (int_eq j.1.0 k.1.0 && int_eq j.1.1 k.1.1)) ≡ eq_by_cmp build_cmp j k
+build_eq j k = sym (pair_eq bytes_cmp (pair_cmp int_cmp int_cmp) j k ∙ ap₂ ◌&&◌ refl (pair_eq int_cmp int_cmp j.1 k.1 ∙ ap₂ ◌&&◌ (int_tied j.1.0 k.1.0) (int_tied j.1.1 k.1.1)))
+
+pub build_is : IsTableOf build_table
+unfolding first_key
+build_is = record {
+  total = build_total;
+  same = build_same;
+  placed = record { there = refl; uncounted = refl; unstamped = refl; idle = λ _ _ _. refl };
+  typed = typed_builds;
+  is_read = λ _. refl;
+  places = 1 ∷ 2 ∷ 3 ∷ [];
+  compares = λ a b. then_term (at_texts false Eq a.1.0.0 b.1.0.0) (then_term (at_ints false Eq a.1.0.1.0 b.1.0.1.0) (last_term (at_ints false Eq a.1.0.1.1 b.1.0.1.1))) ∙ build_eq a.1.0 b.1.0;
+  unique = λ _ all. all.1.1.1.1.1.1.1.1.1.1.1.1.0;
+  tests = λ k _ _ e. then_term (at_texts false Eq e.0.0 k.0) (then_term (at_ints false Eq e.0.1.0 k.1.0) (last_term (at_ints false Eq e.0.1.1 k.1.1))) ∙ build_eq e.0 k;
+  begins = λ _. (_, refl);
+  casts = λ n e. rw (cast_int n, cast_int e.0.1.0, cast_int e.0.1.1, cast_int e.1.pieces, cast_int e.1.tenths) refl;
+  news = λ _ e. rw (cast_null, cast_int e.0.1.0, cast_int e.0.1.1, cast_int e.1.pieces, cast_int e.1.tenths) refl;
+  updated = λ _ _ _. refl;
+  edits = edits_builds;
+}
+
+-- ---- the rows of a flight and a day, ORDER BY awb
+
+abbrev on_flight : List Term → Query
+on_flight columns = one_table 20 (key_terms 2) columns (by_column 3 ∷ [])
+
+abbrev shown_on : List Term → List ℕ → ℤ → BuildKey × Build → Output
+shown_on columns flight day e = output (on_flight columns) ((Text flight ∷ Int day ∷ []) ∷ (Int (pos 0) ∷ build_row e) ∷ [])
+
+-- whatever columns are shown, that is the order of their keys
+in_key_order : (columns : List Term) (flight : List ℕ) (day : ℤ) (a b : BuildKey × Build) → is_on flight day a ≡ true → is_on flight day b ≡ true
+    → output_cmp (on_flight columns) (shown_on columns flight day a) (shown_on columns flight day b) ≡ build_cmp a.0 b.0
+in_key_order columns flight day a b pa pb =
+    last_key (value_cmp-Int a.0.1.1 b.0.1.1) ∙ ap (λ o. ordering_then o (int_cmp a.0.1.1 b.0.1.1)) (sym (int_both a.0.1.0 b.0.1.0 day (second_true _ _ pa) (second_true _ _ pb)))
+    ∙ ap (λ o. ordering_then o (ordering_then (int_cmp a.0.1.0 b.0.1.0) (int_cmp a.0.1.1 b.0.1.1))) (sym (texts_both a.0.0 b.0.0 flight (first_true _ _ pa) (first_true _ _ pb)))
+
+rows_on : (text : List ℕ) (columns : List Term) (names : List (List ℕ)) → Asks station_schema text (on_flight columns) names → (flight : List ℕ) (day : ℤ)
+    → (shown : BuildKey × Build → Row) → ((n : ℤ) (e : BuildKey × Build) → eval_all columns ((Text flight ∷ Int day ∷ []) ∷ (Int n ∷ build_row e) ∷ []) ≡ shown e)
+    → (old new : State) (rows : List Row) → IsStation old.now → Shown text (Text flight ∷ Int day ∷ []) old new rows → rows ≡ map shown (filter (is_on flight day) (entries (tables_of old.now.trees).builds))
+rows_on text columns names is flight day shown shows =
+    lists build_table build_is text names columns _ _ is (Text flight ∷ Int day ∷ []) (is_on flight day) (λ _ e. then_term (at_texts false Eq e.0.0 flight) (last_term (at_ints false Eq e.0.1.0 day))) shown shows
+    (λ n e. ap (λ (row : Row). (Int e.0.1.1 ∷ [], row)) (shows n e ∙ sym (shows (pos 0) e))) (in_key_order columns flight day)
+
+pub lists_build : (old new : State) (flight : List ℕ) (day : ℤ) (rows : List Row) → IsStation old.now → Shown list_build_text (Text flight ∷ Int day ∷ []) old new rows
+    → rows ≡ map build_row (filter (is_on flight day) (entries (tables_of old.now.trees).builds))
+lists_build old new flight day = rows_on list_build_text (columns 5) build_names list_build_is flight day build_row (λ _ _. refl) old new
+
+pub lists_pieces : (old new : State) (flight : List ℕ) (day : ℤ) (rows : List Row) → IsStation old.now → Shown list_pieces_text (Text flight ∷ Int day ∷ []) old new rows
+    → rows ≡ map pieces_shown (map pieces_in (filter (is_on flight day) (entries (tables_of old.now.trees).builds)))
+lists_pieces old new flight day rows was h =
+    rows_on list_pieces_text list_pieces_columns list_pieces_names list_pieces_is flight day (λ e. pieces_shown (pieces_in e)) (λ _ _. refl) old new rows was h
+    ∙ sym (map-map pieces_shown pieces_in (filter (is_on flight day) (entries (tables_of old.now.trees).builds)))
+
+-- the numbers of the rows that were shown
+pub reads_pieces : (old new : State) (rows : List Row) (all : List ℤ) → (rows ≡ map pieces_shown all) × IsUnchanged old new
+    → (r : Result (Vec ℤ Global) Error) → IfOk r (λ found. found.items ≡ map pieces_read rows) → Reads old new r (λ found. found.items ≡ all)
+reads_pieces old new rows all h (Ok found) is = (is ∙ ap (map pieces_read) h.0 ∙ map_back pieces_shown pieces_read (λ _. refl) all, h.1)
+reads_pieces old new rows all h (Err e) is = inl h.1

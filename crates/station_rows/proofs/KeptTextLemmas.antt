@@ -1,0 +1,45 @@
+-- The table `kept_text`.
+use Rattle.std.proofs.Common.{refl, false, List, [], ℕ, ℤ, ◌∷◌}
+use Rattle.sqlite.specs.declared.types.Value.TheVariants.{Text}
+use Rattle.sqlite_value.specs.Keys.{first_key}
+use Rattle.sqlite_sql.specs.declared.ops.CompareOp.TheVariants.{Eq}
+use Rattle.sqlite_typed.proofs.TestLemmas.{at_texts, last_term}
+use Rattle.row_laws.proofs.Shared.{cast_int, cast_null}
+use Rattle.station_schema.proofs.Keys.{kept_text_same, kept_text_total}
+use Rattle.station_schema.proofs.Stored.{edits_kept_texts}
+use Rattle.station_schema.specs.Schema.{kept_text}
+use Rattle.station_schema.specs.Tables.{kept_text_cmp, kept_text_in, kept_text_row, typed_kept_texts}
+use Rattle.station_rows.proofs.KeyedLemmas.{IsTableOf, KeyedTable}
+
+abbrev pub kept_text_table : KeyedTable (List ℕ) ℤ
+kept_text_table = record {
+  place = 10;
+  table = kept_text;
+  key_width = 1;
+  width = 2;
+  cmp = kept_text_cmp;
+  key_row = λ k. Text k ∷ [];
+  to_row = kept_text_row;
+  from_row = kept_text_in;
+  map_in = λ tables. tables.kept_texts;
+  with_map = λ tables m. record tables { kept_texts = m };
+}
+
+pub kept_text_is : IsTableOf kept_text_table
+unfolding first_key
+kept_text_is = record {
+  total = kept_text_total;
+  same = kept_text_same;
+  placed = record { there = refl; uncounted = refl; unstamped = refl; idle = λ _ _ _. refl };
+  typed = typed_kept_texts;
+  is_read = λ _. refl;
+  places = 1 ∷ [];
+  compares = λ a b. last_term (at_texts false Eq a.1.0 b.1.0);
+  unique = λ _ all. all.1.1.1.1.1.1.1.1.1.1.0;
+  tests = λ k _ _ e. last_term (at_texts false Eq e.0 k);
+  begins = λ _. (_, refl);
+  casts = λ n e. rw (cast_int n, cast_int e.1) refl;
+  news = λ _ e. rw (cast_null, cast_int e.1) refl;
+  updated = λ _ _ _. refl;
+  edits = edits_kept_texts;
+}

@@ -1,0 +1,42 @@
+-- What the statements on `outbox` do.
+use Rattle.std.proofs.Common.{List, Ok, [], false, filter, map, refl, ℕ, ℤ, ◌∷◌, ◌≡◌}
+use Rattle.sqlite.proofs.Callers.{reads_as}
+use Rattle.sqlite.specs.Command.TheVariants.{Select}
+use Rattle.sqlite.specs.Effect.{value_rows}
+use Rattle.sqlite.specs.Order.{Row}
+use Rattle.sqlite.specs.State.{Executes, Shown, State}
+use Rattle.sqlite.specs.declared.types.Value.TheVariants.{Int}
+use Rattle.sqlite_sql.specs.declared.ops.CompareOp.TheVariants.{Gt}
+use Rattle.sqlite_keyed.proofs.KeyedLemmas.{IsKeyedBy-insert_by}
+use Rattle.sqlite_keyed.specs.Keyed.{insert_by}
+use Rattle.sqlite_typed.proofs.TestLemmas.{at_ints, last_term}
+use Rattle.row_laws.proofs.Keyed.{one_table, puts}
+use Rattle.row_laws.proofs.Listed.{rows_by_key}
+use Rattle.row_laws.proofs.Ran.{IsPlaced, insert_ran}
+use Rattle.row_laws.proofs.Shared.{cast_int, cast_null}
+use Rattle.row_laws.proofs.Texts.{asks, by_column}
+use Rattle.station_schema.proofs.Stored.{edits_outbox}
+use Rattle.station_schema.specs.Calls.{Edits, IsInside}
+use Rattle.station_schema.specs.Schema.{outbox, station_schema}
+use Rattle.station_schema.specs.Tables.{IsStation, Message, message_id, message_in, message_row, tables_of, typed_outbox}
+use Rattle.station_rows.specs.Meant.{is_message_after, with_message}
+use Rattle.station_rows.specs.Shown.{message_shown}
+use Rattle.station_rows.proofs.Texts.{after_message_is, after_message_text, after_message_where, insert_message_is, message_columns, message_names, message_terms}
+use Rattle.station_rows.specs.Ran.{insert_message_text}
+
+message_placed : IsPlaced station_schema 8 outbox
+message_placed = record { there = refl; uncounted = refl; unstamped = refl; idle = λ _ _ _. refl }
+
+pub inserts_message : (old new : State) (m : Message) (count : ℕ) → IsInside old → Executes insert_message_text (message_shown m) old new (Ok count) → Edits old new (with_message m)
+inserts_message old new m count inside h =
+    let was = typed_outbox old.now inside.station in
+    let ran = insert_ran station_schema old new inside.station.schema 8 outbox message_placed insert_message_text (message_shown m) count h message_terms 3 insert_message_is in
+    let put = puts message_id message_row (λ _. refl) station_schema _ outbox old.now.trees new.now.trees (tables_of old.now.trees).outbox was.rows (value_rows (message_shown m) 3 1 message_terms) m
+    (rw (cast_null, cast_int m.number)) ran.applies in
+    edits_outbox old new inside ran.kept ran.applies.tables ran.shown (λ xs. insert_by message_id xs m) put.rows (IsKeyedBy-insert_by message_id _ m was.keyed)
+
+pub lists_message : (old new : State) (number : ℤ) (rows : List Row) → IsStation old.now → Shown after_message_text (Int number ∷ []) old new rows
+    → rows ≡ map message_shown (filter (is_message_after number) (tables_of old.now.trees).outbox)
+lists_message old new number rows was h =
+    let read = reads_as after_message_text (Int number ∷ []) old new station_schema was.schema (Select (asks (one_table 13 after_message_where message_columns (by_column 0 ∷ []))) message_names) after_message_is.0 after_message_is.1 after_message_is.2 rows h in
+    rows_by_key message_id message_row (λ _. refl) message_in old.now.schema old.now.trees 13 (typed_outbox old.now was) (Int number ∷ []) after_message_where message_columns (is_message_after number) (λ m. last_term (at_ints false Gt m.number number)) message_shown (λ _. refl) rows read

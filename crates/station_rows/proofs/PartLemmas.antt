@@ -1,0 +1,53 @@
+-- The table `part`.
+use Rattle.std.proofs.Common.{ap₂, refl, sym, false, List, [], ℕ, int_cmp, int_eq, ◌∙◌, ◌∷◌, ◌≡◌}
+use Rattle.std.specs.Ordering.{eq_by_cmp}
+use Rattle.std.specs.Prelude.{◌&&◌}
+use Rattle.sqlite.specs.declared.types.Value.TheVariants.{Int, Text}
+use Rattle.sqlite_value.specs.Keys.{first_key}
+use Rattle.sqlite_sql.specs.declared.ops.CompareOp.TheVariants.{Eq}
+use Rattle.sqlite_keyed.proofs.SortLemmas.{pair_cmp}
+use Rattle.sqlite_typed.proofs.TestLemmas.{at_ints, at_texts, last_term, then_term}
+use Rattle.sqlite_typed.specs.Tests.{bytes_cmp}
+use Rattle.row_laws.proofs.Keys.{int_tied, pair_eq}
+use Rattle.row_laws.proofs.Shared.{cast_int, cast_null}
+use Rattle.station_schema.proofs.Keys.{part_same, part_total}
+use Rattle.station_schema.proofs.Stored.{edits_parts}
+use Rattle.station_schema.specs.Schema.{part}
+use Rattle.station_schema.specs.Tables.{PartKey, part_cmp, part_in, part_row, typed_parts}
+use Rattle.station_rows.proofs.KeyedLemmas.{IsTableOf, KeyedTable}
+
+abbrev pub part_table : KeyedTable PartKey (List ℕ)
+part_table = record {
+  place = 6;
+  table = part;
+  key_width = 4;
+  width = 5;
+  cmp = part_cmp;
+  key_row = λ k. Text k.0 ∷ Int k.1.0 ∷ Text k.1.1.0 ∷ Int k.1.1.1 ∷ [];
+  to_row = part_row;
+  from_row = part_in;
+  map_in = λ tables. tables.parts;
+  with_map = λ tables m. record tables { parts = m };
+}
+
+part_eq : (j k : PartKey) → (eq_by_cmp bytes_cmp j.0 k.0 && (int_eq j.1.0 k.1.0 && (eq_by_cmp bytes_cmp j.1.1.0 k.1.1.0 && int_eq j.1.1.1 k.1.1.1))) ≡ eq_by_cmp part_cmp j k
+part_eq j k = sym (pair_eq bytes_cmp (pair_cmp int_cmp (pair_cmp bytes_cmp int_cmp)) j k ∙ ap₂ ◌&&◌ refl (pair_eq int_cmp (pair_cmp bytes_cmp int_cmp) j.1 k.1 ∙ ap₂ ◌&&◌ (int_tied j.1.0 k.1.0) (pair_eq bytes_cmp int_cmp j.1.1 k.1.1 ∙ ap₂ ◌&&◌ refl (int_tied j.1.1.1 k.1.1.1))))
+
+pub part_is : IsTableOf part_table
+unfolding first_key
+part_is = record {
+  total = part_total;
+  same = part_same;
+  placed = record { there = refl; uncounted = refl; unstamped = refl; idle = λ _ _ _. refl };
+  typed = typed_parts;
+  is_read = λ _. refl;
+  places = 1 ∷ 2 ∷ 3 ∷ 4 ∷ [];
+  compares = λ a b. then_term (at_texts false Eq a.1.0.0 b.1.0.0) (then_term (at_ints false Eq a.1.0.1.0 b.1.0.1.0) (then_term (at_texts false Eq a.1.0.1.1.0 b.1.0.1.1.0) (last_term (at_ints false Eq a.1.0.1.1.1 b.1.0.1.1.1)))) ∙ part_eq a.1.0 b.1.0;
+  unique = λ _ all. all.1.1.1.1.1.1.0;
+  tests = λ k _ _ e. then_term (at_texts false Eq e.0.0 k.0) (then_term (at_ints false Eq e.0.1.0 k.1.0) (then_term (at_texts false Eq e.0.1.1.0 k.1.1.0) (last_term (at_ints false Eq e.0.1.1.1 k.1.1.1)))) ∙ part_eq e.0 k;
+  begins = λ _. (_, refl);
+  casts = λ n e. rw (cast_int n, cast_int e.0.1.0, cast_int e.0.1.1.1) refl;
+  news = λ _ e. rw (cast_null, cast_int e.0.1.0, cast_int e.0.1.1.1) refl;
+  updated = λ _ _ _. refl;
+  edits = edits_parts;
+}

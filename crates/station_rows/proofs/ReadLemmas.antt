@@ -1,0 +1,104 @@
+-- What a query reads of a station's tables.
+use Rattle.std.proofs.Common.{Bool, Err, List, None, Ok, Option, Result, Some, [], ap, inl, subst, false, true, map, option_map, refl, sym, take, get_or, length, ℕ, ◌+◌, ◌<◌, ◌++◌, ◌∙◌, ◌∷◌, ◌≡◌}
+use native.Mathlib.Numerals.{unary_clauses}
+use Rattle.std.proofs.Math.Seq.{take-suc}
+use Rattle.std.specs.Prelude.{IfOk, IsErr, Vec, option_to_list}
+use Rattle.std.specs.declared.alloc.Global.{Global}
+use Rattle.sqlite.proofs.Callers.{IsPlain}
+use Rattle.sqlite.specs.Held.{Held, state}
+use Rattle.sqlite.specs.Listing.{understood}
+use Rattle.sqlite.specs.Order.{Row}
+use Rattle.sqlite.specs.State.{HasCleanDisk, IsUnchanged, Shown, State}
+use Rattle.sqlite.specs.declared.error.Error.{Error}
+use Rattle.sqlite_trees.specs.declared.store.Store.{Ghosts}
+use Rattle.sqlite_keyed.proofs.ListLemmas.{map_back}
+use Rattle.sqlite.specs.Query.{Query}
+use Rattle.row_laws.proofs.Handing.{hands}
+use Rattle.row_laws.proofs.Texts.{Asks}
+use Rattle.row_laws.specs.Calls.{Reads, Stops}
+use Rattle.row_laws.specs.Streams.{Streams, StreamsRows}
+use Rattle.station_schema.proofs.Statements.{still_plain}
+use Rattle.station_schema.specs.Schema.{station_schema}
+use Rattle.station_schema.specs.Tables.{IsStation}
+use Rattle.station_rows.specs.Queries.{AreRead, Queries}
+
+and_one : {X : Type 0} (reads : Row → X → Type 0) (rows : List Row) (xs : List X) (row : Row) (x : X) → AreRead reads rows xs → reads row x → AreRead reads (rows ++ row ∷ []) (xs ++ x ∷ [])
+and_one reads [] [] row x are is = (is, tt)
+and_one reads [] (y ∷ ys) row x are is = absurd are
+and_one reads (r ∷ rows) [] row x are is = absurd are
+and_one reads (r ∷ rows) (y ∷ ys) row x are is = (are.0, and_one reads rows ys row x are.1 is)
+
+-- one row more
+pub one_more_read : {X : Type 0} (reads : Row → X → Type 0) (rows : List Row) (i : ℕ) (row : Row) (xs : List X) (x : X) → i < length rows → row ≡ get_or rows i row → AreRead reads (take i rows) xs → reads row x
+    → AreRead reads (take (i + 1) rows) (xs ++ x ∷ [])
+one_more_read reads rows i row xs x within there are is =
+    simp unary_clauses (subst (λ l. AreRead reads l (xs ++ x ∷ [])) (ap (λ r. take i rows ++ r ∷ []) there ∙ sym (take-suc rows i row within)) (and_one reads (take i rows) xs row x are is))
+
+pub reads_each : {X : Type 0} (reads : Row → X → Type 0) (old new : State) (sql : List ℕ) (params : Row) (all : List Row) → ((rows : List Row) × Shown sql params old new rows × (all ≡ rows)) × IsUnchanged old new
+    → (r : Result (Vec X Global) Error) → IfOk r (λ found. AreRead reads all found.items) → Reads old new r (λ found. (rows : List Row) × Shown sql params old new rows × AreRead reads rows found.items)
+reads_each reads old new sql params all h (Ok found) are = ((h.0.0, h.0.1, subst (λ l. AreRead reads l found.items) h.0.2 are), h.1)
+reads_each reads old new sql params all h (Err e) are = inl h.1
+
+pub fails_to_read : {X : Type 0} (Is : X → Type 0) (old new : State) (r : Result X Error) → IsErr r → Stops old new → Reads old new r Is
+fails_to_read Is old new (Ok x) fails stops = absurd (let no : false ≡ true = fails in cc)
+fails_to_read Is old new (Err e) fails stops = stops
+
+same_first : {X : Type 0} (a b : Option X) → option_to_list a ≡ option_to_list b → a ≡ b
+same_first None None is = refl
+same_first None (Some y) is = absurd cc
+same_first (Some x) None is = absurd cc
+same_first (Some x) (Some y) is = cc
+
+option_list : {X Y : Type 0} (f : X → Y) (o : Option X) → option_to_list (option_map f o) ≡ map f (option_to_list o)
+option_list f None = refl
+option_list f (Some x) = refl
+
+only : {X Y : Type 0} (f : X → Y) (o : Option X) → take 1 (map f (option_to_list o)) ≡ map f (option_to_list o)
+only f None = refl
+only f (Some x) = refl
+
+module _ {A B : Type 0} (meant : A → B) (shown : B → Row) (read : Row → B) (back : (b : B) → read (shown b) ≡ b) where
+  abbrev Stands : Row → A → Type 0
+  Stands row x = meant x ≡ read row
+
+  stand : (rows : List Row) (xs : List A) → AreRead Stands rows xs → map meant xs ≡ map read rows
+  stand [] [] are = refl
+  stand [] (x ∷ xs) are = absurd are
+  stand (row ∷ rows) [] are = absurd are
+  stand (row ∷ rows) (x ∷ xs) are = rw (are.0, stand rows xs are.1) refl
+
+  module _ {S : Type 0} (g : Ghosts S) (old new : Held S) (sql : List ℕ) (params : Row) (plain : IsPlain (understood station_schema sql)) where
+    -- all rows, which show these entries
+    pub all_told : (all : List B) → ((rows : List Row) → IsStation (state g old).now → Shown sql params (state g old) (state g new) rows → rows ≡ map shown all)
+        → (r : Result (Vec A Global) Error) → (HasCleanDisk (state g new) → Queries sql params (state g old) (state g new) r (λ rows found. AreRead Stands rows found.items))
+        → HasCleanDisk (state g new) → IsStation (state g old).now → Reads (state g old) (state g new) r (λ found. map meant found.items ≡ all)
+    all_told all lists r asked clean was = go r (asked clean (still_plain sql params (state g old) (state g new) plain was))
+      where
+        go : (r : Result (Vec A Global) Error) → Reads (state g old) (state g new) r (λ found. (rows : List Row) × Shown sql params (state g old) (state g new) rows × AreRead Stands rows found.items)
+            → Reads (state g old) (state g new) r (λ found. map meant found.items ≡ all)
+        go (Ok found) h = (stand h.0.0 found.items h.0.2 ∙ ap (map read) (lists h.0.0 was h.0.1) ∙ map_back shown read back all, h.1)
+        go (Err e) h = h
+
+    -- the first row, which shows this entry
+    pub first_told : (one : Option B) → ((rows : List Row) → IsStation (state g old).now → Shown sql params (state g old) (state g new) rows → rows ≡ map shown (option_to_list one))
+        → (r : Result (Option A) Error) → (HasCleanDisk (state g new) → Queries sql params (state g old) (state g new) r (λ rows found. AreRead Stands (take 1 rows) (option_to_list found)))
+        → HasCleanDisk (state g new) → IsStation (state g old).now → Reads (state g old) (state g new) r (λ found. option_map meant found ≡ one)
+    first_told one lists r asked clean was = go r (asked clean (still_plain sql params (state g old) (state g new) plain was))
+      where
+        go : (r : Result (Option A) Error) → Reads (state g old) (state g new) r (λ found. (rows : List Row) × Shown sql params (state g old) (state g new) rows × AreRead Stands (take 1 rows) (option_to_list found))
+            → Reads (state g old) (state g new) r (λ found. option_map meant found ≡ one)
+        go (Ok found) h = (
+          same_first (option_map meant found) one
+              (option_list meant found ∙ stand (take 1 h.0.0) (option_to_list found) h.0.2 ∙ ap (λ l. map read (take 1 l)) (lists h.0.0 was h.0.1) ∙ ap (map read) (only shown one) ∙ map_back shown read back (option_to_list one)),
+          h.1,
+        )
+        go (Err e) h = h
+
+-- rows that are handed out, which show these entries
+pub all_handed : {S K X : Type 0} (g : Ghosts S) (old new : Held S) (takes : K → Row → Bool → K → Type 0) (typed : K → X → Bool → K → Type 0) (shown : X → Row) → ((from : K) (x : X) (go : Bool) (to : K) → takes from (shown x) go to → typed from x go to)
+    → (sql : List ℕ) (params : Row) (query : Query) (names : List (List ℕ)) → Asks station_schema sql query names → (xs : List X) → ((later : State) (rows : List Row) → IsStation (state g old).now → Shown sql params (state g old) later rows → rows ≡ map shown xs)
+    → (from to : K) (r : Result (Unit {0}) Error) → (HasCleanDisk (state g new) → IsPlain (understood (state g old).now.schema sql) → Streams sql params (state g old) (state g new) takes from to r)
+    → HasCleanDisk (state g new) → IsStation (state g old).now → StreamsRows (state g old) (state g new) typed xs from to r
+all_handed g old new takes typed shown step sql params query names is xs lists from to r streams clean was =
+    hands takes typed shown step sql params (state g old) (state g new) station_schema was.schema query names is.0 xs (λ later rows. lists later rows was) from to r
+    (streams clean (still_plain sql params (state g old) (state g new) is.1 was))

@@ -1,0 +1,26 @@
+-- The terms of the statements on a table, by how many columns it has and how many of them are its key.
+use Rattle.std.proofs.Common.{List, [], map, suc, zero, ℕ, ◌++◌, ◌+◌, ◌-◌, ◌∷◌}
+use Rattle.sqlite.specs.Collation.TheVariants.{Binary}
+use Rattle.sqlite.specs.Term.{Term, col, lit, op2}
+use Rattle.sqlite.specs.declared.types.Value.TheVariants.{Null}
+use Rattle.sqlite_sql.specs.declared.ops.BinaryOp.TheVariants.{Compare}
+use Rattle.sqlite_sql.specs.declared.ops.CompareOp.TheVariants.{Eq}
+
+-- so many numbers from this one on
+abbrev pub from : ℕ → ℕ → List ℕ
+from zero at = []
+from (suc n) at = at ∷ from n (at + 1)
+
+abbrev pub insert_terms : ℕ → List Term
+insert_terms width = lit Null ∷ map (col 0) (from width 0)
+
+-- the key's columns are the first parameters
+abbrev pub key_terms : ℕ → List Term
+key_terms keys = map (λ i. op2 (Compare Eq Binary) (col 1 (i + 1)) (col 0 i)) (from keys 0)
+
+-- the old rowid, and the whole new row
+abbrev pub update_terms : ℕ → ℕ → List Term
+update_terms keys width = col 1 0 ∷ col 1 0 ∷ map (col 1) (from keys 1) ++ map (col 0) (from (width - keys) keys)
+
+abbrev pub columns : ℕ → List Term
+columns width = map (col 1) (from width 1)

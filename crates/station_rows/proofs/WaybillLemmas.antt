@@ -1,0 +1,60 @@
+-- What the statements on `waybill2` do.
+use Rattle.std.proofs.Common.{List, Ok, [], false, int_eq, map, refl, ℕ, ℤ, ◌∷◌, ◌≡◌}
+use Rattle.std.specs.List.{list_all}
+use Rattle.std.specs.Prelude.{option_to_list}
+use Rattle.sqlite.proofs.Callers.{reads_as}
+use Rattle.sqlite.specs.Command.TheVariants.{Select}
+use Rattle.sqlite.specs.Effect.{value_rows}
+use Rattle.sqlite.specs.Order.{Row}
+use Rattle.sqlite.specs.State.{Executes, Shown, State}
+use Rattle.sqlite.specs.Term.{holds}
+use Rattle.sqlite.specs.declared.types.Value.TheVariants.{Int, Null, Text}
+use Rattle.sqlite_sql.specs.declared.ops.CompareOp.TheVariants.{Eq}
+use Rattle.sqlite_keyed.proofs.KeyedLemmas.{IsKeyedBy-insert_by}
+use Rattle.sqlite_keyed.specs.Keyed.{get_by, insert_by}
+use Rattle.sqlite_keyed.specs.Lists.{update_where}
+use Rattle.sqlite_typed.proofs.TestLemmas.{at_ints, last_term}
+use Rattle.row_laws.proofs.Keyed.{one_table, puts}
+use Rattle.row_laws.proofs.Listed.{changed_at, row_at}
+use Rattle.row_laws.proofs.Ran.{IsPlaced, insert_ran, update_ran}
+use Rattle.row_laws.proofs.Shared.{cast_int, cast_null}
+use Rattle.row_laws.proofs.Texts.{asks}
+use Rattle.station_schema.proofs.Stored.{edits_waybills}
+use Rattle.station_schema.specs.Calls.{Edits, IsInside}
+use Rattle.station_schema.specs.Schema.{station_schema, waybill2}
+use Rattle.station_schema.specs.Tables.{IsStation, Waybill, tables_of, typed_waybills, waybill_id, waybill_in, waybill_row}
+use Rattle.station_rows.specs.Meant.{changing_waybill, with_waybill}
+use Rattle.station_rows.specs.Shown.{waybill_shown}
+use Rattle.station_rows.proofs.Texts.{get_waybill_is, get_waybill_text, insert_waybill_is, update_waybill_is, update_waybill_terms, waybill_columns, waybill_key_is, waybill_names, waybill_terms}
+use Rattle.station_rows.specs.Ran.{insert_waybill_text, update_waybill_text}
+
+waybill_placed : IsPlaced station_schema 13 waybill2
+waybill_placed = record { there = refl; uncounted = refl; unstamped = refl; idle = λ _ _ _. refl }
+
+-- WHERE awb = ?1
+at_key : (id : ℤ) (more : Row) (w : Waybill) → list_all (holds ((Int id ∷ more) ∷ waybill_row w ∷ [])) waybill_key_is ≡ int_eq w.awb id
+at_key id more w = last_term (at_ints false Eq w.awb id)
+
+pub inserts_waybill : (old new : State) (w : Waybill) (count : ℕ) → IsInside old → Executes insert_waybill_text (waybill_shown w) old new (Ok count) → Edits old new (with_waybill w)
+inserts_waybill old new w count inside h =
+    let was = typed_waybills old.now inside.station in
+    let ran = insert_ran station_schema old new inside.station.schema 13 waybill2 waybill_placed insert_waybill_text (waybill_shown w) count h waybill_terms 9 insert_waybill_is in
+    let put = puts waybill_id waybill_row (λ _. refl) station_schema _ waybill2 old.now.trees new.now.trees (tables_of old.now.trees).waybills was.rows (value_rows (waybill_shown w) 9 1 waybill_terms) w
+    (rw (cast_null, cast_int w.awb, cast_int w.pieces, cast_int w.tenths, cast_int w.notified, cast_int w.since)) ran.applies in
+    edits_waybills old new inside ran.kept ran.applies.tables ran.shown (λ xs. insert_by waybill_id xs w) put.rows (IsKeyedBy-insert_by waybill_id _ w was.keyed)
+
+pub updates_waybill : (old new : State) (w : Waybill) (count : ℕ) → IsInside old → Executes update_waybill_text (waybill_shown w) old new (Ok count) → Edits old new (changing_waybill w)
+updates_waybill old new w count inside h =
+    let was = typed_waybills old.now inside.station in
+    let ran = update_ran station_schema old new inside.station.schema 13 waybill2 waybill_placed update_waybill_text (waybill_shown w) count h (asks (one_table 22 waybill_key_is update_waybill_terms [])) update_waybill_is in
+    let f = λ (x : Waybill). record w { awb = x.awb } in
+    let now = changed_at waybill_id waybill_row (λ _. refl) waybill_in station_schema _ waybill2 old.now.trees new.now.trees was (waybill_shown w) waybill_key_is update_waybill_terms w.awb (at_key w.awb (Text w.origin ∷ Text w.destination ∷ Int w.pieces ∷ Int w.tenths ∷ Text w.goods ∷ Int w.notified ∷ Int w.since ∷ []))
+    (λ x. Int x.awb ∷ Int x.awb ∷ Null ∷ Text w.origin ∷ Text w.destination ∷ Int w.pieces ∷ Int w.tenths ∷ Text w.goods ∷ Int w.notified ∷ Int w.since ∷ []) (λ _. refl) (λ _. refl) f (λ _. refl)
+    (λ x. rw (cast_null, cast_int x.awb, cast_int w.pieces, cast_int w.tenths, cast_int w.notified, cast_int w.since)) ran.0 ran.1 ran.2.applies in
+    edits_waybills old new inside ran.2.kept ran.2.applies.tables ran.2.shown (λ xs. update_where (λ x. int_eq (waybill_id x) w.awb) f xs) now.rows now.up
+
+pub gets_waybill : (old new : State) (id : ℤ) (rows : List Row) → IsStation old.now → Shown get_waybill_text (Int id ∷ []) old new rows
+    → rows ≡ map waybill_shown (option_to_list (get_by waybill_id (tables_of old.now.trees).waybills id))
+gets_waybill old new id rows was h =
+    let read = reads_as get_waybill_text (Int id ∷ []) old new station_schema was.schema (Select (asks (one_table 22 waybill_key_is waybill_columns [])) waybill_names) get_waybill_is.0 get_waybill_is.1 get_waybill_is.2 rows h in
+    row_at waybill_id waybill_row (λ _. refl) waybill_in old.now.schema old.now.trees 22 (typed_waybills old.now was) (Int id ∷ []) waybill_key_is waybill_columns id (at_key id []) waybill_shown (λ _. refl) rows read

@@ -1,0 +1,6 @@
+use Rattle.std.proofs.Common.{◌≡◌, map, take}
+use Rattle.station_rows.specs.Shown.{pieces_read}
+use Rattle.station_rows.proofs.builds.read_all_pieces.Given as goal
+
+abbrev pub invariant-loop-row : goal.invariant-loop-row
+invariant-loop-row l = l.all.items ≡ map pieces_read (take l.row-index l.rows)

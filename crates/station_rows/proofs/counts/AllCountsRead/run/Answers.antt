@@ -1,0 +1,17 @@
+use Rattle.std.proofs.Common.{refl}
+use Rattle.station_schema.specs.Tables.{count_row}
+use Rattle.station_schema.proofs.Statements.{query_survives}
+use Rattle.station_rows.specs.Meant.{count_meant}
+use Rattle.station_rows.specs.Shown.{count_read}
+use Rattle.station_rows.proofs.ReadLemmas.{all_told}
+use Rattle.station_rows.proofs.Texts.{all_count_text, all_count_is}
+use Rattle.station_rows.proofs.CountLemmas.{lists_all_counts}
+use Rattle.station_rows.proofs.counts.AllCountsRead.run.Goals as goal
+
+pub returns-clause-read : goal.returns-clause-read
+returns-clause-read g c =
+    all_told count_meant count_row count_read (λ _. refl) g.S.Store c.args.conn.now c.all_rows.new.conn all_count_text _ all_count_is.1 _
+    (lists_all_counts _ _) _ c.all_rows.ensures.read
+
+pub returns-clause-survives : goal.returns-clause-survives
+returns-clause-survives g c = query_survives all_count_text _ _ _ all_count_is.1 c.all_rows.ensures.survives

@@ -1,0 +1,17 @@
+use Rattle.std.proofs.Common.{refl}
+use Rattle.station_schema.specs.Tables.{expected_row}
+use Rattle.station_schema.proofs.Statements.{query_survives}
+use Rattle.station_rows.specs.Meant.{listed_waybill_meant}
+use Rattle.station_rows.specs.Shown.{listed_waybill_read}
+use Rattle.station_rows.proofs.ReadLemmas.{all_told}
+use Rattle.station_rows.proofs.Texts.{all_expected_text, all_expected_is}
+use Rattle.station_rows.proofs.ExpectedLemmas.{lists_all_expected}
+use Rattle.station_rows.proofs.expected.AllExpectedRead.run.Goals as goal
+
+pub returns-clause-read : goal.returns-clause-read
+returns-clause-read g c =
+    all_told listed_waybill_meant expected_row listed_waybill_read (λ _. refl) g.S.Store c.args.conn.now c.all_rows.new.conn all_expected_text _ all_expected_is.1 _
+    (lists_all_expected _ _) _ c.all_rows.ensures.read
+
+pub returns-clause-survives : goal.returns-clause-survives
+returns-clause-survives g c = query_survives all_expected_text _ _ _ all_expected_is.1 c.all_rows.ensures.survives

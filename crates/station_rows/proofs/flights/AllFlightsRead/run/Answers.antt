@@ -1,0 +1,17 @@
+use Rattle.std.proofs.Common.{refl}
+use Rattle.station_schema.specs.Tables.{flight_row}
+use Rattle.station_schema.proofs.Statements.{query_survives}
+use Rattle.station_rows.specs.Meant.{noted_flight_meant}
+use Rattle.station_rows.specs.Shown.{noted_flight_read}
+use Rattle.station_rows.proofs.ReadLemmas.{all_told}
+use Rattle.station_rows.proofs.Texts.{all_flight_text, all_flight_is}
+use Rattle.station_rows.proofs.FlightLemmas.{lists_all_flights}
+use Rattle.station_rows.proofs.flights.AllFlightsRead.run.Goals as goal
+
+pub returns-clause-read : goal.returns-clause-read
+returns-clause-read g c =
+    all_told noted_flight_meant flight_row noted_flight_read (λ _. refl) g.S.Store c.args.conn.now c.all_rows.new.conn all_flight_text _ all_flight_is.1 _
+    (lists_all_flights _ _) _ c.all_rows.ensures.read
+
+pub returns-clause-survives : goal.returns-clause-survives
+returns-clause-survives g c = query_survives all_flight_text _ _ _ all_flight_is.1 c.all_rows.ensures.survives

@@ -1,0 +1,20 @@
+use Rattle.sqlite.specs.Held.{state}
+use Rattle.row_laws.proofs.Inside.{reads}
+use Rattle.station_schema.specs.Schema.{station_schema}
+use Rattle.station_schema.proofs.Statements.{query_survives}
+use Rattle.station_rows.proofs.Texts.{get_part_text, get_part_is}
+use Rattle.std.proofs.Common.{refl}
+use Rattle.station_rows.specs.Shown.{part_shown}
+use Rattle.station_rows.proofs.KeyedLemmas.{gets_value}
+use Rattle.station_rows.proofs.PartLemmas.{part_is, part_table}
+use Rattle.station_rows.proofs.parts.shown_part.Goals as goal
+
+pub returns-clause-read : goal.returns-clause-read
+returns-clause-read g c clean was =
+    reads get_part_text _ (state g.S.Store c.args.conn.now) (state g.S.Store c.query_all.new.self) station_schema was.schema get_part_is.1 _
+    (λ rows. gets_value part_table part_is _ _ _ get_part_is part_shown (λ _ _ _. refl) (state g.S.Store c.args.conn.now) (state g.S.Store c.query_all.new.self) (c.args.part.now.flight.now, (c.args.part.now.day, (c.args.part.now.airport.now, c.args.part.now.seq))) rows was) _
+    (rw (c.params-to_sql.ensures, c.params-to_sql-2.ensures, c.params-to_sql-3.ensures, c.params-to_sql-4.ensures) at (c.query_all.ensures.ok clean))
+    (rw (c.params-to_sql.ensures, c.params-to_sql-2.ensures, c.params-to_sql-3.ensures, c.params-to_sql-4.ensures) at (c.query_all.ensures.err clean))
+
+pub returns-clause-survives : goal.returns-clause-survives
+returns-clause-survives g c = query_survives get_part_text _ _ _ get_part_is.1 c.query_all.ensures.survives

@@ -1,0 +1,6 @@
+use Rattle.std.proofs.Common.{take}
+use Rattle.station_rows.specs.Queries.{AreRead}
+use Rattle.station_rows.proofs.queries.read_all.Given as goal
+
+abbrev pub invariant-loop-row : goal.invariant-loop-row
+invariant-loop-row g l = AreRead g.T.ReadRow.reads (take l.row-index l.rows) l.all.items

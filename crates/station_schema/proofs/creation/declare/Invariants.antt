@@ -1,0 +1,16 @@
+use Rattle.sqlite.specs.Held.{state}
+use Rattle.sqlite.specs.State.{HasCleanDisk, Survives}
+use Rattle.row_laws.specs.Calls.{IsMade}
+use Rattle.station_schema.specs.Schema.{no_schema}
+use Rattle.station_schema.proofs.Creating.{HasComeTo}
+use Rattle.station_schema.proofs.creation.declare.Given as goal
+
+-- so many declarations have run
+abbrev pub invariant-loop-text : goal.invariant-loop-text
+invariant-loop-text g l =
+    let old = state g.S.Store l.fn.conn in
+    let now = state g.S.Store l.conn in
+    record {
+      made : HasCleanDisk now → IsMade no_schema old → HasComeTo old now l.text-index;
+      survives : Survives old now (λ _. ¬ IsMade no_schema old);
+    }

@@ -1,0 +1,17 @@
+use Rattle.std.proofs.Common.{refl, rules, tests}
+use Rattle.std.proofs.lemmas.Iterator.{YieldsList-from_slice}
+use Rattle.std.proofs.lemmas.Iterator.Search.{all_from_yields_List}
+use Rattle.table_load.specs.Held.{part_entry}
+use Rattle.row_codec.specs.Manifests.{is_part_row}
+use Rattle.table_audits.proofs.Tables.{are, as_law, missing, tested, part_table}
+use Rattle.table_audits.proofs.part.is_good.Goals as goal
+
+pub returns-in_default-clause-read : goal.returns-in_default-clause-read
+returns-in_default-clause-read g c = λ clean up so_far knows. missing (part_table _) so_far (rw c.in_default.is at c.in_ok-rows.ensures.read clean up)
+
+pub returns-clause-read : goal.returns-clause-read
+returns-clause-read g c = λ clean up so_far knows.
+    let read = c.in_ok-rows.ensures.read clean up in
+    let held = rw c.in-Some.is at read.0 in
+    let says = all_from_yields_List (λ row. is_part_row (part_entry row)) _ _ _ c.all-is_lawful.ensures.ran (YieldsList-from_slice c.in-Some.rows.items cc) (λ x b q k. search (rules, tests)) in
+    (tested (part_table _) so_far _ held c.all-is_lawful.result (λ t so is. as_law _ is_part_row part_entry _ _ says is (λ h. record { rows = h }) (λ law. law.rows)) (refl, (knows.0, knows.1, knows.2, knows.3, λ t so. are (part_table _) so_far _ held t so.0.held)), read.1)
