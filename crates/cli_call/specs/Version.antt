@@ -4,8 +4,12 @@ use Rattle.std.specs.Fmt.{signed_decimal}
 use Rattle.station_schema.specs.Calls.{new_station}
 use Rattle.cli_words.specs.Version.{program_version}
 
--- the program, its version, and the version of a new station's file
+-- the kit with which the program is proved
+abbrev pub kit : List ℕ
+kit = codes "rattle-kit-13f"
+
+-- the program, its version, the version of a new station's file, and the kit
 abbrev pub version_line : List ℕ
 version_line =
     codes "cargo_desk " ++ program_version ++ codes ", files of version "
-    ++ signed_decimal (new_station []).version ++ codes "\n"
+    ++ signed_decimal (new_station []).version ++ (codes ", proved with " ++ kit ++ codes "\n")

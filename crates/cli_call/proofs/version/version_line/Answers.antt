@@ -6,5 +6,5 @@ use Rattle.cli_call.proofs.version.version_line.Goals as goal
 pub returns : goal.returns
 returns c =
     told string_bytes c.format.result _ _
-    (λ i. codes "cargo_desk " ++ (c.program_version-program.ensures i ++ (codes ", files of version " ++ (signed_decimal (c.file_version-files.ensures i) ++ codes "\n"))))
+    (λ i. codes "cargo_desk " ++ (c.program_version-program.ensures i ++ (codes ", files of version " ++ (signed_decimal (c.file_version-files.ensures i) ++ (codes ", proved with " ++ (c.kit-kit.ensures i ++ codes "\n"))))))
     c.format.ensures.ok
