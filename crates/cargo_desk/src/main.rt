@@ -167,7 +167,7 @@ fn serve_at(rt: &HostRuntime, line: &Line<'_>, zone: &Zone, port: u16, count: Op
 
 /// Runs a command line. The clock is read once, by `serve` once for each connection, and not at all
 /// for a running service, which uses its own.
-fn run_now(rt: &HostRuntime, line: &Line<'_>) -> u8 {
+fn run_call(rt: &HostRuntime, line: &Line<'_>) -> u8 {
     let Some(zone) = Zone::read(line.zone) else {
         return refuse_words(rt, &usage_fault(rt.alloc(), NO_ZONE));
     };
@@ -183,13 +183,6 @@ fn run_now(rt: &HostRuntime, line: &Line<'_>) -> u8 {
     match moment_now(rt, &zone) {
         Some(at) => run_way(rt, line, Way::Station(at)),
         None => end_call(rt, Err(DeskFault::Clock)),
-    }
-}
-
-fn run_words(rt: &HostRuntime, words: &[String]) -> u8 {
-    match parse_words(rt.alloc(), words) {
-        Ok(line) => run_now(rt, &line),
-        Err(fault) => refuse_words(rt, &fault),
     }
 }
 
@@ -211,7 +204,10 @@ fn refuse_call(rt: &HostRuntime, error: &io::Error) -> u8 {
 /// `init`.
 fn main(rt: HostRuntime) -> ExitCode {
     let status = match words_of(&rt) {
-        Ok(words) => run_words(&rt, words.as_slice()),
+        Ok(words) => match parse_words(rt.alloc(), words.as_slice()) {
+            Ok(line) => run_call(&rt, &line),
+            Err(fault) => refuse_words(&rt, &fault),
+        },
         Err(error) => refuse_call(&rt, &error),
     };
     ExitCode::from(status)

@@ -76,7 +76,7 @@ fn run_in_memory<R: Read + Drop>(rt: &HostRuntime, line: &Line<'_>, task: Task<'
 }
 
 /// Warns if the tables of the file are declared differently, and returns the exit status.
-fn end_file<D: Disk>(rt: &HostRuntime, line: &Line<'_>, ended: &FileEnd<D>) -> u8 {
+fn end_file<D: Disk + Drop>(rt: &HostRuntime, line: &Line<'_>, ended: FileEnd<D>) -> u8 {
     if ended.status <= 1 && !ended.is_declared && !is_opening(line) {
         tell_undeclared(rt, line);
     }
@@ -126,7 +126,7 @@ fn run_whole<D: Disk + Drop, R: Read + Drop>(
         Task::Run { reader, turns, at } => {
             let mut feed = Feed::new(reader, turns);
             let ended = run_file(alloc, line, conn, &mut feed, &mut output, &mut errors, at);
-            end_file(rt, line, &ended)
+            end_file(rt, line, ended)
         }
         Task::Serve(service) => {
             let (status, conn) = serve_line(rt, line, conn, service);
@@ -150,7 +150,7 @@ fn run_beside<D: Disk + Drop, R: Read + Drop>(
         Task::Run { reader, turns, at } => {
             let mut feed = Feed::new(reader, turns);
             let ended = run_file_beside(alloc, line, conn, &mut feed, &mut output, &mut errors, at);
-            end_file(rt, line, &ended)
+            end_file(rt, line, ended)
         }
         Task::Serve(service) => {
             let (status, conn) = serve_line(rt, line, conn, service);
@@ -160,13 +160,11 @@ fn run_beside<D: Disk + Drop, R: Read + Drop>(
     }
 }
 
-/// Does a command line's task over a file.
-fn run_in_file<R: Read + Drop>(
-    rt: &HostRuntime,
-    line: &Line<'_>,
-    path: &str,
-    task: Task<'_, R>,
-) -> u8 {
+/// Does a command line's task over its station: in memory without a file.
+pub fn run_over<R: Read + Drop>(rt: &HostRuntime, line: &Line<'_>, task: Task<'_, R>) -> u8 {
+    let Some(path) = line.db else {
+        return run_in_memory(rt, line, task);
+    };
     let opened = if is_opening(line) {
         make_file(rt, path)
     } else {
@@ -180,13 +178,5 @@ fn run_in_file<R: Read + Drop>(
             tell_unopened(rt, path, fault);
             status
         }
-    }
-}
-
-/// Does a command line's task over its station.
-pub fn run_over<R: Read + Drop>(rt: &HostRuntime, line: &Line<'_>, task: Task<'_, R>) -> u8 {
-    match line.db {
-        Some(path) => run_in_file(rt, line, path, task),
-        None => run_in_memory(rt, line, task),
     }
 }
