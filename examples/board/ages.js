@@ -53,11 +53,12 @@ export async function askAges(rows) {
   return open.length > 0;
 }
 
+// How long cargo has lain here; the day alone if the desk's clock is ahead of the browser's.
 export function ageText(since) {
   const days = daysOf(since);
   if (days === null) return "";
   return days > 0 ? el("span", { class: days >= OLD ? "old" : undefined },
-    `${shortDay(since)}, ${counted(days, "day")}`) : "today";
+    `${shortDay(since)}, ${counted(days, "day")}`) : shortDay(since);
 }
 
 // The shed by how long it has lain: a bar for each span of days, by weight.
