@@ -8,7 +8,7 @@ import signal
 import subprocess
 import threading
 
-TOP = pathlib.Path(__file__).resolve().parent.parent
+TOP = pathlib.Path(__file__).resolve().parents[2]
 KIT = pathlib.Path(shutil.which("rt") or "/bin/rt").resolve().parent.parent
 KEPT = pathlib.Path(os.environ.get("XDG_CACHE_HOME") or pathlib.Path.home() / ".cache") / "cargo_desk-planted"
 PARTS = ("src", "specs", "proofs")

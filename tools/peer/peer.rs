@@ -1,6 +1,6 @@
 //! The stock list as a Rust program over SQLite would do it, to compare with: `tools/rates PROGRAM --beside peer`.
 //!
-//! Build it with `rustc -O tools/peer.rs -l sqlite3` (Debian's package libsqlite3-dev). It takes `--db FILE`,
+//! Build it with `rustc -O tools/peer/peer.rs -l sqlite3` (Debian's package libsqlite3-dev). It takes `--db FILE`,
 //! `--station IATA`, and `init` or `stock`, and prints the same lines; it gives no reasons and does nothing else. Rows
 //! of `stock` are runs of numbers, statements are prepared once, and a row is one transaction.
 use std::collections::HashMap;
