@@ -22,7 +22,7 @@ _cargo_desk() {
                 --at | --station | --zone) ;;
                 *) COMPREPLY=($(compgen -W "$_cargo_desk_options $_cargo_desk_commands" -- "$cur")) ;;
             esac ;;
-        report) COMPREPLY=($(compgen -W 'stock shed flights expected irregularities movements trail manifest
+        report) COMPREPLY=($(compgen -W 'stock shed flights expected irregularities movements trail sent station manifest
             --open --agent --awb --after --last --json' -- "$cur")) ;;
         outbox) COMPREPLY=($(compgen -W '--after --json' -- "$cur")) ;;
         act) [ $((COMP_CWORD - i)) -ne 1 ] || COMPREPLY=($(compgen -W "$_cargo_desk_verbs" -- "$cur")) ;;

@@ -51,7 +51,8 @@ fn run_service<K: Keeper>(
         clock: rt,
         zone,
     };
-    match serve(rt, &setting, keeper, listener, count) {
+    let mut errors = Counted::new(rt.stderr());
+    match serve(rt, &setting, keeper, &mut errors, listener, count) {
         Ok(()) => Ok(true),
         Err(fault) => Err(server_fault(fault)),
     }

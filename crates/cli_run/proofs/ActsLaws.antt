@@ -9,20 +9,16 @@ use Rattle.cli_run.specs.Acts.{HasAnsweredLine}
 use Rattle.cli_run.specs.ActsLaw.{acts_lines, AreAsked, HasRunActs}
 use Rattle.cli_run.specs.Asked.{asked_after}
 use Rattle.station_core.specs.Keeping.{Keeping}
-use Rattle.cli_run.specs.InTurn.{AreAnswered, Come}
+use Rattle.stock_list.specs.Come.{Come}
+use Rattle.stock_list.specs.InTurn.{AreAnswered}
+use Rattle.cli_run.proofs.Ran.{lines_serve}
 
 module _ {K E : Type 0} (k : Keeping K) (at : LocalMinute) (taken : E → Given) where
   abbrev Line : ℕ → List ℕ → Come K E → Come K E → Result Bool RunFault → Type 0
   Line = HasAnsweredLine k at taken
 
-  sound_then : (n : ℕ) (line : List ℕ) (old new : Come K E) (good : Bool) → Line n line old new (Ok good) → k.is_sound new.keeper → k.is_sound old.keeper
-  sound_then n line old new good (inl skipped) h = subst (λ (c : Come K E). k.is_sound c.keeper) skipped.same h
-  sound_then n line old new good (inr (inl unheard)) h = subst (λ (c : Come K E). k.is_sound c.keeper) unheard.same h
-  sound_then n line old new good (inr (inr heard)) h = heard.answer.sound h
-
   sound_before : (n : ℕ) (lines : List (List ℕ)) (old new : Come K E) (good : Bool) → AreAnswered Line n lines old new good → k.is_sound new.keeper → k.is_sound old.keeper
-  sound_before n [] old new good (same, all) h = subst (λ (c : Come K E). k.is_sound c.keeper) same h
-  sound_before n (line ∷ lines) old new good (mid, (one, rest, step, more, all)) h = sound_then n line old mid one step (sound_before (n + 1) lines mid new rest more h)
+  sound_before n lines old new good are h = let service = lines_serve k at taken n lines old new good (Ok good) are in service.premise.sound h
 
   pub run_of_lines : (n : ℕ) (lines : List (List ℕ)) (old new : Come K E) (good : Bool) → AreAnswered Line n lines old new good
       → (s : State) → k.keeps old.keeper s → k.is_broken old.keeper ≡ false → k.is_sound new.keeper → HasRunActs n s at lines old.sent.bytes new.sent.bytes (k.keeps new.keeper) good
@@ -51,7 +47,7 @@ module _ {K E : Type 0} (k : Keeping K) (at : LocalMinute) (taken : E → Given)
       go (inr (inl unheard)) later mid_sound = absurd (let e = unheard.why in cc)
       go (inr (inr heard)) later mid_sound =
           let answer = heard.answer.answered s kept works mid_sound in
-          let r = later (asked_after s heard.asks at) answer.state (heard.answer.works works) in
+          let r = later (asked_after s heard.asks at) answer.state (heard.answer.service.works works) in
           record {
             asked = (n, heard.asks) ∷ r.asked;
             are = inr (heard.blank, (heard.asks, (r.asked, heard.asked, refl, r.are)));

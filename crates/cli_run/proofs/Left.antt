@@ -1,5 +1,5 @@
 -- What each command leaves is the state after some of what it asks.
-use Rattle.std.proofs.Common.{◌≡◌, ◌⊎◌, ℕ, zero, suc, ◌+◌, Bool, true, false, inl, inr, Ok, Err, Result, Option, Some, None, List, [], ◌∷◌, ◌++◌, length, refl, sym, ap, subst, ◌∙◌, arith}
+use Rattle.std.proofs.Common.{◌≡◌, ◌⊎◌, ℕ, zero, suc, ◌+◌, Bool, true, false, inl, inr, Ok, Err, Result, Option, Some, None, List, [], ◌∷◌, ◌++◌, length, refl, sym, ap, subst, ◌∙◌, arith, ⊎_elim}
 use Rattle.std.specs.Prelude.{OnOk}
 use Rattle.std.specs.List.{AllByRecursion}
 use Rattle.std.proofs.Math.Seq.{take-append_seam, take-append-add, take-length}
@@ -24,13 +24,19 @@ use Rattle.cli_run.specs.declared.asked.Asked.TheVariants as asked
 use Rattle.cli_run.specs.Acts.{HasAnsweredLine}
 use Rattle.cli_run.specs.ActLine.{IsActAsked}
 use Rattle.cli_run.specs.Asked.{asked_after, IsTelegramAsked, IsCommandAsked}
-use Rattle.cli_run.specs.Done.{HasAnsweredRows, HasDone}
-use Rattle.cli_run.specs.Ended.{HasRun, IsStopped}
-use Rattle.cli_run.specs.Ends.{come_to, kept_by, told_to, Ends, Reached, Told}
+use Rattle.cli_run.specs.Answered.{HasAnswered, HasAnsweredAsked, HasNotReceived, HasReceived}
+use Rattle.cli_run.specs.Done.{HasDone}
+use Rattle.stock_list.specs.Answered.{HasAnsweredRows}
+use Rattle.cli_run.specs.Ended.{IsStopped}
+use Rattle.stock_list.specs.Ended.{kept_by}
+use Rattle.cli_run.specs.Ends.{come_to, told_to, Ends, Reached, Told}
 use Rattle.cli_run.specs.History.{GoesOnWith, HasToldHistory}
-use Rattle.cli_run.specs.InTurn.{AreAnswered, AreMade, Come, HasEndedAt, HaveBeenAnswered, HaveBeenMade}
+use Rattle.stock_list.specs.Come.{Come}
+use Rattle.stock_list.specs.InTurn.{AreAnswered, HasEndedAt, HaveBeenAnswered}
+use Rattle.cli_run.specs.InTurn.{lines_of, AreMade, HaveBeenMade}
 use Rattle.cli_run.specs.Takes.{HasTakenNext}
 use Rattle.cli_run.specs.Left.{AsksAt, station_fault, HasLeft}
+use Rattle.cli_run.proofs.Ran.{line_service, lines_serve, take_serves}
 
 abbrev Inputs : Type 0
 Inputs = List (Input × LocalMinute)
@@ -174,17 +180,24 @@ module _ {K : Type 0} (k : Keeping K) (settled : (it : K) (s : State) → k.keep
       each_of : (bytes : List ℕ) (asks : Asked) → IsAsked bytes asks → (i : Input) → asks ≡ asked.Input i → P (i, at)
       each_of bytes asks is i same = asks_it bytes i (subst (IsAsked bytes) same is)
 
-      module _ {E : Type 0} where
-        asked_last : {old : K} → (run : Runs P s old) → (from to : Come K E × Given) (e : RunFault) → k.is_sound to.0.keeper
-            → HasRun IsAsked k (after_all s run.inputs) at from to (Err e) → Left P s to.0.keeper (Err e)
-        asked_last run from to e sound (inl unbegun) = settle P s run.inputs run.asked to.0.keeper unbegun.state sound (Err e)
-        asked_last run from to e sound (inr (bytes, come, (asks, is, end))) =
-            stopped run.inputs run.asked None asks (each_of bytes asks is) e from.0.sent.bytes to.0.sent.bytes to.0.keeper sound end
+      module _ {E : Type 0} (taken : E → Given) where
+        asked_last : (from to : Come K E × Given) → Runs P s from.0.keeper → (e : RunFault) → k.is_sound to.0.keeper
+            → HasAnsweredAsked IsAsked k at taken from to (Err e) → Left P s to.0.keeper (Err e)
+        asked_last from to run e sound ran =
+            ⊎_elim (λ (got : HasReceived IsAsked (λ bytes. HasAnswered k at taken None) from.1 to.1 from.0 to.0 (Err e)).
+            stopped run.inputs run.asked None got.asks (each_of got.bytes got.asks got.asked) e from.0.sent.bytes to.0.sent.bytes to.0.keeper sound
+            (got.answer.stopped (after_all s run.inputs) run.kept run.works sound))
+            (λ (none : HasNotReceived from.0 to.0 (Err e)). settle P s run.inputs run.asked to.0.keeper
+            (subst (λ (c : Come K E). k.keeps c.keeper (after_all s run.inputs)) (sym none.same) run.kept) sound (Err e)) ran.answered
 
-        asked_on : {old : K} → (run : Runs P s old) → (from to : Come K E × Given) (good : Bool) → k.is_broken to.0.keeper ≡ false
-            → HasRun IsAsked k (after_all s run.inputs) at from to (Ok good) → Runs P s to.0.keeper
-        asked_on run from to good works (bytes, come, (asks, is, answered)) =
-            grow P s run (one_of asks at) (are_asked P asks at (each_of bytes asks is)) (subst (k.keeps to.0.keeper) (after_asked (after_all s run.inputs) asks at) answered.state) works
+        asked_on : (from to : Come K E × Given) → Runs P s from.0.keeper → (good : Bool) → k.is_sound to.0.keeper
+            → HasAnsweredAsked IsAsked k at taken from to (Ok good) → Runs P s to.0.keeper
+        asked_on from to run good sound ran =
+            ⊎_elim (λ (got : HasReceived IsAsked (λ bytes. HasAnswered k at taken None) from.1 to.1 from.0 to.0 (Ok good)).
+            let answer = got.answer.answered (after_all s run.inputs) run.kept run.works sound in
+            grow P s run (one_of got.asks at) (are_asked P got.asks at (each_of got.bytes got.asks got.asked))
+            (subst (k.keeps to.0.keeper) (after_asked (after_all s run.inputs) got.asks at) answer.state) (got.answer.service.works run.works))
+            (λ (none : HasNotReceived from.0 to.0 (Ok good)). subst (λ (c : Come K E). Runs P s c.keeper) (sym none.same) run) ran.answered
 
   none_yet : (P : Input × LocalMinute → Type 0) (s : State) (it : K) → k.keeps it s → k.is_broken it ≡ false → Runs P s it
   none_yet P s it kept works = record { inputs = []; asked = tt; kept = kept; works = works }
@@ -193,41 +206,37 @@ module _ {K : Type 0} (k : Keeping K) (settled : (it : K) (s : State) → k.keep
   ended P s it run sound r = settle P s run.inputs run.asked it run.kept sound r
 
   -- one body, or one telegram
-  module _ {E : Type 0} (IsAsked : List ℕ → Asked → Type 0) (P : Input × LocalMinute → Type 0) (at : LocalMinute)
+  module _ {E : Type 0} (IsAsked : List ℕ → Asked → Type 0) (P : Input × LocalMinute → Type 0) (at : LocalMinute) (taken : E → Given)
       (asks_it : (bytes : List ℕ) (i : Input) → IsAsked bytes (asked.Input i) → P (i, at)) where
     pub act_left : (s : State) (old new : Come K E × Given) (r : Result Bool RunFault) → k.keeps old.0.keeper s → k.is_broken old.0.keeper ≡ false → k.is_sound new.0.keeper
-        → HasRun IsAsked k s at old new r → Left P s new.0.keeper r
-    unfolding none_yet
-    act_left s old new (Ok good) kept works sound (bytes, come, (asks, is, answered)) =
-        done P s [] tt (one_of asks at) (are_asked P asks at (λ i same. asks_it bytes i (subst (IsAsked bytes) same is))) new.0.keeper (subst (k.keeps new.0.keeper) (after_asked s asks at) answered.state) sound (Ok good)
+        → HasAnsweredAsked IsAsked k at taken old new r → Left P s new.0.keeper r
+    act_left s old new (Ok good) kept works sound has =
+        ended P s new.0.keeper (asked_on P s at IsAsked asks_it taken old new (none_yet P s old.0.keeper kept works) good sound has) sound (Ok good)
     act_left s old new (Err e) kept works sound has =
-        asked_last P s at IsAsked asks_it (none_yet P s old.0.keeper kept works) old new e sound has
+        asked_last P s at IsAsked asks_it taken old new (none_yet P s old.0.keeper kept works) e sound has
 
   -- telegrams, one after another
   module _ {I E : Type 0} (P : Input × LocalMinute → Type 0) (at : LocalMinute) (given : I → Given) (turned : I → I → Type 0) (taken : E → Given)
       (asks_it : (bytes : List ℕ) (i : Input) → IsTelegramAsked bytes (asked.Input i) → P (i, at)) where
     abbrev Step : Come K E × I → Come K E × I → Result Bool RunFault → Type 0
-    Step = HasTakenNext k at given turned taken
+    Step = HasTakenNext (λ bytes. HasAnswered k at taken None) given turned
 
-    sound_before : (n : ℕ) (old new : Come K E × I) (good : Bool) → AreMade Step n old new good → k.is_sound new.0.keeper → k.is_sound old.0.keeper
-    sound_before zero old new good (same, all) h = subst (λ (c : Come K E × I). k.is_sound c.0.keeper) same h
-    sound_before (suc n) old new good (mid, (before, one, made, step, all)) h = sound_before n old mid before made (step.sound h)
+    sound_of : (old new : Come K E × I) (r : Result Bool RunFault) → Step old new r → k.is_sound new.0.keeper → k.is_sound old.0.keeper
+    sound_of old new r step h = let service = take_serves k at taken given turned old new r step in service.premise.sound h
 
     made : (n : ℕ) (s : State) (old new : Come K E × I) (good : Bool) → AreMade Step n old new good → k.keeps old.0.keeper s → k.is_broken old.0.keeper ≡ false → k.is_sound new.0.keeper → Runs P s new.0.keeper
     made zero s old new good (same, all) kept works sound =
         none_yet P s new.0.keeper (subst (λ (c : Come K E × I). k.keeps c.0.keeper s) (sym same) kept) (ap (λ (c : Come K E × I). k.is_broken c.0.keeper) same ∙ works)
     made (suc n) s old new good (mid, (before, one, first, step, all)) kept works sound =
-        let run = made n s old mid before first kept works (step.sound sound) in
-        asked_on P s at IsTelegramAsked asks_it run (mid.0, given step.next) (new.0, given new.1) one (step.works run.works)
-        (step.answered.ran (after_all s run.inputs) run.kept run.works sound)
+        let run = made n s old mid before first kept works (sound_of mid new (Ok one) step sound) in
+        asked_on P s at IsTelegramAsked asks_it taken (mid.0, given step.next) (new.0, given new.1) run one sound step.run
 
     pub take_left : (count : ℕ) (s : State) (old new : Come K E × I) (r : Result Bool RunFault) → k.keeps old.0.keeper s → k.is_broken old.0.keeper ≡ false → k.is_sound new.0.keeper
         → HaveBeenMade Step count old new r → Left P s new.0.keeper r
     take_left count s old new (Ok good) kept works sound all = ended P s new.0.keeper (made count s old new good all kept works sound) sound (Ok good)
     take_left count s old new (Err e) kept works sound (n, less, (mid, (before, first, step))) =
-        let run = made n s old mid before first kept works (step.sound sound) in
-        asked_last P s at IsTelegramAsked asks_it run (mid.0, given step.next) (new.0, given new.1) e sound
-        (step.answered.ran (after_all s run.inputs) run.kept run.works sound)
+        let run = made n s old mid before first kept works (sound_of mid new (Err e) step sound) in
+        asked_last P s at IsTelegramAsked asks_it taken (mid.0, given step.next) (new.0, given new.1) run e sound step.run
 
   -- lines, one after another
   module _ {E : Type 0} (P : Input × LocalMinute → Type 0) (at : LocalMinute) (taken : E → Given)
@@ -236,13 +245,10 @@ module _ {K : Type 0} (k : Keeping K) (settled : (it : K) (s : State) → k.keep
     Line = HasAnsweredLine k at taken
 
     sound_then : (n : ℕ) (line : List ℕ) (old new : Come K E) (r : Result Bool RunFault) → Line n line old new r → k.is_sound new.keeper → k.is_sound old.keeper
-    sound_then n line old new r (inl skipped) h = subst (λ (c : Come K E). k.is_sound c.keeper) skipped.same h
-    sound_then n line old new r (inr (inl unheard)) h = subst (λ (c : Come K E). k.is_sound c.keeper) unheard.same h
-    sound_then n line old new r (inr (inr heard)) h = heard.answer.sound h
+    sound_then n line old new r step h = let service = line_service k at taken n line old new r step in service.premise.sound h
 
     sound_all : (n : ℕ) (ls : List (List ℕ)) (old new : Come K E) (good : Bool) → AreAnswered Line n ls old new good → k.is_sound new.keeper → k.is_sound old.keeper
-    sound_all n [] old new good (same, all) h = subst (λ (c : Come K E). k.is_sound c.keeper) same h
-    sound_all n (line ∷ ls) old new good (mid, (one, rest, step, more, all)) h = sound_then n line old mid (Ok one) step (sound_all (n + 1) ls mid new rest more h)
+    sound_all n ls old new good are h = let service = lines_serve k at taken n ls old new good (Ok good) are in service.premise.sound h
 
     moved : (s : State) (old new : Come K E) → new ≡ old → Runs P s old.keeper → Runs P s new.keeper
     moved s old new same run = subst (λ (c : Come K E). Runs P s c.keeper) (sym same) run
@@ -255,7 +261,7 @@ module _ {K : Type 0} (k : Keeping K) (settled : (it : K) (s : State) → k.keep
     line_on n line s old new good run sound (inr (inl unheard)) = moved s old new unheard.same run
     line_on n line s old new good run sound (inr (inr heard)) =
         let answer = heard.answer.answered (after_all s run.inputs) run.kept run.works sound in
-        grow P s run (one_of heard.asks at) (are_asked P heard.asks at (each_line line heard.asks heard.asked)) (subst (k.keeps new.keeper) (after_asked (after_all s run.inputs) heard.asks at) answer.state) (heard.answer.works run.works)
+        grow P s run (one_of heard.asks at) (are_asked P heard.asks at (each_line line heard.asks heard.asked)) (subst (k.keeps new.keeper) (after_asked (after_all s run.inputs) heard.asks at) answer.state) (heard.answer.service.works run.works)
 
     lines_on : (n : ℕ) (ls : List (List ℕ)) (s : State) (old new : Come K E) (good : Bool) → Runs P s old.keeper → k.is_sound new.keeper → AreAnswered Line n ls old new good → Runs P s new.keeper
     lines_on n [] s old new good run sound (same, all) = moved s old new same run
@@ -273,11 +279,11 @@ module _ {K : Type 0} (k : Keeping K) (settled : (it : K) (s : State) → k.keep
         → HasEndedAt Line ls next old new e → Left P s new.keeper (Err e)
     acts_end ls None s old new e kept works sound (why, (good, are)) =
         ended P s new.keeper (lines_on 1 ls s old new good (none_yet P s old.keeper kept works) sound are) sound (Err e)
-    acts_end ls (Some line) s old new e kept works sound (mid, (good, are, step)) =
+    acts_end ls (Some line) s old new e kept works sound (other, (mid, (good, are, step))) =
         line_last (length ls + 1) line s mid new e (lines_on 1 ls s old mid good (none_yet P s old.keeper kept works) (sound_then (length ls + 1) line mid new (Err e) step sound) are) sound step
 
     pub acts_left : (left : Option (List ℕ)) (s : State) (old new : Come K E) (r : Result Bool RunFault) → k.keeps old.keeper s → k.is_broken old.keeper ≡ false → k.is_sound new.keeper
-        → HaveBeenAnswered Line left old new r → Left P s new.keeper r
+        → HaveBeenAnswered lines_of Line left old new r → Left P s new.keeper r
     acts_left left s old new (Ok good) kept works sound (ls, first, are) =
         ended P s new.keeper (lines_on 1 ls s old new good (none_yet P s old.keeper kept works) sound are) sound (Ok good)
     acts_left left s old new (Err e) kept works sound (ls, (next, first, end)) = acts_end ls next s old new e kept works sound end
@@ -307,12 +313,12 @@ module _ {K : Type 0} (k : Keeping K) (settled : (it : K) (s : State) → k.keep
           | inr is ↦ inr (is.0, is.1 ∙ ap Some (after_row (rows_after s rs at) (row_asks row) at ∙ ap (λ t. after_all t (listed (row_of (row_asks row) at))) (state_of s rs at)))
         ])
 
-    pub stock_left : {E : Type 0} (left : Option (List ℕ)) (read_new : Given) (s : State) (old new : Come K E) (r : Result Bool RunFault) → k.keeps old.keeper s → k.is_broken old.keeper ≡ false → k.is_sound new.keeper
-        → HasAnsweredRows k at left read_new old new r → Left P s new.keeper r
-    stock_left left read_new s old new (Ok good) kept works sound has =
+    pub stock_left : {E : Type 0} (taken : E → Given) (left : Option (List ℕ)) (s : State) (old new : Come K E) (r : Result Bool RunFault) → k.keeps old.keeper s → k.is_broken old.keeper ≡ false → k.is_sound new.keeper
+        → HasAnsweredRows k at taken left old new r → Left P s new.keeper r
+    stock_left taken left s old new (Ok good) kept works sound has =
         let ran = has.ran s kept works sound in
         settle P s (inputs_of ran.0 at) (all_rows ran.0) new.keeper (subst (k.keeps new.keeper) (state_of s ran.0 at) ran.2.state) sound (Ok good)
-    stock_left left read_new s old new (Err e) kept works sound has =
+    stock_left taken left s old new (Err e) kept works sound has =
         let end = has.stopped s kept works sound in
         row_end end.0 end.1.0 s e old.sent.bytes new.sent.bytes new.keeper sound end.1.1.1
 
@@ -352,10 +358,10 @@ module _ {K : Type 0} (k : Keeping K) (settled : (it : K) (s : State) → k.keep
     pub done_left : (c : LineCommand) → HasDone c here k e at old new r → HasLeft (AsksAt c at) s (k.may_find new.0) r
     done_left command.Init has = quiet_left (AsksAt command.Init at) s old.0 new.0 r kept sound (of_same old.0 new.0 has.same)
     done_left command.Migrate has = quiet_left (AsksAt command.Migrate at) s old.0 new.0 r kept sound (of_same old.0 new.0 has.same)
-    done_left command.Stock has = stock_left (AsksAt command.Stock at) at (λ row order is. (refl, (row, (order, is, refl)))) (e.remaining old.1.reader) (e.given new.1.reader) s (come_to e old) (come_to e new) r kept works sound has
+    done_left command.Stock has = stock_left (AsksAt command.Stock at) at (λ row order is. (refl, (row, (order, is, refl)))) e.told (e.remaining old.1.reader) s (come_to e old) (come_to e new) r kept works sound has.0
     done_left (command.Take paths) has = take_left (AsksAt (command.Take paths) at) at e.given e.turned e.told (λ bytes i is. (refl, (bytes, is))) (length paths.items) s (come_to e old, old.1.reader) (come_to e new, new.1.reader) r kept works sound has
-    done_left (command.Act verb key) has = act_left (IsCommandAsked verb key) (AsksAt (command.Act verb key) at) at (λ bytes i is. (refl, (bytes, is))) s (come_to e old, e.given old.1.reader) (come_to e new, e.given new.1.reader) r kept works sound (has.ran s kept works sound)
-    done_left command.Acts has = acts_left (AsksAt command.Acts at) at e.told (λ line i is. (refl, (line, is))) (e.remaining old.1.reader) s (come_to e old) (come_to e new) r kept works sound has.answered
+    done_left (command.Act verb key) has = act_left (IsCommandAsked verb key) (AsksAt (command.Act verb key) at) at e.told (λ bytes i is. (refl, (bytes, is))) s (come_to e old, e.given old.1.reader) (come_to e new, e.given new.1.reader) r kept works sound has
+    done_left command.Acts has = acts_left (AsksAt command.Acts at) at e.told (λ line i is. (refl, (line, is))) (e.remaining old.1.reader) s (come_to e old) (come_to e new) r kept works sound has.0
     done_left (command.Outbox f) has = quiet_left (AsksAt (command.Outbox f) at) s old.0 new.0 r kept sound (of_reads old.0 new.0 has.told.reads)
     done_left (command.Report l f) has = quiet_left (AsksAt (command.Report l f) at) s old.0 new.0 r kept sound (of_reads old.0 new.0 has.told.reads)
     done_left (command.Waybill w) has = quiet_left (AsksAt (command.Waybill w) at) s old.0 new.0 r kept sound (of_reads old.0 new.0 has.reads)

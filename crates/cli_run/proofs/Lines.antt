@@ -2,7 +2,8 @@
 use Rattle.std.proofs.Common.{arith, ◌≡◌, ◌∙◌, sym, refl, ap, subst, ℕ, ◌<◌, ◌==◌, Bool, true, false, cond, List, [], ◌∷◌, ◌++◌, length, append_assoc, Option, Some, None, IfSome}
 use Rattle.std.specs.Io.BufRead.{take_through, drop_through, DropsThrough}
 use Rattle.std.specs.Io.KnownBytes.{IsAtEnd}
-use Rattle.cli_run.specs.InTurn.{in_front, lines_of, AreFirstLines}
+use Rattle.stock_list.specs.InTurn.{AreFirst}
+use Rattle.cli_run.specs.InTurn.{in_front, lines_of}
 
 -- the first line of a text, and the lines behind it
 abbrev Cut : List ℕ → Type 0
@@ -55,7 +56,7 @@ known_end (Some bytes) a lines known end =
     let none : known.0 ≡ [] = subst IsAtEnd known.1 end in
     sym (known.2 ∙ ap (λ left. lines ++ lines_of left) none ∙ append_none lines)
 
-pub known_first : (known a : Option (List ℕ)) (lines : List (List ℕ)) → IfSome known (Known a lines) → IfSome known (AreFirstLines lines)
+pub known_first : (known a : Option (List ℕ)) (lines : List (List ℕ)) → IfSome known (Known a lines) → IfSome known (AreFirst lines_of lines)
 known_first None a lines known = tt
 known_first (Some bytes) a lines known = (lines_of known.0, known.2)
 

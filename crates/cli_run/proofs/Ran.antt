@@ -1,44 +1,88 @@
--- A command over an input that came whole.
+-- The station after inputs, and inputs that weren't received.
 use Rattle.std.specs.Result.{IsErrAnd}
-use Rattle.std.proofs.Common.{◌≡◌, refl, sym, subst, ℕ, Bool, false, List, ◌⊎◌, None, Result, Ok, Err, IfOk, IfErr, inl, inr}
+use Rattle.std.proofs.Common.{◌≡◌, ◌∙◌, refl, sym, ap, subst, inl, inr, ⊎_elim, ℕ, zero, suc, ◌+◌, Bool, List, [], ◌∷◌, length, ◌⊎◌, Option, None, Some, Result, Ok, Err, OnOk, IfErr}
 use Rattle.station_days.specs.Date.{LocalMinute}
+use Rattle.station_core.proofs.Premise.{kept_at, kept_on}
 use Rattle.station_core.specs.Given.{Given}
-use Rattle.station_core.specs.Step.{State}
+use Rattle.station_core.specs.Keeping.{Keeping, StaysInService}
 use Rattle.stock_list.specs.declared.answer.RunFault.{RunFault}
-use Rattle.stock_list.specs.Ended.{IsReadersFault, IsShutAfter}
+use Rattle.stock_list.specs.Come.{Come}
+use Rattle.stock_list.specs.Ended.{IsReadersFault}
 use Rattle.cli_run.specs.declared.asked.Asked.{Asked}
-use Rattle.cli_run.specs.Came.{HasCome}
-use Rattle.cli_run.specs.Ended.{IsAnswered, IsStopped, HasRun}
-use Rattle.station_core.specs.Keeping.{Keeping}
-use Rattle.cli_run.specs.Ends.{kept_by}
-use Rattle.cli_run.specs.InTurn.{Come}
-use Rattle.cli_run.specs.Shut.{IsAnsweredShut, HasRunShut}
-use Rattle.cli_run.proofs.Unanswered.{works_unread}
+use Rattle.cli_run.specs.Acts.{HasAnsweredLine}
+use Rattle.stock_list.specs.InTurn.{AreAnswered, HasEndedAt, HaveBeenAnswered}
+use Rattle.cli_run.specs.Answered.{HasAnswered, HasAnsweredAsked, HasNotReceived}
+use Rattle.cli_run.specs.Asked.{IsTelegramAsked}
+use Rattle.cli_run.specs.InTurn.{lines_of, AreMade, HaveBeenMade}
+use Rattle.cli_run.specs.Takes.{HasTakenNext}
 
-pub has_run : {K E : Type 0} (IsAsked : List ℕ → Asked → Type 0) (k : Keeping K) (s : State) (at : LocalMinute) (old new : Come K E × Given) (bytes : List ℕ) (asks : Asked) (r : Result Bool RunFault)
-    → HasCome old.1 new.1 bytes → IsAsked bytes asks
-    → IfOk r (λ good. IsAnswered None s asks at good old.0.sent.bytes new.0.sent.bytes (k.keeps new.0.keeper))
-    → IfErr r (λ e. IsStopped None s asks at e old.0.sent.bytes new.0.sent.bytes (kept_by k new.0.keeper)) → HasRun IsAsked k s at old new r
-has_run IsAsked k s at old new bytes asks (Ok good) come is answered stopped = (bytes, come, (asks, is, answered))
-has_run IsAsked k s at old new bytes asks (Err e) come is answered stopped = inr (bytes, come, (asks, is, stopped))
+pub always : {A : Type 0} (r : Result Bool RunFault) → A → OnOk r A
+always (Ok good) a = a
+always (Err e) a = tt
 
--- the same on a station that has to be opened again
-pub has_run_shut : (IsAsked : List ℕ → Asked → Type 0) (read_old read_new old new : Given) (bytes : List ℕ) (asks : Asked) (r : Result Bool RunFault)
-    → HasCome read_old read_new bytes → IsAsked bytes asks → IsAnsweredShut None asks old new r → HasRunShut IsAsked read_old read_new old new r
-has_run_shut IsAsked read_old read_new old new bytes asks (Ok good) come is told = (bytes, (come, (asks, (is, told))))
-has_run_shut IsAsked read_old read_new old new bytes asks (Err e) come is told = inr (bytes, (come, (asks, (is, told))))
+-- nothing was done
+still : {K E : Type 0} (k : Keeping K) (old new : Come K E) (r : Result Bool RunFault) → new ≡ old → StaysInService k old.keeper new.keeper r
+still {K} {E} k old new r same =
+    subst (λ (c : Come K E). StaysInService k old.keeper c.keeper r) (sym same) (record { premise = kept_at old.keeper; works = λ works. always r works })
 
--- an input that didn't come whole
-pub not_come : (IsAsked : List ℕ → Asked → Type 0) (read_old read_new old : Given) (r : Result Bool RunFault) (e : RunFault)
-    → IsErrAnd r (λ x. x ≡ e) → IsReadersFault e → HasRunShut IsAsked read_old read_new old old r
-not_come IsAsked read_old read_new old (Ok x) e same why = absurd same
-not_come IsAsked read_old read_new old (Err x) e same why = inl (subst IsReadersFault (sym same) why, refl)
+pub input_service : {K E : Type 0} (IsAsked : List ℕ → Asked → Type 0) (k : Keeping K) (at : LocalMinute) (taken : E → Given) (old new : Come K E × Given) (r : Result Bool RunFault)
+    → HasAnsweredAsked IsAsked k at taken old new r → StaysInService k old.0.keeper new.0.keeper r
+input_service IsAsked k at taken old new r ran =
+    ⊎_elim (λ got. got.answer.service) (λ (none : HasNotReceived old.0 new.0 r). still k old.0 new.0 r none.same) ran.answered
 
--- the station works, since nothing was asked of it
-pub works_unheard : (r : Result Bool RunFault) (e : RunFault) (broken : Bool) → IsErrAnd r (λ x. x ≡ e) → IsReadersFault e → broken ≡ false
-    → IfErr r (λ x. IsShutAfter x broken)
-works_unheard (Ok x) e broken same why works = tt
-works_unheard (Err x) e broken same why works = works_unread x broken (subst IsReadersFault (sym same) why) works
+pub line_service : {K E : Type 0} (k : Keeping K) (at : LocalMinute) (taken : E → Given) (n : ℕ) (line : List ℕ) (old new : Come K E) (r : Result Bool RunFault)
+    → HasAnsweredLine k at taken n line old new r → StaysInService k old.keeper new.keeper r
+line_service k at taken n line old new r (inl skipped) = still k old new r skipped.same
+line_service k at taken n line old new r (inr (inl unheard)) = still k old new r unheard.same
+line_service k at taken n line old new r (inr (inr heard)) = heard.answer.service
+
+-- one call after another
+then_serves : {K : Type 0} (k : Keeping K) (a b c : K) (x : Bool) (r : Result Bool RunFault) → StaysInService {A = Bool} {E = RunFault} k a b (Ok x) → StaysInService k b c r → StaysInService k a c r
+then_serves k a b c x r first next = record { premise = kept_on first.premise next.premise; works = λ works. next.works (first.works works) }
+
+module _ {K E : Type 0} (k : Keeping K) (at : LocalMinute) (taken : E → Given) where
+  abbrev Line : ℕ → List ℕ → Come K E → Come K E → Result Bool RunFault → Type 0
+  Line = HasAnsweredLine k at taken
+
+  pub lines_serve : (n : ℕ) (lines : List (List ℕ)) (old new : Come K E) (good : Bool) (r : Result Bool RunFault) → AreAnswered Line n lines old new good → StaysInService k old.keeper new.keeper r
+  lines_serve n [] old new good r (same, all) = still k old new r same
+  lines_serve n (line ∷ lines) old new good r (mid, (one, rest, step, more, all)) =
+      then_serves k old.keeper mid.keeper new.keeper one r (line_service k at taken n line old mid (Ok one) step) (lines_serve (n + 1) lines mid new rest r more)
+
+  end_serves : (lines : List (List ℕ)) (next : Option (List ℕ)) (old new : Come K E) (e : RunFault) → HasEndedAt Line lines next old new e → StaysInService {A = Bool} {E = RunFault} k old.keeper new.keeper (Err e)
+  end_serves lines None old new e (why, (good, are)) = lines_serve 1 lines old new good (Err e) are
+  end_serves lines (Some line) old new e (other, (mid, (good, are, step))) =
+      then_serves k old.keeper mid.keeper new.keeper good (Err e) (lines_serve 1 lines old mid good (Ok good) are) (line_service k at taken (length lines + 1) line mid new (Err e) step)
+
+  pub acts_serve : (left : Option (List ℕ)) (old new : Come K E) (r : Result Bool RunFault) → HaveBeenAnswered lines_of Line left old new r → StaysInService k old.keeper new.keeper r
+  acts_serve left old new (Ok good) (lines, all, are) = lines_serve 1 lines old new good (Ok good) are
+  acts_serve left old new (Err e) (lines, (next, first, end)) = end_serves lines next old new e end
+
+  module _ {I : Type 0} (given : I → Given) (turned : I → I → Type 0) where
+    abbrev Take : Come K E × I → Come K E × I → Result Bool RunFault → Type 0
+    Take = HasTakenNext (λ bytes. HasAnswered k at taken None) given turned
+
+    pub take_serves : (old new : Come K E × I) (r : Result Bool RunFault) → Take old new r → StaysInService k old.0.keeper new.0.keeper r
+    take_serves old new r step = input_service IsTelegramAsked k at taken (old.0, given step.next) (new.0, given new.1) r step.run
+
+    made_serve : (n : ℕ) (old new : Come K E × I) (good : Bool) → AreMade Take n old new good → StaysInService {A = Bool} {E = RunFault} k old.0.keeper new.0.keeper (Ok good)
+    made_serve zero old new good (same, all) = still k old.0 new.0 (Ok good) (ap (λ (c : Come K E × I). c.0) same)
+    made_serve (suc n) old new good (mid, (before, one, first, step, all)) =
+        let next = take_serves mid new (Ok one) step in
+        then_serves k old.0.keeper mid.0.keeper new.0.keeper before (Ok good) (made_serve n old mid before first) (record { premise = next.premise; works = next.works })
+
+    pub takes_serve : (count : ℕ) (old new : Come K E × I) (r : Result Bool RunFault) → HaveBeenMade Take count old new r → StaysInService k old.0.keeper new.0.keeper r
+    takes_serve count old new (Ok good) made = made_serve count old new good made
+    takes_serve count old new (Err e) (n, less, (mid, (before, first, step))) =
+        then_serves k old.0.keeper mid.0.keeper new.0.keeper before (Err e) (made_serve n old mid before first) (take_serves mid new (Err e) step)
+
+-- an input that wasn't received: a fault that is passed on
+pub not_received : {C : Type 0} (c : C) (r : Result Bool RunFault) (e : RunFault) → IsErrAnd r (λ x. x ≡ e) → IsReadersFault e → HasNotReceived c c r
+not_received c (Ok x) e same why = absurd same
+not_received c (Err x) e same why = record {
+  same = refl;
+  why = ⊎_elim (λ read. inl (ap Err (same ∙ read))) (λ memory. inr (ap Err (same ∙ memory))) why;
+}
 
 -- what holds of a fault that is passed on
 pub passed_on : (r : Result Bool RunFault) (e : RunFault) (P : RunFault → Type 0) → IsErrAnd r (λ x. x ≡ e) → P e → IfErr r P

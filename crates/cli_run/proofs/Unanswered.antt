@@ -1,18 +1,27 @@
--- An input that the keeper didn't answer.
-use Rattle.std.proofs.Common.{◌≡◌, ◌∙◌, refl, ap, subst, sym, ℕ, Bool, false, List, Option, Result, Ok, Err, IfErr, ◌⊎◌, inl, inr, ⊎_elim}
+-- A request that the keeper didn't answer, or wasn't asked.
+use Rattle.std.proofs.Common.{◌≡◌, ◌∙◌, refl, ap, subst, sym, ℕ, Bool, false, List, ◌++◌, take, Option, Result, Ok, Err, IfErr, IfOk, ◌⊎◌, inl, inr, ⊎_elim}
 use Rattle.station_days.specs.Date.{LocalMinute}
+use Rattle.station_core.proofs.Premise.{kept_at}
 use Rattle.station_core.specs.declared.answer.ActFault.{ActFault}
 use Rattle.station_core.specs.declared.answer.ActFault.TheVariants as act
 use Rattle.station_core.specs.declared.input.Input.{Input}
-use Rattle.station_core.specs.Keeping.{Answers, MayLeave, IsBrokenAfter, IsMemoryOrStore}
+use Rattle.station_core.specs.Given.{Given}
+use Rattle.station_core.specs.Keeping.{Answers, IsBrokenAfter, IsMemoryOrStore, Keeping, MayLeave}
 use Rattle.station_core.specs.Step.{State}
 use Rattle.stock_list.specs.declared.answer.RunFault.{RunFault}
 use Rattle.stock_list.specs.declared.answer.RunFault.TheVariants as fault
-use Rattle.stock_list.specs.Ended.{run_fault, IsShutAfter, IsReadersFault, Kept}
+use Rattle.stock_list.specs.Come.{come}
+use Rattle.stock_list.specs.Ended.{kept_by, run_fault, IsShutAfter, Kept}
 use Rattle.stock_list.proofs.Unanswered.{still_kept}
+use Rattle.cli_run.specs.declared.asked.Asked.{Asked}
 use Rattle.cli_run.specs.declared.asked.Asked.TheVariants as asked
-use Rattle.station_core.specs.Given.{Given}
-use Rattle.cli_run.specs.Ended.{HasToldPart, IsStopped}
+use Rattle.cli_run.specs.Answered.{HasAnswered, HasToldUnread}
+use Rattle.cli_run.specs.Asked.{asked_after, asked_good, asked_line}
+use Rattle.cli_run.specs.Ended.{IsAnswered, IsStopped}
+use Rattle.cli_run.specs.Explained.{asked_unread, reason_head}
+use Rattle.cli_run.specs.Shut.{HasToldLine, IsAnsweredShut}
+use Rattle.cli_run.proofs.Ran.{always}
+use Rattle.cli_run.proofs.Reasons.{explained_unasked}
 
 why_stops : (e : ActFault) → (run_fault e ≡ fault.Memory) ⊎ (run_fault e ≡ fault.Store)
 why_stops act.Memory = inl refl
@@ -52,14 +61,51 @@ works_still fault.Store broken other works = absurd (other refl)
 no_store : {A : Type 0} (e : RunFault) → (e ≡ fault.Write) ⊎ ((e ≡ fault.Memory) × A) → e ≡ fault.Store → ⊥
 no_store e why is = ⊎_elim (λ write. let both : fault.Write ≡ fault.Store = sym write ∙ is in cc) (λ memory. let both : fault.Memory ≡ fault.Store = sym memory.0 ∙ is in cc) why
 
-pub works_unasked : (line : List ℕ) (old new : Given) (r : Result Bool RunFault) (broken : Bool) → IfErr r (HasToldPart line old new) → broken ≡ false
-    → IfErr r (λ e. IsShutAfter e broken)
-works_unasked line old new (Ok good) broken part works = tt
-works_unasked line old new (Err e) broken part works = works_still e broken (no_store e part.why) works
+no_read : {A : Type 0} (e : RunFault) → (e ≡ fault.Write) ⊎ ((e ≡ fault.Memory) × A) → e ≡ fault.Read → ⊥
+no_read e why is = ⊎_elim (λ write. let both : fault.Write ≡ fault.Read = sym write ∙ is in cc) (λ memory. let both : fault.Memory ≡ fault.Read = sym memory.0 ∙ is in cc) why
 
--- a reader's fault
-pub works_unread : (e : RunFault) (broken : Bool) → IsReadersFault e → broken ≡ false → IsShutAfter e broken
-works_unread fault.Read broken why works = works
-works_unread fault.Memory broken why works = works
-works_unread fault.Write broken why works = works
-works_unread fault.Store broken why works = ⊎_elim (λ read. let both : fault.Store ≡ fault.Read = read in cc) (λ memory. let both : fault.Store ≡ fault.Memory = memory in cc) why
+works_told : (line : List ℕ) (old new : Given) (r : Result Bool RunFault) (broken : Bool) → HasToldLine line old new r → broken ≡ false → IfErr r (λ e. IsShutAfter e broken)
+works_told line old new (Ok good) broken told works = tt
+works_told line old new (Err e) broken told works = works_still e broken (no_store e told.why) works
+
+never_read : (line : List ℕ) (old new : Given) (r : Result Bool RunFault) → HasToldLine line old new r → r ≡ Err fault.Read → ⊥
+never_read line old new (Ok good) told is = cc
+never_read line old new (Err e) told is = no_read e told.why (let same : e ≡ fault.Read = cc in same)
+
+-- a request that isn't for the station
+module _ {K E : Type 0} (k : Keeping K) (at : LocalMinute) (taken : E → Given) (number : Option ℕ) (keeper : K) (old new : Given × E) where
+  module _ (asks : Asked) (line : List ℕ) (unread : Bool) (line_is : (s : State) → line ≡ asked_line number s asks at) (good_is : (s : State) → false ≡ asked_good s asks at)
+      (after_is : (s : State) → s ≡ asked_after s asks at) where
+    told_ok : (s : State) → k.keeps keeper s → (r : Result Bool RunFault) → HasToldLine line old.0 new.0 r
+        → IfOk r (λ good. IsAnswered number s asks at good old.0.bytes new.0.bytes (k.keeps keeper))
+    told_ok s keeps (Ok good) told = record {
+      line = told.1 ∙ ap (λ l. old.0.bytes ++ l) (line_is s);
+      good_is = told.0 ∙ good_is s;
+      state = subst (k.keeps keeper) (after_is s) keeps;
+    }
+    told_ok s keeps (Err e) told = tt
+
+    told_part : (s : State) → k.keeps keeper s → (r : Result Bool RunFault) → HasToldLine line old.0 new.0 r
+        → IfErr r (λ e. IsStopped number s asks at e old.0.bytes new.0.bytes (kept_by k keeper))
+    told_part s keeps (Ok good) told = tt
+    told_part s keeps (Err e) told = inl (record {
+      why = ⊎_elim (λ write. inl write) (λ memory. inr memory.0) told.why;
+      sent = told.sent;
+      line = told.part ∙ ap (λ l. old.0.bytes ++ take told.sent l) (line_is s);
+      state = subst (k.keeps keeper) (after_is s) keeps;
+    })
+
+    pub unasked : (r : Result Bool RunFault) → (HasToldLine line old.0 new.0 r → IsAnsweredShut number asks old.0 new.0 r) → ((s : State) → unread ≡ asked_unread s asks at)
+        → HasToldUnread taken line unread (reason_head number asks) old new r → HasAnswered k at taken number asks (come keeper old.0 old.1) (come keeper new.0 new.1) r
+    unasked r shut why told = record {
+      service = record { premise = kept_at keeper; works = λ works. always r works };
+      breaks = works_told line old.0 new.0 r (k.is_broken keeper) told.told;
+      answered = λ s keeps works sound. told_ok s keeps r told.told;
+      stopped = λ s keeps works sound. told_part s keeps r told.told;
+      unread = never_read line old.0 new.0 r told.told;
+      writing = told.writing;
+      unwritten = told.unwritten;
+      same = λ broken. refl;
+      reopen = λ broken. shut told.told;
+      explained = explained_unasked number k asks at taken (come keeper old.0 old.1) (come keeper new.0 new.1) r unread told.reasons why;
+    }

@@ -1,37 +1,77 @@
--- The effect of a command that reads one input.
-use Rattle.std.specs.Prelude.{◌≡◌, ◌⊎◌, Bool, true, false, Result, Err, OnOk, IfErr, List, ℕ}
+-- The effect of a request, and of a command that reads one.
+use Rattle.std.specs.Prelude.{◌≡◌, ◌⊎◌, Bool, true, false, None, Option, Result, Err, IfErr, IfOk, List, ℕ}
 use Rattle.station_days.specs.Date.{LocalMinute}
 use Rattle.station_core.specs.Given.{Given}
-use Rattle.station_core.specs.Step.{State}
+use Rattle.station_core.specs.Keeping.{IfWorks, Keeping, StaysIfBroken, StaysInService}
 use Rattle.stock_list.specs.declared.answer.RunFault.{RunFault}
 use Rattle.stock_list.specs.declared.answer.RunFault.TheVariants as fault
-use Rattle.stock_list.specs.Ended.{IsShutAfter, IsUntroubled, WriteHasCause}
+use Rattle.stock_list.specs.Come.{Come}
+use Rattle.stock_list.specs.Ended.{IsShutAfter, TellsWriting, kept_by}
 use Rattle.cli_run.specs.declared.asked.Asked.{Asked}
-use Rattle.cli_run.specs.Came.{most_come, HasFailed, IsWithin}
-use Rattle.cli_run.specs.Ended.{HasRun}
-use Rattle.station_core.specs.Keeping.{Keeping}
-use Rattle.cli_run.specs.InTurn.{Come}
-use Rattle.cli_run.specs.Shut.{HasRunShut}
+use Rattle.cli_run.specs.Came.{most_come, HasCome, HasFailed, IsWithin}
+use Rattle.cli_run.specs.Ended.{IsAnswered, IsStopped}
+use Rattle.cli_run.specs.Explained.{HasExplained, HasGivenReason}
+use Rattle.cli_run.specs.Shut.{HasToldLine, IsAnsweredShut}
 
--- The request in the input was done and answered, or the run stopped there or before. It returns
--- the fault of a reader or a writer exactly if that failed, and the store's exactly if the station
--- must be opened again. After any fault except the writer's nothing was written, and only a prefix
--- of an input that is too long is read. A broken station isn't called.
-pub record HasAnsweredAsked {K E : Type 0} (IsAsked : List ℕ → Asked → Type 0) (k : Keeping K)
-    (at : LocalMinute) (old new : Come K E × Given) (result : Result Bool RunFault) : Type 0 where
-  pub ran : (s : State) → k.keeps old.0.keeper s → k.is_broken old.0.keeper ≡ false
-      → k.is_sound new.0.keeper → HasRun IsAsked k s at old new result
-  pub unread : result ≡ Err fault.Read
-      → (new.0.keeper ≡ old.0.keeper) × (new.0.sent ≡ old.0.sent)
-  pub read_cause : result ≡ Err fault.Read → HasFailed old.1 new.1
-  pub read_told : IfErr result (λ e. (e ≡ fault.Read) ⊎ (new.1.failures ≡ old.1.failures))
-  pub write_cause : WriteHasCause result old.0.sent new.0.sent
-  pub write_told : IfErr result (λ e. (e ≡ fault.Write) ⊎ IsUntroubled old.0.sent new.0.sent)
-  pub untroubled : OnOk result (IsUntroubled old.0.sent new.0.sent)
-  pub unwritten : IfErr result (λ e. (e ≡ fault.Write) ⊎ (new.0.sent ≡ old.0.sent))
-  pub most : IsWithin most_come old.1 new.1
-  pub breaks : k.is_broken old.0.keeper ≡ false
-      → IfErr result (λ e. IsShutAfter e (k.is_broken new.0.keeper))
-  pub same : k.is_broken old.0.keeper ≡ true → new.0.keeper ≡ old.0.keeper
-  pub reopen : k.is_broken old.0.keeper ≡ true
-      → HasRunShut IsAsked old.1 new.1 old.0.sent new.0.sent result
+-- The request was done and answered, or the run stopped there. It returns the writer's fault
+-- exactly if the writer failed or wrote 0 bytes, and the store's exactly if the station must be
+-- opened again. `number` is the number of its line of `acts`, if it has one.
+pub record HasAnswered {K E : Type 0} (k : Keeping K) (at : LocalMinute) (taken : E → Given)
+    (number : Option ℕ) (asks : Asked) (old new : Come K E) (result : Result Bool RunFault) : Type 0 where
+  pub service : StaysInService k old.keeper new.keeper result
+  pub breaks : k.is_broken old.keeper ≡ false
+      → IfErr result (λ e. IsShutAfter e (k.is_broken new.keeper))
+  pub answered : IfWorks k old.keeper new.keeper (λ s. IfOk result (λ good. IsAnswered number s asks
+      at good old.sent.bytes new.sent.bytes (k.keeps new.keeper)))
+  pub stopped : IfWorks k old.keeper new.keeper (λ s. IfErr result (λ e. IsStopped number s asks at e
+      old.sent.bytes new.sent.bytes (kept_by k new.keeper)))
+  pub unread : result ≡ Err fault.Read → ⊥
+  pub writing : TellsWriting old.sent new.sent result
+  -- after any fault except the writer's, nothing was written
+  pub unwritten : IfErr result (λ e. (e ≡ fault.Write) ⊎ (new.sent ≡ old.sent))
+  -- a broken station stays as it is, and isn't called
+  pub same : StaysIfBroken k old.keeper new.keeper
+  pub reopen : k.is_broken old.keeper ≡ true → IsAnsweredShut number asks old.sent new.sent result
+  -- if the request can't be read, its reason was written to the errors
+  pub explained : HasExplained number k asks at taken old new result
+
+-- What can't be read gets its line, or a prefix of it, and then its reason: the output and the
+-- errors before and after.
+pub record HasToldUnread {E : Type 0} (taken : E → Given) (line : List ℕ) (unread : Bool)
+    (head : List ℕ) (old new : Given × E) (result : Result Bool RunFault) : Type 0 where
+  pub told : HasToldLine line old.0 new.0 result
+  pub writing : TellsWriting old.0 new.0 result
+  pub unwritten : IfErr result (λ e. (e ≡ fault.Write) ⊎ (new.0 ≡ old.0))
+  pub reasons : HasGivenReason taken unread head old.1 new.1 result
+
+-- the input was received, and the request in its bytes was answered
+pub record HasReceived {C : Type 0} (IsAsked : List ℕ → Asked → Type 0)
+    (Answers : List ℕ → Asked → C → C → Result Bool RunFault → Type 0) (read_old read_new : Given)
+    (old new : C) (result : Result Bool RunFault) : Type 0 where
+  pub bytes : List ℕ
+  pub come : HasCome read_old read_new bytes
+  pub asks : Asked
+  pub asked : IsAsked bytes asks
+  pub answer : Answers bytes asks old new result
+
+-- the reader failed, or memory ran out before the request was known: nothing was done or written
+pub record HasNotReceived {C : Type 0} (old new : C) (result : Result Bool RunFault) : Type 0 where
+  pub same : new ≡ old
+  pub why : (result ≡ Err fault.Read) ⊎ (result ≡ Err fault.Memory)
+
+-- A command over one input. `Read` is returned only if the reader failed, and only a prefix of an
+-- input that is too long is read.
+pub record HasRunInput {C : Type 0} (IsAsked : List ℕ → Asked → Type 0)
+    (Answers : List ℕ → Asked → C → C → Result Bool RunFault → Type 0) (read_old read_new : Given)
+    (old new : C) (result : Result Bool RunFault) : Type 0 where
+  pub answered : HasReceived IsAsked Answers read_old read_new old new result
+      ⊎ HasNotReceived old new result
+  pub read_cause : result ≡ Err fault.Read → HasFailed read_old read_new
+  pub read_told : IfErr result (λ e. (e ≡ fault.Read) ⊎ (read_new.failures ≡ read_old.failures))
+  pub most : IsWithin most_come read_old read_new
+
+-- the same with a station that answers
+abbrev pub HasAnsweredAsked : {K E : Type 0} → (List ℕ → Asked → Type 0) → Keeping K → LocalMinute
+    → (E → Given) → Come K E × Given → Come K E × Given → Result Bool RunFault → Type 0
+HasAnsweredAsked IsAsked k at taken old new result =
+    HasRunInput IsAsked (λ bytes. HasAnswered k at taken None) old.1 new.1 old.0 new.0 result

@@ -1,25 +1,22 @@
 -- The effect of each command.
-use Rattle.std.specs.Prelude.{◌≡◌, ◌<◌, ◌⊎◌, ℕ, Bool, true, false, Option, Result, Ok, Err, OnOk, OnErr, IfOk, IfErr, IfSome, List, length, ◌++◌, codes}
+use Rattle.std.specs.Prelude.{◌≡◌, ℕ, Bool, true, None, Result, Ok, OnOk, OnErr, IfOk, IfErr, List, length, ◌++◌, codes}
 use Rattle.station_days.specs.Date.{LocalMinute}
 use Rattle.station_core.specs.Ends.{HasCause, HasSent}
-use Rattle.station_core.specs.Given.{Given}
-use Rattle.station_core.specs.Step.{State}
+use Rattle.station_core.specs.Keeping.{Keeping}
 use Rattle.reports.specs.Listings.{IsListing}
 use Rattle.reports.specs.declared.listing.Listing.TheVariants as listing
 use Rattle.reports.specs.declared.report.Report.TheVariants as report
 use Rattle.stock_list.specs.declared.answer.RunFault.{RunFault}
 use Rattle.stock_list.specs.declared.answer.RunFault.TheVariants as fault
-use Rattle.stock_list.specs.Ended.{rows_read, AreFirst, HasStopped, IsShutAfter, IsUntroubled, WriteHasCause}
-use Rattle.stock_list.specs.Ended.{HasRun as HasRunRows}
-use Rattle.stock_list.specs.Lines.{Row, stock_rows}
-use Rattle.stock_list.specs.Shut.{HasRunShut as HasRunRowsShut}
+use Rattle.stock_list.specs.Answered.{HasAnsweredRows}
+use Rattle.stock_list.specs.Ended.{IsReadToEnd}
+use Rattle.stock_list.specs.InTurn.{HaveBeenAnswered}
 use Rattle.cli_run.specs.Asked.{IsCommandAsked}
-use Rattle.cli_run.specs.Answered.{HasAnsweredAsked}
+use Rattle.cli_run.specs.Answered.{HasAnswered, HasAnsweredAsked}
 use Rattle.cli_run.specs.Acts.{HasAnsweredLine}
 use Rattle.cli_run.specs.Takes.{HasTakenNext}
-use Rattle.station_core.specs.Keeping.{Keeping}
-use Rattle.cli_run.specs.Ends.{come_to, kept_by, told_to, Ends, Reached, Told}
-use Rattle.cli_run.specs.InTurn.{Come, HaveBeenAnswered, HaveBeenMade}
+use Rattle.cli_run.specs.Ends.{come_to, told_to, Ends, Reached, Told}
+use Rattle.cli_run.specs.InTurn.{lines_of, HaveBeenMade}
 use Rattle.cli_run.specs.History.{HasToldHistory}
 use Rattle.cli_run.specs.Reported.{HasReportedGood}
 use Rattle.cli_words.specs.declared.line.LineCommand.{LineCommand}
@@ -40,41 +37,11 @@ pub record HasToldMade {K : Type 0} (here : List ℕ) (old new : Told K) (result
   pub why : IfErr result (λ e. e ≡ fault.Write)
   pub cause : OnErr result (HasCause old.1 new.1)
 
--- The rows of a stock list were answered, all of them or up to a fault. The reader's fault is
--- returned only if it failed, and the end of the list is reached only if no read failed. The
--- writer's fault is returned exactly if it failed or wrote 0 bytes, and the store's exactly if the
--- station must be opened again. A broken station isn't called. `left` is the list, if it is known.
-pub record HasAnsweredRows {K E : Type 0} (k : Keeping K) (at : LocalMinute) (left : Option (List ℕ)) (read_new : Given)
-    (old new : Come K E) (result : Result Bool RunFault) : Type 0 where
-  pub ran : (s : State) → k.keeps old.keeper s → k.is_broken old.keeper ≡ false → k.is_sound new.keeper
-      → IfOk result (λ good. (rows : List Row) × IfSome left (λ bytes. rows ≡ stock_rows bytes)
-      × HasRunRows s rows at good old.sent.bytes new.sent.bytes (k.keeps new.keeper))
-  pub stopped : (s : State) → k.keeps old.keeper s → k.is_broken old.keeper ≡ false → k.is_sound new.keeper
-      → IfErr result (λ e. (rows : List Row) × ((next : Option Row) × (IfSome left (AreFirst (rows_read rows next))
-      × HasStopped s rows next at e old.sent.bytes new.sent.bytes (kept_by k new.keeper))))
-  pub read_cause : result ≡ Err fault.Read → 0 < read_new.failures
-  pub no_failure : OnOk result (read_new.failures ≡ 0)
-  pub write_cause : WriteHasCause result old.sent new.sent
-  pub write_told : IfErr result (λ e. (e ≡ fault.Write) ⊎ IsUntroubled old.sent new.sent)
-  pub untroubled : OnOk result (IsUntroubled old.sent new.sent)
-  pub breaks : k.is_broken old.keeper ≡ false → IfErr result (λ e. IsShutAfter e (k.is_broken new.keeper))
-  pub same : k.is_broken old.keeper ≡ true → new.keeper ≡ old.keeper
-  pub reopen : k.is_broken old.keeper ≡ true
-      → HasRunRowsShut left old.sent.bytes new.sent.bytes result
-
 -- nothing was done or written
 pub record HasIdled {K : Type 0} (old new : Told K) (result : Result Bool RunFault) : Type 0 where
   pub same : new.0 ≡ old.0
   pub nothing : new.1 ≡ old.1
   pub good : result ≡ Ok true
-
--- The lines of the input were answered, all of them or up to a fault. The reader's fault is
--- returned only if it failed, and the end of the lines is reached only if no read failed.
-pub record HasAnsweredActs {K E : Type 0} (k : Keeping K) (at : LocalMinute) (taken : E → Given)
-    (left : Option (List ℕ)) (read_new : Given) (old new : Come K E) (result : Result Bool RunFault) : Type 0 where
-  pub answered : HaveBeenAnswered (HasAnsweredLine k at taken) left old new result
-  pub read_cause : result ≡ Err fault.Read → 0 < read_new.failures
-  pub no_failure : OnOk result (read_new.failures ≡ 0)
 
 -- The effect of each command on its keeper, its reader and its writers, and its result. The
 -- service, the upgrade of a file and the dry run don't run here.
@@ -85,15 +52,17 @@ HasDone command.Init here k e at old new r =
 HasDone command.Migrate here k e at old new r =
     HasIdled (told_to e old) (told_to e new) r
 HasDone command.Stock here k e at old new r =
-    HasAnsweredRows k at (e.remaining old.1.reader) (e.given new.1.reader) (come_to e old) (come_to e new) r
+    HasAnsweredRows k at e.told (e.remaining old.1.reader) (come_to e old) (come_to e new) r
+    × IsReadToEnd (e.given new.1.reader) r
 HasDone (command.Take paths) here k e at old new r =
-    HaveBeenMade (HasTakenNext k at e.given e.turned e.told) (length paths.items)
+    HaveBeenMade (HasTakenNext (λ bytes. HasAnswered k at e.told None) e.given e.turned) (length paths.items)
     (come_to e old, old.1.reader) (come_to e new, new.1.reader) r
 HasDone (command.Act verb key) here k e at old new r =
-    HasAnsweredAsked (IsCommandAsked verb key) k at (come_to e old, e.given old.1.reader)
+    HasAnsweredAsked (IsCommandAsked verb key) k at e.told (come_to e old, e.given old.1.reader)
     (come_to e new, e.given new.1.reader) r
 HasDone command.Acts here k e at old new r =
-    HasAnsweredActs k at e.told (e.remaining old.1.reader) (e.given new.1.reader) (come_to e old) (come_to e new) r
+    HaveBeenAnswered lines_of (HasAnsweredLine k at e.told) (e.remaining old.1.reader) (come_to e old) (come_to e new) r
+    × IsReadToEnd (e.given new.1.reader) r
 HasDone (command.Outbox f) here k e at old new r =
     HasReportedGood (λ s. IsListing f s (listing.All report.Pending)) k (told_to e old) (told_to e new) r
 HasDone (command.Report l f) here k e at old new r =

@@ -1,18 +1,14 @@
--- The outcome of a command, whether it ran to its end or not.
-use Rattle.std.specs.Prelude.{◌≡◌, ◌⊎◌, ℕ, Bool, Option, Some, None, Result, Ok, Err, List, ◌++◌, take}
+-- The outcome of a request, whether it was answered or not.
+use Rattle.std.specs.Prelude.{◌≡◌, ◌⊎◌, ℕ, Bool, Option, Some, List, ◌++◌, take}
 use Rattle.station_days.specs.Date.{LocalMinute}
 use Rattle.station_core.specs.Given.{Given}
 use Rattle.station_core.specs.Ends.{HasCause}
 use Rattle.station_core.specs.Step.{State}
 use Rattle.stock_list.specs.declared.answer.RunFault.{RunFault}
 use Rattle.stock_list.specs.declared.answer.RunFault.TheVariants as fault
-use Rattle.stock_list.specs.Ended.{IsReadersFault, Kept}
+use Rattle.stock_list.specs.Ended.{Kept}
 use Rattle.cli_run.specs.declared.asked.Asked.{Asked}
 use Rattle.cli_run.specs.Asked.{asked_line, asked_good, asked_after}
-use Rattle.cli_run.specs.Came.{HasCome}
-use Rattle.station_core.specs.Keeping.{Keeping}
-use Rattle.cli_run.specs.Ends.{kept_by}
-use Rattle.cli_run.specs.InTurn.{Come}
 
 -- A prefix of a line was written, as the writer failed or wrote 0 bytes. Or memory ran out for the
 -- line, and nothing was written.
@@ -50,22 +46,3 @@ abbrev pub IsStopped : Option ℕ → State → Asked → LocalMinute → RunFau
     → Type 0
 IsStopped number s asks at e before after left =
     HasActed number s asks at e before after left.keeps ⊎ HasNotActed s asks at e before after left
-
--- the input wasn't received in full, and nothing was called or written
-pub record HasNotBegun (s : State) (e : RunFault) (before after : List ℕ) (keeps : State → Type 0) : Type 0 where
-  pub why : IsReadersFault e
-  pub nothing : after ≡ before
-  pub state : keeps s
-
--- A command over an input has run. Each state of the call has the bytes received by then. At Ok the
--- line for the request in the bytes was written, and the state is the one after it; at Err the
--- command stopped there, or before.
-abbrev pub HasRun : {K E : Type 0} → (List ℕ → Asked → Type 0) → Keeping K → State → LocalMinute
-    → Come K E × Given → Come K E × Given → Result Bool RunFault → Type 0
-HasRun IsAsked k s at old new (Ok good) =
-    (bytes : List ℕ) × HasCome old.1 new.1 bytes × ((asks : Asked) × IsAsked bytes asks
-    × IsAnswered None s asks at good old.0.sent.bytes new.0.sent.bytes (k.keeps new.0.keeper))
-HasRun IsAsked k s at old new (Err e) =
-    HasNotBegun s e old.0.sent.bytes new.0.sent.bytes (k.keeps new.0.keeper)
-    ⊎ ((bytes : List ℕ) × HasCome old.1 new.1 bytes × ((asks : Asked) × IsAsked bytes asks
-    × IsStopped None s asks at e old.0.sent.bytes new.0.sent.bytes (kept_by k new.0.keeper)))

@@ -1,13 +1,7 @@
 -- The parts of a call that contracts see: its keeper's state, and what it reads and writes.
 use Rattle.std.specs.Prelude.{Option, List, ℕ}
 use Rattle.station_core.specs.Given.{Given}
-use Rattle.station_core.specs.Keeping.{Keeping}
-use Rattle.stock_list.specs.Ended.{Kept, kept}
-use Rattle.cli_run.specs.InTurn.{Come, come}
-
--- the state kept by this keeper
-abbrev pub kept_by : {K : Type 0} → Keeping K → K → Kept
-kept_by k keeper = kept (k.keeps keeper) (k.may_find keeper)
+use Rattle.stock_list.specs.Come.{Come, come}
 
 -- a keeper, and what was written
 abbrev pub Told : Type 0 → Type 0

@@ -11,9 +11,8 @@ use Rattle.input_reasons.specs.Reason.{HasReason, is_unread}
 use Rattle.stock_list.specs.declared.answer.RunFault.{RunFault}
 use Rattle.cli_run.specs.declared.asked.Asked.{Asked}
 use Rattle.cli_run.specs.declared.asked.Asked.TheVariants as asked
-use Rattle.cli_run.specs.Came.{HasCome}
 use Rattle.station_core.specs.Keeping.{Keeping}
-use Rattle.cli_run.specs.InTurn.{Come}
+use Rattle.stock_list.specs.Come.{Come}
 
 -- true if an answer says that a telegram can't be read
 abbrev pub is_unread_answer : Answer → Bool
@@ -58,26 +57,12 @@ HasGivenReason taken unread head old new (Ok good) =
     HasToldWhy taken unread head old new × (unread ≡ true → good ≡ false)
 HasGivenReason taken unread head old new (Err e) = new ≡ old
 
--- the request was answered, and its reason given if it can't be read
+-- The request was answered, and its reason given if it can't be read. Nothing is written if it was
+-- accepted.
 pub record HasExplained {K E : Type 0} (number : Option ℕ) (k : Keeping K) (asks : Asked)
     (at : LocalMinute) (taken : E → Given) (old new : Come K E) (result : Result Bool RunFault) : Type 0 where
+  pub quiet : result ≡ Ok true → new.errors ≡ old.errors
   pub unread : Bool
   pub given : HasGivenReason taken unread (reason_head number asks) old.errors new.errors result
   pub why : (s : State) → k.keeps old.keeper s → k.is_broken old.keeper ≡ false
       → k.is_sound new.keeper → OnOk result (unread ≡ asked_unread s asks at)
-
--- The input was received, and the reason for the request in its bytes was given; or the command
--- stopped, and nothing was written.
-abbrev pub HasExplainedRun : {K E : Type 0} → (List ℕ → Asked → Type 0) → Keeping K → LocalMinute
-    → (E → Given) → Come K E × Given → Come K E × Given → Result Bool RunFault → Type 0
-HasExplainedRun IsAsked k at taken old new (Ok good) =
-    (bytes : List ℕ) × HasCome old.1 new.1 bytes × ((asks : Asked) × IsAsked bytes asks
-    × HasExplained None k asks at taken old.0 new.0 (Ok good))
-HasExplainedRun IsAsked k at taken old new (Err e) = new.0.errors ≡ old.0.errors
-
--- The reason why a telegram or a body can't be read, or a prefix of it; nothing is written if it
--- was accepted.
-pub record HasExplainedAsked {K E : Type 0} (IsAsked : List ℕ → Asked → Type 0) (k : Keeping K)
-    (at : LocalMinute) (taken : E → Given) (old new : Come K E × Given) (result : Result Bool RunFault) : Type 0 where
-  pub quiet : result ≡ Ok true → new.0.errors ≡ old.0.errors
-  pub reasons : HasExplainedRun IsAsked k at taken old new result

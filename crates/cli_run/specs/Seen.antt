@@ -2,8 +2,8 @@
 use Rattle.std.specs.Prelude.{◌≡◌, ◌⊎◌, ℕ, Bool, false, not, Option, Some, None, List, [], ◌∷◌, ◌++◌}
 use Rattle.imp_fields.specs.declared.fault.TextFault.{TextFault}
 use Rattle.shipment_machine.specs.declared.plans.Refusal.{Refusal}
-use Rattle.telegrams.specs.Meaning.{telegram_fault, refusal_of}
-use Rattle.telegram_look.specs.Look.{IsLook, has_doubt}
+use Rattle.telegrams.specs.Meaning.{refusal_of}
+use Rattle.telegram_look.specs.Look.{IsLook, IsLookFault, has_doubt}
 use Rattle.telegram_look.specs.LookText.{look_text}
 use Rattle.telegram_look.specs.declared.look.Look.{Look}
 use Rattle.station_core.specs.Given.{Given}
@@ -24,10 +24,10 @@ pub record HasLook (bytes text : List ℕ) (good unread : Bool) : Type 0 where
   pub good_is : good ≡ not (has_doubt look)
   pub unread_is : unread ≡ false
 
--- the refusal of bytes that aren't a telegram
+-- the refusal of bytes that aren't a telegram, or whose flight's day no year has
 pub record HasRefusal (bytes text : List ℕ) (good unread : Bool) : Type 0 where
   pub told : TextFault
-  pub fault : telegram_fault bytes ≡ Some told
+  pub fault : IsLookFault bytes told
   pub text_is : text ≡ refusal_text (refusal_of told) ++ 10 ∷ []
   pub good_is : good ≡ false
   pub unread_is : unread ≡ is_unread (refusal_of told)

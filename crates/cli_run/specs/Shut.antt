@@ -1,14 +1,12 @@
--- A command on a broken station, which isn't called.
-use Rattle.std.specs.Prelude.{◌≡◌, ◌⊎◌, ℕ, Bool, false, Option, None, Result, Ok, Err, List, [], ◌∷◌, ◌++◌, codes}
+-- A request on a broken station, which isn't called.
+use Rattle.std.specs.Prelude.{◌≡◌, ℕ, Bool, false, Option, Result, Ok, Err, List, [], ◌∷◌, ◌++◌, codes}
 use Rattle.station_core.specs.Given.{Given}
 use Rattle.station_core.specs.Texts.{refusal_text}
 use Rattle.stock_list.specs.declared.answer.RunFault.{RunFault}
 use Rattle.stock_list.specs.declared.answer.RunFault.TheVariants as fault
-use Rattle.stock_list.specs.Ended.{IsReadersFault}
 use Rattle.cli_run.specs.declared.asked.Asked.{Asked}
 use Rattle.cli_run.specs.declared.asked.Asked.TheVariants as asked
 use Rattle.cli_run.specs.Asked.{numbered}
-use Rattle.cli_run.specs.Came.{HasCome}
 use Rattle.cli_run.specs.Ended.{HasToldPart}
 
 -- a line that isn't an acceptance was written, or a prefix
@@ -24,16 +22,3 @@ IsAnsweredShut number (asked.Bad verb body) old new r = HasToldLine (codes "body
 IsAnsweredShut number (asked.BadLine line) old new r = HasToldLine (numbered number (codes "bad\n")) old new r
 IsAnsweredShut number (asked.Input i) old new (Ok good) = ⊥
 IsAnsweredShut number (asked.Input i) old new (Err e) = (e ≡ fault.Store) × (new ≡ old)
-
--- the input was received, and its request is answered in this way
-abbrev pub HasAnsweredShut : (List ℕ → Asked → Type 0) → Given → Given → Given → Given
-    → Result Bool RunFault → Type 0
-HasAnsweredShut IsAsked read_old read_new old new r =
-    (bytes : List ℕ) × (HasCome read_old read_new bytes × ((asks : Asked) × (IsAsked bytes asks × IsAnsweredShut None asks old new r)))
-
--- a command has run; or its input wasn't received in full, and nothing was written
-abbrev pub HasRunShut : (List ℕ → Asked → Type 0) → Given → Given → Given → Given
-    → Result Bool RunFault → Type 0
-HasRunShut IsAsked read_old read_new old new (Ok good) = HasAnsweredShut IsAsked read_old read_new old new (Ok good)
-HasRunShut IsAsked read_old read_new old new (Err e) =
-    (IsReadersFault e × (new ≡ old)) ⊎ HasAnsweredShut IsAsked read_old read_new old new (Err e)

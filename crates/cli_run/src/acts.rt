@@ -1,13 +1,15 @@
 //! Commands and telegrams, one a line.
-ghost use Rattle.std.specs.Prelude.{◌≡◌, ◌<◌, false, Err, IfOk, OnOk};
+ghost use Rattle.std.specs.Prelude.{◌≡◌, ◌<◌, Err, IfOk};
 ghost use Rattle.std.specs.Io.Buffered.{reader_remaining};
-ghost use Rattle.stock_list.specs.Ended.{IsReadersFault};
+ghost use Rattle.stock_list.specs.Come.{come};
+ghost use Rattle.stock_list.specs.Ended.{IsReadersFault, IsReadToEnd};
+ghost use Rattle.stock_list.specs.InTurn.{HaveBeenAnswered};
 ghost use Rattle.cli_run.specs.Acts.{is_blank, HasAnsweredLine};
-ghost use Rattle.station_core.specs.Keeping.{StaysInService};
-ghost use Rattle.cli_run.specs.InTurn.{come, HaveBeenAnswered};
+ghost use Rattle.cli_run.specs.InTurn.{lines_of};
 
 use crate::act_line::{line_asked, line_value};
 use crate::answer::answer_asked;
+use crate::answering::Answering;
 use station_core::{ByteOut, Keeper};
 use station_days::Moment;
 use std::alloc::{AllocError, Global};
@@ -23,7 +25,7 @@ pub fn is_blank(line: &[u8]) -> bool
 }
 
 /// Answers a line, and writes the reason if it can't be read.
-fn answer_line<K: Keeper, W: ByteOut, E: ByteOut>(
+pub(crate) fn answer_line<K: Keeper, W: ByteOut, E: ByteOut>(
     alloc: Global,
     keeper: &mut K,
     writer: &mut W,
@@ -32,10 +34,10 @@ fn answer_line<K: Keeper, W: ByteOut, E: ByteOut>(
     line: &[u8],
     at: Moment,
 ) -> Result<bool, RunFault>
-    ensures service { StaysInService K.keeping keeper.old keeper.new result }
     ensures answered { HasAnsweredLine K.keeping at E.taken number line.now
         (come keeper.old (W.taken writer.old) errors.old)
         (come keeper.new (W.taken writer.new) errors.new) result }
+    ensures unread { result ≡ Err RunFault.Read → ⊥ }
 {
     if is_blank(line) {
         return Ok(true);
@@ -50,7 +52,7 @@ fn answer_line<K: Keeper, W: ByteOut, E: ByteOut>(
 }
 
 /// Returns the fault of a run that couldn't read a line.
-pub fn line_fault(error: &io::Error) -> RunFault
+fn line_fault(error: &io::Error) -> RunFault
     ensures { IsReadersFault result }
 {
     match error.kind() {
@@ -60,7 +62,7 @@ pub fn line_fault(error: &io::Error) -> RunFault
 }
 
 /// Buffers a reader.
-pub fn buffered<R: Read + Drop>(alloc: Global, reader: R) -> Result<BufReader<R>, AllocError>
+fn buffered<R: Read + Drop>(alloc: Global, reader: R) -> Result<BufReader<R>, AllocError>
     ensures { IfOk result (λ lines. reader_remaining R.remaining lines ≡ R.remaining reader) }
 {
     match BufReader::new(alloc, reader) {
@@ -70,18 +72,17 @@ pub fn buffered<R: Read + Drop>(alloc: Global, reader: R) -> Result<BufReader<R>
 }
 
 /// Answers the lines of a reader up to its end or an error.
-fn run_lines<K: Keeper, R: BufRead + Drop, W: ByteOut, E: ByteOut>(
+fn answer_lines<P: Answering<D, E>, D, R: BufRead + Drop, W: ByteOut, E: ByteOut>(
+    way: &P,
     alloc: Global,
-    keeper: &mut K,
+    desk: &mut D,
     mut reader: R,
     writer: &mut W,
     errors: &mut E,
-    at: Moment,
 ) -> Result<bool, RunFault>
-    ensures service { StaysInService K.keeping keeper.old keeper.new result }
-    ensures answered { HaveBeenAnswered (HasAnsweredLine K.keeping at E.taken) (R.remaining reader)
-        (come keeper.old (W.taken writer.old) errors.old)
-        (come keeper.new (W.taken writer.new) errors.new) result }
+    ensures { HaveBeenAnswered lines_of (P.answered_line way.now) (R.remaining reader)
+        (come desk.old (W.taken writer.old) errors.old)
+        (come desk.new (W.taken writer.new) errors.new) result }
 {
     let mut good = true;
     for number in 1..u64::MAX {
@@ -90,7 +91,7 @@ fn run_lines<K: Keeper, R: BufRead + Drop, W: ByteOut, E: ByteOut>(
             Ok(0) => return Ok(good),
             Ok(_) => {
                 let text = line.as_slice();
-                let accepted = answer_line(alloc, keeper, writer, errors, number, text, at)?;
+                let accepted = way.answer_line(alloc, desk, writer, errors, number, text)?;
                 good &= accepted;
             }
             Err(error) => return Err(line_fault(&error)),
@@ -99,43 +100,37 @@ fn run_lines<K: Keeper, R: BufRead + Drop, W: ByteOut, E: ByteOut>(
     Err(RunFault::Memory)
 }
 
-/// Reads lines, each a command under its key or a telegram as JSON, passes them to the station one
-/// after another, all at one moment, and writes the line of each answer: `r1 ok 3`, `line 2 refused
-/// 301 4 ending`, or `line 3 bad` for any other line. Empty lines are skipped. If a line can't be
-/// read, the reason is written to `errors` after its answer. `Ok` says whether all were accepted.
+/// Reads lines, each a command under its key or a telegram as JSON, has them answered one after
+/// another, all at one moment, and writes the line of each answer: `r1 ok 3`, `line 2 refused 301 4
+/// ending`, or `line 3 bad` for any other line. Empty lines are skipped. If a line can't be read,
+/// the reason is written to `errors` after its answer. `Ok` says whether all were accepted.
 ///
 /// # Errors
 ///
-/// The lines before the fault are answered. To the line itself applies what `run_act` says.
+/// The lines before the fault are answered. To the line itself applies what `answer_act` says.
 ///
 /// - [`RunFault::Read`]: the reader fails.
 /// - [`RunFault::Write`]: the writer fails or writes 0 bytes.
 /// - [`RunFault::Memory`]: memory runs out.
 /// - [`RunFault::Store`]: the store fails, or failed before.
-pub fn run_acts<K: Keeper, R: Watched + Read, W: ByteOut, E: ByteOut>(
+pub fn answer_acts<P: Answering<D, E>, D, R: Watched + Read, W: ByteOut, E: ByteOut>(
+    way: &P,
     alloc: Global,
-    keeper: &mut K,
+    desk: &mut D,
     reader: &mut R,
     writer: &mut W,
     errors: &mut E,
-    at: Moment,
 ) -> Result<bool, RunFault>
-    ensures service { StaysInService K.keeping keeper.old keeper.new result }
-
     // All lines that were read were answered in order; for a known reader these are all lines of
     // its text. After a fault, all but the last were.
-    ensures answered { HaveBeenAnswered (HasAnsweredLine K.keeping at E.taken)
-        (R.remaining reader.old) (come keeper.old (W.taken writer.old) errors.old)
-        (come keeper.new (W.taken writer.new) errors.new) result }
-
-    // `Read` is returned only if the reader failed, and the end of the lines is reached only if it
-    // didn't.
-    ensures read_cause { result ≡ Err RunFault.Read → 0 < (R.given reader.new).failures }
-    ensures no_failure { OnOk result ((R.given reader.new).failures ≡ 0) }
+    ensures answered { HaveBeenAnswered lines_of (P.answered_line way.now) (R.remaining reader.old)
+        (come desk.old (W.taken writer.old) errors.old)
+        (come desk.new (W.taken writer.new) errors.new) result }
+    ensures read { IsReadToEnd (R.given reader.new) result }
 {
     let Ok(lines) = buffered(alloc, &mut *reader) else {
         return Err(RunFault::Memory);
     };
-    let ended = run_lines(alloc, keeper, lines, writer, errors, at);
+    let ended = answer_lines(way, alloc, desk, lines, writer, errors);
     told_by(ended, reader.has_failed())
 }

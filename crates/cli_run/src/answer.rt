@@ -1,16 +1,12 @@
 //! Answers to the input of a command.
-ghost use Rattle.std.specs.Prelude.{◌≡◌, ◌⊎◌, ◌++◌, ◌∷◌, [], true, false, Err, IfOk, IfErr, OnOk, codes, decimal, string_bytes};
-ghost use Rattle.station_core.specs.Step.{State};
+ghost use Rattle.std.specs.Prelude.{◌≡◌, ◌++◌, ◌∷◌, [], true, false, IfOk, codes, decimal, string_bytes};
 ghost use Rattle.station_core.specs.Texts.{refusal_text};
-ghost use Rattle.stock_list.specs.Ended.{IsShutAfter, TellsWriting, kept};
+ghost use Rattle.stock_list.specs.Come.{come};
 ghost use Rattle.stock_list.specs.Lines.{answer_text};
 ghost use Rattle.input_reasons.specs.Reason.{is_unread};
+ghost use Rattle.cli_run.specs.Answered.{HasAnswered, HasToldUnread};
 ghost use Rattle.cli_run.specs.Asked.{keyed, named, numbered};
-ghost use Rattle.cli_run.specs.Ended.{HasToldPart, IsAnswered, IsStopped};
-ghost use Rattle.station_core.specs.Keeping.{IfWorks, StaysIfBroken, StaysInService};
-ghost use Rattle.cli_run.specs.Explained.{reason_head, HasExplained, HasGivenReason};
-ghost use Rattle.cli_run.specs.InTurn.{come};
-ghost use Rattle.cli_run.specs.Shut.{HasToldLine, IsAnsweredShut};
+ghost use Rattle.cli_run.specs.Explained.{reason_head};
 
 use crate::asked::Asked;
 use crate::telling::{tell_answer, tell_bad_line, tell_body, tell_refusal};
@@ -123,23 +119,7 @@ fn answer_input<K: Keeper, O: ByteOut, E: ByteOut>(
     input: &Input<'_>,
     at: Moment,
 ) -> Result<bool, RunFault>
-    ensures service { StaysInService K.keeping keeper.old keeper.new result }
-    ensures breaks { K.keeping.is_broken keeper.old ≡ false → IfErr result
-        (λ e. IsShutAfter e (K.keeping.is_broken keeper.new)) }
-    ensures answered { IfWorks K.keeping keeper.old keeper.new (λ s. IfOk result (λ good. IsAnswered
-        number s (Asked.Input input.now) at good (O.taken writer.old).bytes
-        (O.taken writer.new).bytes (K.keeping.keeps keeper.new))) }
-    ensures stopped { IfWorks K.keeping keeper.old keeper.new (λ s. IfErr result (λ e. IsStopped
-        number s (Asked.Input input.now) at e (O.taken writer.old).bytes (O.taken writer.new).bytes
-        (kept (K.keeping.keeps keeper.new) (K.keeping.may_find keeper.new)))) }
-    ensures read { result ≡ Err RunFault.Read → ⊥ }
-    ensures writing { TellsWriting (O.taken writer.old) (O.taken writer.new) result }
-    ensures unwritten { IfErr result (λ e. (e ≡ RunFault.Write)
-        ⊎ (O.taken writer.new ≡ O.taken writer.old)) }
-    ensures same { StaysIfBroken K.keeping keeper.old keeper.new }
-    ensures reopen { K.keeping.is_broken keeper.old ≡ true → IsAnsweredShut number
-        (Asked.Input input.now) (O.taken writer.old) (O.taken writer.new) result }
-    ensures reasons { HasExplained number K.keeping (Asked.Input input.now) at E.taken
+    ensures { HasAnswered K.keeping at E.taken number (Asked.Input input.now)
         (come keeper.old (O.taken writer.old) errors.old)
         (come keeper.new (O.taken writer.new) errors.new) result }
 {
@@ -166,19 +146,9 @@ pub fn answer_refusal<O: ByteOut, E: ByteOut>(
     number: Option<u64>,
     refusal: &Refusal,
 ) -> Result<bool, RunFault>
-    ensures answered { IfOk result (λ good. (good ≡ false)
-        × ((O.taken writer.new).bytes ≡ (O.taken writer.old).bytes ++
-        (numbered number (refusal_text refusal.now ++ 10 ∷ [])))) }
-    ensures stopped { IfErr result
-        (HasToldPart (numbered number (refusal_text refusal.now ++ 10 ∷ [])) (O.taken writer.old)
-        (O.taken writer.new)) }
-    ensures told { HasToldLine (numbered number (refusal_text refusal.now ++ 10 ∷ []))
-        (O.taken writer.old) (O.taken writer.new) result }
-    ensures writing { TellsWriting (O.taken writer.old) (O.taken writer.new) result }
-    ensures unwritten { IfErr result (λ e. (e ≡ RunFault.Write)
-        ⊎ (O.taken writer.new ≡ O.taken writer.old)) }
-    ensures reasons { HasGivenReason E.taken (is_unread refusal.now)
-        (reason_head number (Asked.Refused refusal.now)) errors.old errors.new result }
+    ensures { HasToldUnread E.taken (numbered number (refusal_text refusal.now ++ 10 ∷ []))
+        (is_unread refusal.now) (reason_head number (Asked.Refused refusal.now))
+        (O.taken writer.old, errors.old) (O.taken writer.new, errors.new) result }
 {
     let Ok(line) = refusal_line(alloc, number, refusal) else {
         return Err(RunFault::Memory);
@@ -198,16 +168,8 @@ pub fn answer_bad<O: ByteOut, E: ByteOut>(
     verb: Verb,
     body: &[u8],
 ) -> Result<bool, RunFault>
-    ensures answered { IfOk result (λ good. (good ≡ false)
-        × ((O.taken writer.new).bytes ≡ (O.taken writer.old).bytes ++ codes "body bad\n")) }
-    ensures stopped { IfErr result
-        (HasToldPart (codes "body bad\n") (O.taken writer.old) (O.taken writer.new)) }
-    ensures told { HasToldLine (codes "body bad\n") (O.taken writer.old) (O.taken writer.new)
-        result }
-    ensures writing { TellsWriting (O.taken writer.old) (O.taken writer.new) result }
-    ensures unwritten { IfErr result (λ e. (e ≡ RunFault.Write)
-        ⊎ (O.taken writer.new ≡ O.taken writer.old)) }
-    ensures reasons { HasGivenReason E.taken true (codes "body: ") errors.old errors.new result }
+    ensures { HasToldUnread E.taken (codes "body bad\n") true (codes "body: ")
+        (O.taken writer.old, errors.old) (O.taken writer.new, errors.new) result }
 {
     send_line(writer, BAD_BODY)?;
     tell_body(alloc, errors, verb, body);
@@ -225,16 +187,8 @@ pub fn answer_bad_line<O: ByteOut, E: ByteOut>(
     number: Option<u64>,
     text: &[u8],
 ) -> Result<bool, RunFault>
-    ensures answered { IfOk result (λ good. (good ≡ false) × ((O.taken writer.new).bytes
-        ≡ (O.taken writer.old).bytes ++ (numbered number (codes "bad\n")))) }
-    ensures stopped { IfErr result (HasToldPart (numbered number (codes "bad\n"))
-        (O.taken writer.old) (O.taken writer.new)) }
-    ensures told { HasToldLine (numbered number (codes "bad\n")) (O.taken writer.old)
-        (O.taken writer.new) result }
-    ensures writing { TellsWriting (O.taken writer.old) (O.taken writer.new) result }
-    ensures unwritten { IfErr result (λ e. (e ≡ RunFault.Write)
-        ⊎ (O.taken writer.new ≡ O.taken writer.old)) }
-    ensures reasons { HasGivenReason E.taken true (codes "line ") errors.old errors.new result }
+    ensures { HasToldUnread E.taken (numbered number (codes "bad\n")) true (codes "line ")
+        (O.taken writer.old, errors.old) (O.taken writer.new, errors.new) result }
 {
     let Ok(line) = numbered_line(alloc, number, "bad") else {
         return Err(RunFault::Memory);
@@ -255,23 +209,7 @@ pub(crate) fn answer_asked<K: Keeper, O: ByteOut, E: ByteOut>(
     asked: &Asked<'_>,
     at: Moment,
 ) -> Result<bool, RunFault>
-    ensures service { StaysInService K.keeping keeper.old keeper.new result }
-    ensures breaks { K.keeping.is_broken keeper.old ≡ false → IfErr result
-        (λ e. IsShutAfter e (K.keeping.is_broken keeper.new)) }
-    ensures answered { IfWorks K.keeping keeper.old keeper.new (λ s. IfOk result (λ good. IsAnswered
-        number s asked.now at good (O.taken writer.old).bytes (O.taken writer.new).bytes
-        (K.keeping.keeps keeper.new))) }
-    ensures stopped { IfWorks K.keeping keeper.old keeper.new (λ s. IfErr result (λ e. IsStopped
-        number s asked.now at e (O.taken writer.old).bytes (O.taken writer.new).bytes
-        (kept (K.keeping.keeps keeper.new) (K.keeping.may_find keeper.new)))) }
-    ensures read { result ≡ Err RunFault.Read → ⊥ }
-    ensures writing { TellsWriting (O.taken writer.old) (O.taken writer.new) result }
-    ensures unwritten { IfErr result (λ e. (e ≡ RunFault.Write)
-        ⊎ (O.taken writer.new ≡ O.taken writer.old)) }
-    ensures same { StaysIfBroken K.keeping keeper.old keeper.new }
-    ensures reopen { K.keeping.is_broken keeper.old ≡ true → IsAnsweredShut number asked.now
-        (O.taken writer.old) (O.taken writer.new) result }
-    ensures reasons { HasExplained number K.keeping asked.now at E.taken
+    ensures { HasAnswered K.keeping at E.taken number asked.now
         (come keeper.old (O.taken writer.old) errors.old)
         (come keeper.new (O.taken writer.new) errors.new) result }
 {

@@ -1,23 +1,31 @@
 //! Running a command over its station.
-ghost use Rattle.std.specs.Prelude.{◌≡◌, false, length, OnOk};
-ghost use Rattle.cli_run.specs.Answered.{HasAnsweredAsked};
-ghost use Rattle.cli_run.specs.Asked.{IsCommandAsked};
-ghost use Rattle.cli_run.specs.Done.{HasAnsweredActs, HasAnsweredRows, HasDone, HasToldMade};
+ghost use Rattle.std.specs.Prelude.{◌≡◌, false, None, OnOk};
 ghost use Rattle.station_core.specs.Keeping.{StaysInService};
+ghost use Rattle.stock_list.specs.Answered.{HasAnsweredRows};
+ghost use Rattle.stock_list.specs.Come.{come};
+ghost use Rattle.stock_list.specs.Ended.{IsReadToEnd};
+ghost use Rattle.stock_list.specs.InTurn.{HaveBeenAnswered};
+ghost use Rattle.cli_run.specs.Acts.{HasAnsweredLine};
+ghost use Rattle.cli_run.specs.Answered.{HasAnswered, HasAnsweredAsked};
+ghost use Rattle.cli_run.specs.Asked.{IsCommandAsked};
+ghost use Rattle.cli_run.specs.Done.{HasDone, HasToldMade};
 ghost use Rattle.cli_run.specs.Ends.{ends, reached};
-ghost use Rattle.cli_run.specs.Explained.{HasExplainedAsked};
+ghost use Rattle.cli_run.specs.InTurn.{lines_of, HaveBeenMade};
 ghost use Rattle.cli_run.specs.Place.{here_of};
-ghost use Rattle.cli_run.specs.Reasons.{HasExplainedRows, HasGivenReasons};
+ghost use Rattle.cli_run.specs.Reasons.{HasGivenReasons};
 ghost use Rattle.cli_run.specs.Takes.{HasTakenNext};
-ghost use Rattle.cli_run.specs.InTurn.{come, HaveBeenMade};
 
+use crate::act::answer_act;
+use crate::acts::answer_acts;
+use crate::answering::ByStation;
 use crate::history::do_history;
 use crate::inputs::Inputs;
 use crate::look::{do_holder, do_waybill};
 use crate::place::airport_of_line;
 use crate::report::do_report;
+use crate::rows::answer_list;
 use crate::sent::send_word;
-use crate::{run_act, run_acts, run_takes};
+use crate::takes::answer_takes;
 use cli_words::{Line, LineCommand};
 use desk_commands::Verb;
 use imp_fields::Airport;
@@ -26,7 +34,7 @@ use station_core::{ByteIn, ByteOut, Keeper, Key};
 use station_days::Moment;
 use std::alloc::Global;
 use std::io::Read;
-use stock_list::{RunFault, Watched, run_stock};
+use stock_list::{RunFault, Watched};
 
 /// Runs `init`: writes the line of the new station.
 fn do_init<K: Keeper, W: ByteOut>(
@@ -43,7 +51,8 @@ fn do_init<K: Keeper, W: ByteOut>(
     }
 }
 
-/// Runs `stock`: writes the answers to a stock list.
+/// Runs `stock`: acts on the rows of a stock list and writes the answers. The reason for a
+/// malformed row is written to `errors`, after its line.
 fn do_stock<K: Keeper, I: Watched + Read, W: ByteOut, E: ByteOut>(
     alloc: Global,
     keeper: &mut K,
@@ -52,32 +61,39 @@ fn do_stock<K: Keeper, I: Watched + Read, W: ByteOut, E: ByteOut>(
     errors: &mut E,
     at: Moment,
 ) -> Result<bool, RunFault>
-    ensures service { StaysInService K.keeping keeper.old keeper.new result }
-    ensures answered { HasAnsweredRows K.keeping at (I.remaining reader.old) (I.given reader.new)
+    ensures answered { HasAnsweredRows K.keeping at E.taken (I.remaining reader.old)
         (come keeper.old (W.taken output.old) errors.old)
         (come keeper.new (W.taken output.new) errors.new) result }
-    ensures explained { HasExplainedRows (I.remaining reader.old) E.taken errors.old errors.new
-        result }
+    ensures read { IsReadToEnd (I.given reader.new) result }
 {
-    run_stock(alloc, keeper, reader, output, errors, at)
+    answer_list(&ByStation { at }, alloc, keeper, reader, output, errors)
 }
 
 /// Runs `take FILE ..`: writes the answers to telegrams.
 fn do_take<K: Keeper, I: Inputs, W: ByteOut, E: ByteOut>(
     alloc: Global,
     keeper: &mut K,
-    paths: &[&str],
+    count: usize,
     reader: &mut I,
     output: &mut W,
     errors: &mut E,
     at: Moment,
 ) -> Result<bool, RunFault>
     ensures service { StaysInService K.keeping keeper.old keeper.new result }
-    ensures taken { HaveBeenMade (HasTakenNext K.keeping at I.given I.turned E.taken)
-        (length paths.now) (come keeper.old (W.taken output.old) errors.old, reader.old)
+    ensures taken { HaveBeenMade
+        (HasTakenNext (λ bytes. HasAnswered K.keeping at E.taken None) I.given I.turned) count
+        (come keeper.old (W.taken output.old) errors.old, reader.old)
         (come keeper.new (W.taken output.new) errors.new, reader.new) result }
 {
-    run_takes(alloc, keeper, paths.len(), reader, output, errors, at)
+    answer_takes(
+        &ByStation { at },
+        alloc,
+        keeper,
+        count,
+        reader,
+        output,
+        errors,
+    )
 }
 
 /// Runs `acts`: writes the answers to commands and telegrams.
@@ -90,11 +106,12 @@ fn do_acts<K: Keeper, I: Watched + Read, W: ByteOut, E: ByteOut>(
     at: Moment,
 ) -> Result<bool, RunFault>
     ensures service { StaysInService K.keeping keeper.old keeper.new result }
-    ensures answered { HasAnsweredActs K.keeping at E.taken (I.remaining reader.old)
-        (I.given reader.new) (come keeper.old (W.taken output.old) errors.old)
+    ensures answered { HaveBeenAnswered lines_of (HasAnsweredLine K.keeping at E.taken)
+        (I.remaining reader.old) (come keeper.old (W.taken output.old) errors.old)
         (come keeper.new (W.taken output.new) errors.new) result }
+    ensures read { IsReadToEnd (I.given reader.new) result }
 {
-    run_acts(alloc, keeper, reader, output, errors, at)
+    answer_acts(&ByStation { at }, alloc, keeper, reader, output, errors)
 }
 
 /// Runs `act VERB KEY`: writes the answer to a command under its key.
@@ -109,14 +126,20 @@ fn do_act<K: Keeper, I: ByteIn, W: ByteOut, E: ByteOut>(
     at: Moment,
 ) -> Result<bool, RunFault>
     ensures service { StaysInService K.keeping keeper.old keeper.new result }
-    ensures answered { HasAnsweredAsked (IsCommandAsked verb key) K.keeping at
-        (come keeper.old (W.taken output.old) errors.old, I.given reader.old)
-        (come keeper.new (W.taken output.new) errors.new, I.given reader.new) result }
-    ensures explained { HasExplainedAsked (IsCommandAsked verb key) K.keeping at E.taken
+    ensures answered { HasAnsweredAsked (IsCommandAsked verb key) K.keeping at E.taken
         (come keeper.old (W.taken output.old) errors.old, I.given reader.old)
         (come keeper.new (W.taken output.new) errors.new, I.given reader.new) result }
 {
-    run_act(alloc, keeper, verb, key, reader, output, errors, at)
+    answer_act(
+        &ByStation { at },
+        alloc,
+        keeper,
+        verb,
+        key,
+        reader,
+        output,
+        errors,
+    )
 }
 
 /// Runs the command of a command line over its station, at a moment. For `serve`, `migrate` and
@@ -149,7 +172,7 @@ pub fn run_over<K: Keeper, I: Inputs + Read, W: ByteOut, E: ByteOut>(
         LineCommand::Init => do_init(keeper, airport_of_line(line), output),
         LineCommand::Stock => do_stock(alloc, keeper, reader, output, errors, at),
         LineCommand::Take(paths) => {
-            do_take(alloc, keeper, paths.as_slice(), reader, output, errors, at)
+            do_take(alloc, keeper, paths.len(), reader, output, errors, at)
         }
         LineCommand::Act { verb, key } => {
             do_act(alloc, keeper, *verb, *key, reader, output, errors, at)

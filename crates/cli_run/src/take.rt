@@ -1,23 +1,16 @@
-ghost use Rattle.std.specs.Prelude.{◌≡◌, ◌⊎◌, true, false, Ok, Err, IfErr, OnOk};
-ghost use Rattle.station_core.specs.Step.{State};
-ghost use Rattle.stock_list.specs.Ended.{IsShutAfter, TellsWriting};
+ghost use Rattle.std.specs.Prelude.{None};
+ghost use Rattle.stock_list.specs.Come.{come};
+ghost use Rattle.cli_run.specs.Answered.{HasRunInput};
 ghost use Rattle.cli_run.specs.Asked.{IsTelegramAsked};
-ghost use Rattle.cli_run.specs.Came.{HasFailed, IsWithin, most_come};
-ghost use Rattle.cli_run.specs.Ended.{HasRun};
-ghost use Rattle.station_core.specs.Keeping.{IfWorks, StaysIfBroken, StaysInService};
-ghost use Rattle.cli_run.specs.Explained.{HasExplainedRun};
-ghost use Rattle.cli_run.specs.InTurn.{come};
-ghost use Rattle.cli_run.specs.Shut.{HasRunShut};
 
-use crate::answer::answer_asked;
+use crate::answering::Answering;
 use crate::asked::telegram_asked;
 use crate::reading::read_input;
-use station_core::{ByteIn, ByteOut, Keeper};
-use station_days::Moment;
+use station_core::{ByteIn, ByteOut};
 use std::alloc::Global;
 use stock_list::RunFault;
 
-/// Reads one telegram, passes it to the station at a moment, and writes the line of its answer: `ok
+/// Reads one telegram, has it answered at a moment, and writes the line of its answer: `ok
 /// 10`, `refused 213 LH400/2026-01-12/FRA/1`, or `refused 301 4 ending` if it can't be read. An
 /// input of more than 65,536 bytes is refused, and only a prefix of it is read. After that line,
 /// the reason why a telegram can't be read (301, 302) is written to `errors`. `Ok` says whether the
@@ -32,50 +25,22 @@ use stock_list::RunFault;
 ///   is taken wholly or not at all.
 /// - [`RunFault::Write`]: the writer fails. The telegram was answered, and a prefix of the line is
 ///   written.
-pub fn run_take<K: Keeper, I: ByteIn, O: ByteOut, E: ByteOut>(
+pub(crate) fn answer_take<P: Answering<D, E>, D, I: ByteIn, O: ByteOut, E: ByteOut>(
+    way: &P,
     alloc: Global,
-    keeper: &mut K,
+    desk: &mut D,
     reader: &mut I,
     writer: &mut O,
     errors: &mut E,
-    at: Moment,
 ) -> Result<bool, RunFault>
-    ensures service { StaysInService K.keeping keeper.old keeper.new result }
-    ensures breaks { K.keeping.is_broken keeper.old ≡ false → IfErr result
-        (λ e. IsShutAfter e (K.keeping.is_broken keeper.new)) }
-    ensures ran { IfWorks K.keeping keeper.old keeper.new (λ s. HasRun IsTelegramAsked K.keeping s
-        at (come keeper.old (O.taken writer.old) errors.old, I.given reader.old)
-        (come keeper.new (O.taken writer.new) errors.new, I.given reader.new) result) }
-    ensures unread { result ≡ Err RunFault.Read → (keeper.new ≡ keeper.old)
-        × (O.taken writer.new ≡ O.taken writer.old) }
-    ensures read_cause { result ≡ Err RunFault.Read
-        → HasFailed (I.given reader.old) (I.given reader.new) }
-    ensures read_told { IfErr result (λ e. (e ≡ RunFault.Read)
-        ⊎ ((I.given reader.new).failures ≡ (I.given reader.old).failures)) }
-    ensures writing { TellsWriting (O.taken writer.old) (O.taken writer.new) result }
-
-    // After any fault except the writer's, nothing was written.
-    ensures unwritten { IfErr result (λ e. (e ≡ RunFault.Write)
-        ⊎ (O.taken writer.new ≡ O.taken writer.old)) }
-
-    // Only a prefix of an input that is too long is read.
-    ensures most { IsWithin most_come (I.given reader.old) (I.given reader.new) }
-
-    // After its line a telegram that can't be read gets its reason, or a prefix of it. Nothing else
-    // is written to `errors`.
-    ensures quiet { result ≡ Ok true → errors.new ≡ errors.old }
-    ensures reasons { HasExplainedRun IsTelegramAsked K.keeping at E.taken
-        (come keeper.old (O.taken writer.old) errors.old, I.given reader.old)
-        (come keeper.new (O.taken writer.new) errors.new, I.given reader.new) result }
-
-    // A broken station stays as it is, and isn't called.
-    ensures same { StaysIfBroken K.keeping keeper.old keeper.new }
-    ensures reopen { K.keeping.is_broken keeper.old ≡ true → HasRunShut IsTelegramAsked
-        (I.given reader.old) (I.given reader.new) (O.taken writer.old) (O.taken writer.new) result }
+    ensures { HasRunInput IsTelegramAsked (P.answered way.now None) (I.given reader.old)
+        (I.given reader.new) (come desk.old (O.taken writer.old) errors.old)
+        (come desk.new (O.taken writer.new) errors.new) result }
 {
     let bytes = read_input(alloc, reader)?;
-    match telegram_asked(alloc, bytes.as_slice()) {
-        Ok(asked) => answer_asked(alloc, keeper, writer, errors, None, &asked, at),
+    let text = bytes.as_slice();
+    match telegram_asked(alloc, text) {
+        Ok(asked) => way.answer(alloc, desk, writer, errors, None, text, &asked),
         Err(_) => Err(RunFault::Memory),
     }
 }

@@ -1,56 +1,54 @@
 //! Taking several telegrams.
-ghost use Rattle.std.specs.Prelude.{◌≡◌, false, OnOk};
-ghost use Rattle.station_core.specs.Keeping.{StaysInService};
+ghost use Rattle.std.specs.Prelude.{None};
+ghost use Rattle.stock_list.specs.Come.{come};
 ghost use Rattle.cli_run.specs.Takes.{HasTakenNext};
-ghost use Rattle.cli_run.specs.InTurn.{come, HaveBeenMade};
+ghost use Rattle.cli_run.specs.InTurn.{HaveBeenMade};
 
+use crate::answering::Answering;
 use crate::inputs::Inputs;
-use crate::take::run_take;
-use station_core::{ByteIn, ByteOut, Keeper};
-use station_days::Moment;
+use crate::take::answer_take;
+use station_core::{ByteIn, ByteOut};
 use std::alloc::Global;
 use stock_list::{RunFault, Watched};
 
-/// Begins the next input, and takes its telegram.
-fn take_next<K: Keeper, I: Inputs, W: ByteOut, E: ByteOut>(
+/// Begins the next input, and has its telegram answered.
+fn take_next<P: Answering<D, E>, D, I: Inputs, W: ByteOut, E: ByteOut>(
+    way: &P,
     alloc: Global,
-    keeper: &mut K,
+    desk: &mut D,
     reader: &mut I,
     writer: &mut W,
     errors: &mut E,
-    at: Moment,
 ) -> Result<bool, RunFault>
-    ensures service { StaysInService K.keeping keeper.old keeper.new result }
-    ensures taken { HasTakenNext K.keeping at I.given I.turned E.taken
-        (come keeper.old (W.taken writer.old) errors.old, reader.old)
-        (come keeper.new (W.taken writer.new) errors.new, reader.new) result }
+    ensures { HasTakenNext (P.answered way.now None) I.given I.turned
+        (come desk.old (W.taken writer.old) errors.old, reader.old)
+        (come desk.new (W.taken writer.new) errors.new, reader.new) result }
 {
     reader.next_input();
-    run_take(alloc, keeper, reader, writer, errors, at)
+    answer_take(way, alloc, desk, reader, writer, errors)
 }
 
-/// Takes the telegrams of `count` inputs one after another, all at one moment, and writes the line
-/// of each answer. `Ok` says whether all were accepted.
+/// Has the telegrams of `count` inputs answered one after another, all at one moment, and writes
+/// the line of each answer. `Ok` says whether all were accepted.
 ///
-/// A fault ends the run, as described at [`run_take`]. The telegrams before it are answered, and
+/// A fault ends the run, as described at `answer_take`. The telegrams before it are answered, and
 /// those after it aren't read.
-pub fn run_takes<K: Keeper, I: Inputs, W: ByteOut, E: ByteOut>(
+pub fn answer_takes<P: Answering<D, E>, D, I: Inputs, W: ByteOut, E: ByteOut>(
+    way: &P,
     alloc: Global,
-    keeper: &mut K,
+    desk: &mut D,
     count: usize,
     reader: &mut I,
     writer: &mut W,
     errors: &mut E,
-    at: Moment,
 ) -> Result<bool, RunFault>
-    ensures service { StaysInService K.keeping keeper.old keeper.new result }
-    ensures taken { HaveBeenMade (HasTakenNext K.keeping at I.given I.turned E.taken) count
-        (come keeper.old (W.taken writer.old) errors.old, reader.old)
-        (come keeper.new (W.taken writer.new) errors.new, reader.new) result }
+    ensures { HaveBeenMade (HasTakenNext (P.answered way.now None) I.given I.turned) count
+        (come desk.old (W.taken writer.old) errors.old, reader.old)
+        (come desk.new (W.taken writer.new) errors.new, reader.new) result }
 {
     let mut good = true;
     for _turn in 0..count {
-        let accepted = take_next(alloc, keeper, reader, writer, errors, at)?;
+        let accepted = take_next(way, alloc, desk, reader, writer, errors)?;
         good &= accepted;
     }
     Ok(good)

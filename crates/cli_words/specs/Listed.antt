@@ -28,16 +28,18 @@ abbrev pub HasAgent : Report → List ℕ → Listing → Type 0
 HasAgent report.Stock code l = IsTrue (is_agent_code code) × (l ≡ listing.AgentStock code)
 HasAgent _ code l = ⊥
 
--- the moves or the trail of a waybill
+-- the moves, the trail or the status messages of a waybill
 abbrev pub IsOfWaybill : Report → List ℕ → Listing → Type 0
 IsOfWaybill report.Movements text l = (w : ℕ) × (number_of text ≡ Ok w) × (l ≡ listing.Movements w)
 IsOfWaybill report.Trail text l = (w : ℕ) × (number_of text ≡ Ok w) × (l ≡ listing.Trail w)
+IsOfWaybill report.Sent text l = (w : ℕ) × (number_of text ≡ Ok w) × (l ≡ listing.Sent w)
 IsOfWaybill _ text l = ⊥
 
--- the moves or the trail after a number
+-- the moves, the trail or the messages after a number
 abbrev pub IsAfter : Report → List ℕ → Listing → Type 0
 IsAfter report.Movements text l = (n : ℕ) × IsNumber 32 text n × (l ≡ listing.MovementsAfter n)
 IsAfter report.Trail text l = (n : ℕ) × IsNumber 32 text n × (l ≡ listing.TrailAfter n)
+IsAfter report.Sent text l = (n : ℕ) × IsNumber 32 text n × (l ≡ listing.SentAfter n)
 IsAfter _ text l = ⊥
 
 -- the last moves, or the last lines of the trail

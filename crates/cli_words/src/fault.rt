@@ -55,11 +55,13 @@ const NUMBER: &str =
 const CHECK_DIGIT: &str = "wrong check digit, expected the seven digits before it modulo 7";
 
 const REPORT_NAME: &str =
-    "expected stock, shed, flights, expected, irregularities, movements, trail or manifest";
+    "expected stock, shed, flights, expected, irregularities, movements, trail, sent, station or \
+    manifest";
 
 const PART: &str =
-    "only flights and expected take --open, only stock takes --agent, only movements and trail \
-    take --awb, --after or --last, only manifest takes FLIGHT; a report takes one of them";
+    "only flights and expected take --open, only stock takes --agent, only movements, trail and \
+    sent take --awb or --after, only movements and trail --last, only manifest takes FLIGHT; a \
+    report takes one of them";
 
 /// The options and commands that exclude `--at`.
 const BESIDE: &str =

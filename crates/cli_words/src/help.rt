@@ -154,6 +154,7 @@ Examples:
   cargo_desk --db fra.db report movements --awb 020-12345675
   cargo_desk --db fra.db report movements --after 120 --json
   cargo_desk --db fra.db report trail --last 20
+  cargo_desk --db fra.db report sent --awb 020-12345675
   cargo_desk --db fra.db report manifest LH400/2026-01-12";
 
 pub(crate) const OPEN: &str =
@@ -161,9 +162,9 @@ pub(crate) const OPEN: &str =
 
 pub(crate) const AGENT: &str = "stock: the numbers that this agent has";
 
-pub(crate) const OF_AWB: &str = "movements, trail: the rows of this waybill";
+pub(crate) const OF_AWB: &str = "movements, trail, sent: the rows of this waybill";
 
-pub(crate) const AFTER: &str = "movements, trail: the rows after number N";
+pub(crate) const AFTER: &str = "movements, trail, sent: the rows after number N";
 
 pub(crate) const MESSAGES_AFTER: &str = "The messages after number N";
 
@@ -172,7 +173,7 @@ pub(crate) const LAST: &str = "movements, trail: the last N rows";
 pub(crate) const FLIGHT: &str = "manifest: the flight and its day, such as LH400/2026-01-12";
 
 pub(crate) const REPORT_NAMES: &str =
-    "stock, shed, flights, expected, irregularities, movements, trail or manifest";
+    "stock, shed, flights, expected, irregularities, movements, trail, sent, station or manifest";
 
 pub(crate) const AWB: &str = "A waybill number with its check digit, such as 020-12345675";
 

@@ -48,6 +48,7 @@ fn waybill_part<'a>(report: Report, name: &'a str, word: &'a str) -> Result<List
     match report {
         Report::Movements => Ok(Listing::Movements(number)),
         Report::Trail => Ok(Listing::Trail(number)),
+        Report::Sent => Ok(Listing::Sent(number)),
         _ => Err(BadValue::Part(name)),
     }
 }
@@ -62,6 +63,7 @@ fn later_part<'a>(report: Report, name: &'a str, word: &'a str) -> Result<Listin
     match report {
         Report::Movements => Ok(Listing::MovementsAfter(number)),
         Report::Trail => Ok(Listing::TrailAfter(number)),
+        Report::Sent => Ok(Listing::SentAfter(number)),
         _ => Err(BadValue::Part(name)),
     }
 }

@@ -1,21 +1,17 @@
 -- What an input leaves that a service was asked for.
-use Rattle.std.proofs.Common.{◌≡◌, ◌∙◌, sym, refl, ap, subst, inl, inr, ℕ, Bool, List, [], ◌∷◌, ◌++◌, Option, None, Result, Ok, Err, string_bytes}
+use Rattle.std.proofs.Common.{◌≡◌, ◌∙◌, sym, refl, ap, subst, inl, inr, ℕ, List, [], ◌∷◌, ◌++◌, Option, Result, Ok, Err, string_bytes}
 use Rattle.std.proofs.lemmas.List.{append-nil}
 use Rattle.station_core.specs.Given.{Given}
 use Rattle.station_core.specs.declared.input.Input.{Input}
 use Rattle.stock_list.specs.declared.answer.RunFault.{RunFault}
 use Rattle.stock_list.specs.declared.answer.RunFault.TheVariants as fault
-use Rattle.cli_run.specs.declared.asked.Asked.{Asked}
 use Rattle.cli_run.specs.declared.asked.Asked.TheVariants as asked
 use Rattle.cli_run.specs.Asked.{named}
-use Rattle.cli_run.specs.Came.{HasCome}
 use Rattle.cli_run.specs.Ended.{HasToldPart}
 use Rattle.cli_run.specs.Explained.{reason_head, HasToldWhy}
-use Rattle.cli_run.specs.InTurn.{Come}
+use Rattle.stock_list.specs.Come.{Come}
 use Rattle.desk_client.specs.Again.{Talk, IsAnswered}
-use Rattle.desk_client.specs.Heard.{is_late, HasAnswered, HasAnsweredInput, HasHeard, HasUnderstoodLine}
-use Rattle.desk_client.specs.Ran.{HasRun}
-use Rattle.desk_client.specs.Request.{most_answer}
+use Rattle.desk_client.specs.Heard.{is_late, HasAnsweredInput, HasHeard, HasUnderstoodLine}
 use Rattle.desk_client.specs.declared.ask.Answer.{Answer}
 use Rattle.desk_client.specs.declared.line.Heard.{Heard}
 
@@ -57,12 +53,3 @@ told taken number input request most old new heard line text is sent line_is tex
   },
   refl,
 )
-
--- a command whose input came
-pub has_run : {E : Type 0} (IsAsked : List ℕ → Asked → Type 0) (request : List ℕ → List ℕ) (taken : E → Given) (read_old read_new : Given) (old new : Come Talk E)
-    (text bytes : List ℕ) (asks : Asked) (r : Result Bool RunFault) → text ≡ bytes → HasCome read_old read_new bytes → IsAsked text asks
-    → HasAnswered taken None asks (request text) most_answer old new r → HasRun IsAsked request taken read_old read_new old new r
-has_run IsAsked request taken read_old read_new old new text bytes asks (Ok good) same come is answered =
-    (bytes, come, (asks, subst (λ (b : List ℕ). IsAsked b asks) same is, subst (λ (b : List ℕ). HasAnswered taken None asks (request b) most_answer old new (Ok good)) same answered))
-has_run IsAsked request taken read_old read_new old new text bytes asks (Err e) same come is answered =
-    inr (bytes, come, (asks, subst (λ (b : List ℕ). IsAsked b asks) same is, subst (λ (b : List ℕ). HasAnswered taken None asks (request b) most_answer old new (Err e)) same answered))

@@ -18,4 +18,3 @@ pub mod RowsAsked
 pub mod Tails
 pub mod Telling
 pub mod Trying
-pub mod Unread

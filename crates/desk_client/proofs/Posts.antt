@@ -8,7 +8,7 @@ use Rattle.station_core.specs.Given.{Given}
 use Rattle.stock_list.specs.declared.answer.RunFault.{RunFault}
 use Rattle.cli_run.specs.declared.asked.Asked.{Asked}
 use Rattle.cli_run.specs.ActLine.{IsActAsked, IsFrame, IsWritten}
-use Rattle.cli_run.specs.InTurn.{Come}
+use Rattle.stock_list.specs.Come.{Come}
 use Rattle.desk_client.specs.Again.{Talk}
 use Rattle.desk_client.specs.Heard.{HasAnswered}
 use Rattle.desk_client.specs.Posted.{HasHeardValue, IsPosted}

@@ -305,6 +305,8 @@ report_line report.Irregularities = refl
 report_line report.Movements = refl
 report_line report.Trail = refl
 report_line report.Pending = refl
+report_line report.Sent = refl
+report_line report.Station = refl
 
 report_is_path : (name : Report) → IsPath (report_path name)
 report_is_path report.Stock = refl
@@ -315,6 +317,8 @@ report_is_path report.Irregularities = refl
 report_is_path report.Movements = refl
 report_is_path report.Trail = refl
 report_is_path report.Pending = refl
+report_is_path report.Sent = refl
+report_is_path report.Station = refl
 
 report_short : (name : Report) → length (report_path name) ≤ 100
 report_short report.Stock = omega arith
@@ -325,6 +329,8 @@ report_short report.Irregularities = omega arith
 report_short report.Movements = omega arith
 report_short report.Trail = omega arith
 report_short report.Pending = omega arith
+report_short report.Sent = omega arith
+report_short report.Station = omega arith
 
 pub report_read : ((path : List ℕ) (place : Place) → IsPath path → (place_of path ≡ Some place) ↔ LeadsTo path place)
     → (name : Report) → IsRead (get_request (report_path name) ++ []) (looks_up (got_report (as_text name))) None []

@@ -36,9 +36,9 @@ use Rattle.reports.specs.declared.report.Report.{Report}
 use Rattle.reports.specs.declared.report.Report.TheVariants as report
 use Rattle.http_desk.specs.Digits.{is_number, number_told}
 use Rattle.http_desk.specs.Paths.{report_path, is_path_byte, IsPath, LeadsTo, LeadsToPlace}
-use Rattle.http_desk.specs.Printouts.{first_part, later_part, is_json, row_number, movement_rows, line_rows, message_rows, agent_rows, waybill_rows, flight_rows, rows_at, in_form, printout_at}
+use Rattle.http_desk.specs.Printouts.{first_part, later_part, is_json, row_number, movement_rows, line_rows, message_rows, sent_rows, agent_rows, waybill_rows, flight_rows, rows_at, in_form, printout_at}
 use Rattle.http_desk.specs.Request.{looks_up}
-use Rattle.http_desk.specs.Routes.{Place, posts, gets, posted_command, posted_telegram, posted_look, got_waybill, got_holder, got_report, place_of}
+use Rattle.http_desk.specs.Routes.{Place, posts, gets, posted_command, posted_check, posted_telegram, posted_look, got_waybill, got_holder, got_report, place_of}
 use Rattle.desk_client.specs.Law.{IsListed}
 use Rattle.desk_client.specs.Read.{IsRead}
 use Rattle.desk_client.specs.Request.{get_request, holder_path, listing_path, rows_path, waybill_path}
@@ -144,13 +144,14 @@ abbrev is_report : List ℕ → Bool
 is_report path =
     bytes_eq path (codes "/v1/reports/stock") || (bytes_eq path (codes "/v1/reports/shed") || (bytes_eq path (codes "/v1/reports/flights")
     || (bytes_eq path (codes "/v1/reports/expected") || (bytes_eq path (codes "/v1/reports/irregularities") || (bytes_eq path (codes "/v1/reports/movements")
-    || (bytes_eq path (codes "/v1/reports/trail") || bytes_eq path (codes "/v1/outbox")))))))
+    || (bytes_eq path (codes "/v1/reports/trail") || (bytes_eq path (codes "/v1/reports/sent") || (bytes_eq path (codes "/v1/reports/station")
+    || bytes_eq path (codes "/v1/outbox")))))))))
 
 abbrev is_page : List ℕ → Bool
 is_page path =
-    bytes_eq (take 8 path) (codes "/v1/act/") || (bytes_eq path (codes "/v1/telegrams") || (bytes_eq path (codes "/v1/read")
+    bytes_eq (take 8 path) (codes "/v1/act/") || (bytes_eq (take 10 path) (codes "/v1/check/") || (bytes_eq path (codes "/v1/telegrams") || (bytes_eq path (codes "/v1/read")
     || ((bytes_eq (take 13 path) (codes "/v1/waybills/") && not (has_slash (drop 13 path)))
-    || ((bytes_eq (take 10 path) (codes "/v1/stock/") && not (has_slash (drop 10 path))) || is_report path))))
+    || ((bytes_eq (take 10 path) (codes "/v1/stock/") && not (has_slash (drop 10 path))) || is_report path)))))
 
 report_is : (r : Report) → is_page (report_path r) ≡ true
 report_is report.Stock = refl
@@ -161,9 +162,12 @@ report_is report.Irregularities = refl
 report_is report.Movements = refl
 report_is report.Trail = refl
 report_is report.Pending = refl
+report_is report.Sent = refl
+report_is report.Station = refl
 
 page_is : (path : List ℕ) (page : Place) → LeadsToPlace path page → is_page path ≡ true
 page_is path (posts (posted_command v)) e = ap is_page e
+page_is path (posts (posted_check v)) e = ap is_page e
 page_is path (posts posted_telegram) e = ap is_page e
 page_is path (posts posted_look) e = ap is_page e
 page_is path (gets (got_waybill name)) (is, e) = ap is_page e ∙ ap (λ (s : Bool). not s || false) is.1
@@ -449,6 +453,8 @@ whole_rows leads report.Irregularities = got_rows leads form.Json (codes "/v1/re
 whole_rows leads report.Movements = got_rows leads form.Json (codes "/v1/reports/movements") (listing.All report.Movements) refl (omega arith) (omega arith) refl refl refl
 whole_rows leads report.Trail = got_rows leads form.Json (codes "/v1/reports/trail") (listing.All report.Trail) refl (omega arith) (omega arith) refl refl refl
 whole_rows leads report.Pending = got_rows leads form.Json (codes "/v1/outbox") (listing.All report.Pending) refl (omega arith) (omega arith) refl refl refl
+whole_rows leads report.Sent = got_rows leads form.Json (codes "/v1/reports/sent") (listing.All report.Sent) refl (omega arith) (omega arith) refl refl refl
+whole_rows leads report.Station = got_rows leads form.Json (codes "/v1/reports/station") (listing.All report.Station) refl (omega arith) (omega arith) refl refl refl
 
 open_flights : IsRowsPath (codes "/v1/reports/open-flights") listing.OpenFlights
 open_flights = record { good = refl; some = omega arith; few = omega arith; rows = refl; text = refl; page = refl; json_page = refl }
@@ -487,4 +493,8 @@ listing_read leads (listing.TrailLast n) f is =
 listing_read leads (listing.PendingAfter n) f is =
     of_path leads f (listing.PendingAfter n) (number_path (codes "/v1/outbox/after/") (listing.PendingAfter n) n is refl (omega arith) (omega arith)
     (ap (option_and_then (message_rows (codes "after"))) (row_again n is)) refl refl)
+listing_read leads (listing.SentAfter n) f is =
+    of_path leads f (listing.SentAfter n) (number_path (codes "/v1/sent/after/") (listing.SentAfter n) n is refl (omega arith) (omega arith)
+    (ap (option_and_then (sent_rows (codes "after"))) (row_again n is)) refl refl)
+listing_read leads (listing.Sent w) f is = of_path leads f (listing.Sent w) (waybill_part w (codes "sen") 116 (listing.Sent w) refl refl (omega arith) refl is)
 listing_read leads (listing.Manifest flight) f is = of_path leads f (listing.Manifest flight) (flight_path flight is.0 is.1)

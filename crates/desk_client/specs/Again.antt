@@ -1,6 +1,7 @@
 -- Questions in several tries.
 use Rattle.std.specs.Prelude.{◌≡◌, ◌⊎◌, ℕ, ◌+◌, Bool, true, false, List, Result, Ok, Err}
 use Rattle.station_core.specs.Given.{Given}
+use Rattle.stock_list.specs.Come.{come, Come}
 use Rattle.desk_client.specs.Asked.{HasAsked}
 use Rattle.desk_client.specs.Count.{one_more}
 use Rattle.desk_client.specs.declared.ask.Answer.{Answer}
@@ -85,3 +86,7 @@ IsAskedUntil until request old new result =
 -- the same, with the answer read to its end
 abbrev pub IsAnswered : ℕ → List ℕ → Talk → Talk → Result Answer AskFault → Type 0
 IsAnswered most request old new result = IsAskedUntil (until.End most) request old new result
+
+-- the state of a call, by the history of its service
+abbrev pub talked : {S E : Type 0} → (S → Talk) → Come S E → Come Talk E
+talked talk c = come (talk c.keeper) c.sent c.errors

@@ -12,7 +12,7 @@ use Rattle.cli_run.specs.declared.asked.Asked.TheVariants as asked
 use Rattle.cli_run.specs.Asked.{named}
 use Rattle.cli_run.specs.Ended.{HasToldPart}
 use Rattle.cli_run.specs.Explained.{reason_head, HasGivenReason, HasToldWhy}
-use Rattle.cli_run.specs.InTurn.{Come}
+use Rattle.stock_list.specs.Come.{Come}
 use Rattle.cli_run.specs.Shut.{IsAnsweredShut}
 use Rattle.desk_client.specs.Again.{Talk, IsAnswered}
 use Rattle.desk_client.specs.Told.{Tells}

@@ -39,5 +39,7 @@ IsListed (listing.Trail w) = IsNumber w
 IsListed (listing.TrailAfter n) = n < 2 ^ 32
 IsListed (listing.TrailLast n) = n < 2 ^ 32
 IsListed (listing.PendingAfter n) = n < 2 ^ 32
+IsListed (listing.SentAfter n) = n < 2 ^ 32
+IsListed (listing.Sent w) = IsNumber w
 IsListed (listing.Manifest f) = IsDesignator f.flight × (day_of (day_line f.day) ≡ Some f.day)
 IsListed _ = ⊤

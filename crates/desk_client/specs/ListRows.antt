@@ -1,5 +1,5 @@
 -- The effect of a stock list's rows.
-use Rattle.std.specs.Prelude.{◌≡◌, ◌⊎◌, ◌+◌, ◌&&◌, ℕ, Bool, true, List, [], ◌∷◌, length, Option, Some, None, Result, Ok, Err, IfSome}
+use Rattle.std.specs.Prelude.{◌≡◌, ◌⊎◌, ℕ, Bool, List, Option, Some, None, Result, Err}
 use Rattle.serde_json.specs.Written.{compact_text}
 use Rattle.agent_stock.specs.declared.stock.Order.{Order}
 use Rattle.desk_commands.specs.Command.{order_verb}
@@ -9,11 +9,10 @@ use Rattle.http_desk.specs.Request.{IsSaid}
 use Rattle.station_core.specs.Given.{Given}
 use Rattle.stock_list.specs.declared.answer.RunFault.{RunFault}
 use Rattle.stock_list.specs.declared.answer.RunFault.TheVariants as fault
-use Rattle.stock_list.specs.Ended.{rows_read, AreFirst, IsReadersFault}
-use Rattle.stock_list.specs.Lines.{bad_line, input_of, stock_rows, Row}
+use Rattle.stock_list.specs.Lines.{bad_line, input_of, Row}
 use Rattle.stock_list.specs.Reasons.{HasToldRow}
 use Rattle.stock_list.specs.Row.{row_asks}
-use Rattle.cli_run.specs.InTurn.{Come}
+use Rattle.stock_list.specs.Come.{Come}
 use Rattle.cli_run.specs.Shut.{HasToldLine}
 use Rattle.desk_client.specs.Again.{Talk}
 use Rattle.desk_client.specs.Heard.{HasAnsweredInput}
@@ -47,25 +46,3 @@ HasAnsweredAsks taken number (Some asked) old new result = HasAnsweredOrder take
 
 abbrev pub HasAnsweredRow : {E : Type 0} → (E → Given) → ℕ → Row → Come Talk E → Come Talk E → Result Bool RunFault → Type 0
 HasAnsweredRow taken number row old new result = HasAnsweredAsks taken number (row_asks row) old new result
-
--- Rows were answered, each from where the one before it ended; the first has this number. They are
--- good if each row is.
-abbrev pub AreAnswered : {C : Type 0} → (ℕ → Row → C → C → Result Bool RunFault → Type 0) → ℕ → List Row → C → C → Bool → Type 0
-AreAnswered {C} Step number [] old new good = (new ≡ old) × (good ≡ true)
-AreAnswered {C} Step number (row ∷ rows) old new good =
-    (mid : C) × ((one rest : Bool) × Step number row old mid (Ok one)
-    × AreAnswered Step (number + 1) rows mid new rest × (good ≡ (one && rest)))
-
--- these rows were answered, and then no further row could be read as the reader failed or memory
--- ran out, or the next one ended the call
-abbrev pub HasEndedAt : {C : Type 0} → (ℕ → Row → C → C → Result Bool RunFault → Type 0) → List Row → Option Row → C → C → RunFault → Type 0
-HasEndedAt Step rows None old new e = IsReadersFault e × ((good : Bool) × AreAnswered Step 1 rows old new good)
-HasEndedAt {C} Step rows (Some row) old new e =
-    (mid : C) × ((good : Bool) × AreAnswered Step 1 rows old mid good × Step (length rows + 1) row mid new (Err e))
-
--- Every row was answered, or those up to a fault. `left` is the list, if it is known.
-abbrev pub HaveRowsBeenAnswered : {C : Type 0} → (ℕ → Row → C → C → Result Bool RunFault → Type 0) → Option (List ℕ) → C → C → Result Bool RunFault → Type 0
-HaveRowsBeenAnswered Step left old new (Ok good) =
-    (rows : List Row) × IfSome left (λ bytes. rows ≡ stock_rows bytes) × AreAnswered Step 1 rows old new good
-HaveRowsBeenAnswered Step left old new (Err e) =
-    (rows : List Row) × ((next : Option Row) × IfSome left (AreFirst (rows_read rows next)) × HasEndedAt Step rows next old new e)

@@ -9,7 +9,7 @@ use Rattle.stock_list.specs.declared.answer.RunFault.{RunFault}
 use Rattle.cli_run.specs.ActLine.{IsActAsked, IsFrame, IsWired, IsWritten}
 use Rattle.cli_run.specs.Acts.{is_blank, HasNotHeard, HasSkipped}
 use Rattle.cli_run.specs.declared.asked.Asked.{Asked}
-use Rattle.cli_run.specs.InTurn.{Come}
+use Rattle.stock_list.specs.Come.{Come}
 use Rattle.desk_client.specs.Again.{Talk}
 use Rattle.desk_client.specs.Heard.{HasAnswered}
 use Rattle.desk_client.specs.Request.{command_request, most_answer, telegram_request}

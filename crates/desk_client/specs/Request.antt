@@ -62,6 +62,8 @@ listing_path (listing.Trail w) = codes "/v1/waybills/" ++ (number_text w ++ code
 listing_path (listing.TrailAfter n) = codes "/v1/trail/after/" ++ decimal n
 listing_path (listing.TrailLast n) = codes "/v1/trail/last/" ++ decimal n
 listing_path (listing.PendingAfter n) = codes "/v1/outbox/after/" ++ decimal n
+listing_path (listing.SentAfter n) = codes "/v1/sent/after/" ++ decimal n
+listing_path (listing.Sent w) = codes "/v1/waybills/" ++ (number_text w ++ codes "/sent")
 listing_path (listing.Manifest f) = codes "/v1/flights/" ++ flight_date_text f
 
 abbrev pub rows_path : Listing → Form → List ℕ

@@ -1,11 +1,11 @@
 //! The command line as a client of a running service: the request of each command, and its output.
 #![tactic(auto)]
 
+mod answering;
 mod ask;
 mod connect;
 mod ended;
 mod front;
-mod inputs;
 mod law;
 mod line;
 mod lines;

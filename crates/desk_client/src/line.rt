@@ -1,7 +1,7 @@
 //! The line of an answer.
-ghost use Rattle.std.specs.Prelude.{◌≡◌};
+ghost use Rattle.std.specs.Prelude.{◌≡◌, Err};
 ghost use Rattle.cli_run.specs.Explained.{reason_head, HasToldWhy};
-ghost use Rattle.cli_run.specs.InTurn.{come};
+ghost use Rattle.stock_list.specs.Come.{come};
 ghost use Rattle.cli_run.specs.declared.asked.Asked.{Asked as AnyAsked};
 ghost use Rattle.desk_client.specs.Heard.{body_of, is_late, service_fault, HasAnswered, HasAnsweredInput, HasHeard, HasUnderstoodLine};
 ghost use Rattle.desk_client.specs.Request.{most_of, request_of};
@@ -61,8 +61,9 @@ fn heard_of(alloc: Global, answer: &Answer) -> Result<Heard, RunFault>
 }
 
 fn hear<S: Ask>(alloc: Global, service: &mut S, question: &Question<'_>) -> Result<Heard, RunFault>
-    ensures { HasHeard (request_of question.now) (most_of question.now) (S.talk service.old)
-        (S.talk service.new) result }
+    ensures answered { HasHeard (request_of question.now) (most_of question.now)
+        (S.talk service.old) (S.talk service.new) result }
+    ensures unread { result ≡ Err RunFault.Read → ⊥ }
 {
     match service.ask(alloc, question) {
         Ok(answer) => heard_of(alloc, &answer),
@@ -110,9 +111,10 @@ pub(crate) fn answer_input<S: Ask, W: ByteOut, E: ByteOut>(
     input: &Input<'_>,
     question: &Question<'_>,
 ) -> Result<bool, RunFault>
-    ensures { HasAnsweredInput E.taken number input.now (request_of question.now)
+    ensures answered { HasAnsweredInput E.taken number input.now (request_of question.now)
         (most_of question.now) (come (S.talk service.old) (W.taken output.old) errors.old)
         (come (S.talk service.new) (W.taken output.new) errors.new) result }
+    ensures unread { result ≡ Err RunFault.Read → ⊥ }
 {
     let heard = hear(alloc, service, question)?;
     let text = heard.text.as_str();
@@ -135,9 +137,10 @@ pub(crate) fn answer_asked<S: Ask, W: ByteOut, E: ByteOut>(
     asked: &Asked<'_>,
     question: &Question<'_>,
 ) -> Result<bool, RunFault>
-    ensures { HasAnswered E.taken number asked.now (request_of question.now) (most_of question.now)
-        (come (S.talk service.old) (W.taken output.old) errors.old)
+    ensures answered { HasAnswered E.taken number asked.now (request_of question.now)
+        (most_of question.now) (come (S.talk service.old) (W.taken output.old) errors.old)
         (come (S.talk service.new) (W.taken output.new) errors.new) result }
+    ensures unread { result ≡ Err RunFault.Read → ⊥ }
 {
     match asked {
         Asked::Input(input) => {

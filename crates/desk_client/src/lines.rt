@@ -1,23 +1,22 @@
 //! The lines of `acts`, each a command or a telegram.
-ghost use Rattle.std.specs.Prelude.{◌≡◌, ◌<◌, Err, IfOk, IfSome, None, OnOk, string_bytes};
+ghost use Rattle.std.specs.Prelude.{◌≡◌, Err, IfOk, IfSome, None, string_bytes};
 ghost use Rattle.desk_commands.specs.Verb.{word};
 ghost use Rattle.serde_json.specs.Data.{Data};
 ghost use Rattle.serde_json.specs.View.{view};
+ghost use Rattle.stock_list.specs.Come.{come};
 ghost use Rattle.cli_run.specs.ActLine.{IsWritten};
-ghost use Rattle.cli_run.specs.InTurn.{come, HaveBeenAnswered};
-ghost use Rattle.desk_client.specs.Posted.{posted_request, HasAnsweredLine, HasHeardValue, IsPosted};
+ghost use Rattle.desk_client.specs.Posted.{posted_request, request_by, HasAnsweredLine, HasHeardValue, IsPosted};
 ghost use Rattle.desk_client.specs.Request.{command_request, most_answer, most_of, request_of};
 
 use crate::ask::Ask;
 use crate::line::answer_asked;
 use crate::question::Question;
-use cli_run::{buffered, frame, is_blank, line_asked, line_fault, line_value, wired};
+use cli_run::{frame, is_blank, line_asked, line_value, wired};
 use desk_commands::Verb;
 use serde_json::Value;
 use station_core::{ByteOut, Key};
 use std::alloc::{AllocError, Global};
-use std::io::{BufRead, Read};
-use stock_list::{RunFault, Watched, told_by};
+use stock_list::RunFault;
 
 /// The content of a line for the service: a body under the verb and the key of a command, or a
 /// telegram.
@@ -70,15 +69,22 @@ fn line_posted(alloc: Global, value: &Option<Value>) -> Result<Posted, AllocErro
     }
 }
 
+/// Returns the question of a command's body under its verb and its key, or of a telegram.
+pub(crate) fn question_by<'a>(head: Option<(Verb, Key)>, text: &'a [u8]) -> Question<'a>
+    ensures request { request_of result ≡ request_by head text.entry.now }
+    ensures most { most_of result ≡ most_answer }
+{
+    match head {
+        Some((verb, key)) => Question::Command(verb, key, text),
+        None => Question::Telegram(text),
+    }
+}
+
 fn question_of<'a>(posted: &'a Posted) -> Question<'a>
     ensures request { request_of result ≡ posted_request posted.entry.now }
     ensures most { most_of result ≡ most_answer }
 {
-    let text = posted.text.as_str().as_bytes();
-    match posted.head {
-        Some((verb, key)) => Question::Command(verb, key, text),
-        None => Question::Telegram(text),
-    }
+    question_by(posted.head, posted.text.as_str().as_bytes())
 }
 
 fn answer_value<S: Ask, W: ByteOut, E: ByteOut>(
@@ -92,9 +98,10 @@ fn answer_value<S: Ask, W: ByteOut, E: ByteOut>(
 ) -> Result<bool, RunFault>
     requires some { IfSome value.now (λ v. IsWritten line.now (view v)) }
     requires none { value.now ≡ None → (d : Data) → ¬ (IsWritten line.now d) }
-    ensures { HasHeardValue E.taken number line.now
+    ensures answered { HasHeardValue E.taken number line.now
         (come (S.talk service.old) (W.taken output.old) errors.old)
         (come (S.talk service.new) (W.taken output.new) errors.new) result }
+    ensures unread { result ≡ Err RunFault.Read → ⊥ }
 {
     let Ok(asked) = line_asked(alloc, value, line) else {
         return Err(RunFault::Memory);
@@ -115,7 +122,7 @@ fn answer_value<S: Ask, W: ByteOut, E: ByteOut>(
 }
 
 /// Answers a line, and writes the reason if it can't be read.
-fn answer_line<S: Ask, W: ByteOut, E: ByteOut>(
+pub(crate) fn answer_line<S: Ask, W: ByteOut, E: ByteOut>(
     alloc: Global,
     service: &mut S,
     output: &mut W,
@@ -123,9 +130,10 @@ fn answer_line<S: Ask, W: ByteOut, E: ByteOut>(
     number: u64,
     line: &[u8],
 ) -> Result<bool, RunFault>
-    ensures { HasAnsweredLine E.taken number line.now
+    ensures answered { HasAnsweredLine E.taken number line.now
         (come (S.talk service.old) (W.taken output.old) errors.old)
         (come (S.talk service.new) (W.taken output.new) errors.new) result }
+    ensures unread { result ≡ Err RunFault.Read → ⊥ }
 {
     if is_blank(line) {
         return Ok(true);
@@ -134,54 +142,4 @@ fn answer_line<S: Ask, W: ByteOut, E: ByteOut>(
         Ok(value) => answer_value(alloc, service, output, errors, number, line, &value),
         Err(_) => Err(RunFault::Memory),
     }
-}
-
-/// Answers the lines of a reader up to its end or an error.
-fn ask_lines<S: Ask, R: BufRead + Drop, W: ByteOut, E: ByteOut>(
-    alloc: Global,
-    service: &mut S,
-    mut reader: R,
-    output: &mut W,
-    errors: &mut E,
-) -> Result<bool, RunFault>
-    ensures { HaveBeenAnswered (HasAnsweredLine E.taken) (R.remaining reader)
-        (come (S.talk service.old) (W.taken output.old) errors.old)
-        (come (S.talk service.new) (W.taken output.new) errors.new) result }
-{
-    let mut good = true;
-    for number in 1..u64::MAX {
-        let mut line = Vec::new(alloc);
-        match reader.read_until(b'\n', &mut line) {
-            Ok(0) => return Ok(good),
-            Ok(_) => {
-                let text = line.as_slice();
-                let accepted = answer_line(alloc, service, output, errors, number, text)?;
-                good &= accepted;
-            }
-            Err(error) => return Err(line_fault(&error)),
-        }
-    }
-    Err(RunFault::Memory)
-}
-
-/// Reads lines, each a command under its key or a telegram as JSON, sends them to the service one
-/// after another, and writes the line of each answer. `Ok` says whether all were accepted.
-pub(crate) fn ask_acts<S: Ask, R: Watched + Read, W: ByteOut, E: ByteOut>(
-    alloc: Global,
-    service: &mut S,
-    reader: &mut R,
-    output: &mut W,
-    errors: &mut E,
-) -> Result<bool, RunFault>
-    ensures answered { HaveBeenAnswered (HasAnsweredLine E.taken) (R.remaining reader.old)
-        (come (S.talk service.old) (W.taken output.old) errors.old)
-        (come (S.talk service.new) (W.taken output.new) errors.new) result }
-    ensures read_cause { result ≡ Err RunFault.Read → 0 < (R.given reader.new).failures }
-    ensures no_failure { OnOk result ((R.given reader.new).failures ≡ 0) }
-{
-    let Ok(lines) = buffered(alloc, &mut *reader) else {
-        return Err(RunFault::Memory);
-    };
-    let ended = ask_lines(alloc, service, lines, output, errors);
-    told_by(ended, reader.has_failed())
 }

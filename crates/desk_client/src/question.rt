@@ -49,6 +49,8 @@ fn report_path(report: Report) -> &'static str
         Report::Movements => "/v1/reports/movements",
         Report::Trail => "/v1/reports/trail",
         Report::Pending => "/v1/outbox",
+        Report::Sent => "/v1/reports/sent",
+        Report::Station => "/v1/reports/station",
     }
 }
 
@@ -70,6 +72,8 @@ fn listing_path(alloc: Global, listing: &Listing) -> Result<String, AllocError>
         Listing::TrailAfter(row) => format!(in alloc; "/v1/trail/after/{row}"),
         Listing::TrailLast(rows) => format!(in alloc; "/v1/trail/last/{rows}"),
         Listing::PendingAfter(row) => format!(in alloc; "/v1/outbox/after/{row}"),
+        Listing::SentAfter(row) => format!(in alloc; "/v1/sent/after/{row}"),
+        Listing::Sent(number) => format!(in alloc; "/v1/waybills/{number}/sent"),
         Listing::Manifest(flight) => format!(in alloc; "/v1/flights/{flight}"),
     }
 }

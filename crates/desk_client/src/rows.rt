@@ -1,23 +1,19 @@
 //! The rows of a stock list.
-ghost use Rattle.std.specs.Prelude.{◌≡◌, ◌<◌, Err, OnOk};
+ghost use Rattle.std.specs.Prelude.{◌≡◌, Err};
 ghost use Rattle.csv.specs.Records.{fields_of};
-ghost use Rattle.cli_run.specs.InTurn.{come};
-ghost use Rattle.desk_client.specs.ListRows.{HasAnsweredOrder, HasAnsweredRow, HaveRowsBeenAnswered};
+ghost use Rattle.stock_list.specs.Come.{come};
+ghost use Rattle.desk_client.specs.ListRows.{HasAnsweredOrder, HasAnsweredRow};
 
 use crate::ask::Ask;
 use crate::line::answer_input;
 use crate::order::{order_body, verb_of};
 use crate::question::Question;
 use agent_stock::Order;
-use csv::{ByteRecord, ReaderBuilder};
+use csv::ByteRecord;
 use desk_commands::Command;
 use station_core::{ByteOut, Input, Key};
 use std::alloc::Global;
-use std::io::Read;
-use stock_list::{
-    LineCount, RowPlace, RunFault, Watched, answer_bad_row, line_by_line, list_fault, read_row,
-    told_by,
-};
+use stock_list::{RowPlace, RunFault, answer_bad_row, read_row};
 
 /// Sends an order to the service under its key, and writes the line of its answer.
 fn answer_order<S: Ask, W: ByteOut, E: ByteOut>(
@@ -29,9 +25,10 @@ fn answer_order<S: Ask, W: ByteOut, E: ByteOut>(
     key: Key,
     order: Order,
 ) -> Result<bool, RunFault>
-    ensures { HasAnsweredOrder E.taken number key order
+    ensures answered { HasAnsweredOrder E.taken number key order
         (come (S.talk service.old) (W.taken output.old) errors.old)
         (come (S.talk service.new) (W.taken output.new) errors.new) result }
+    ensures unread { result ≡ Err RunFault.Read → ⊥ }
 {
     let Ok(body) = order_body(alloc, &order) else {
         return Err(RunFault::Memory);
@@ -54,7 +51,7 @@ fn answer_order<S: Ask, W: ByteOut, E: ByteOut>(
 
 /// Sends a row's order to the service, and writes the line of its answer. A row without an order
 /// isn't sent: the reason follows its line on `errors`.
-fn answer_row<S: Ask, W: ByteOut, E: ByteOut>(
+pub(crate) fn answer_row<S: Ask, W: ByteOut, E: ByteOut>(
     alloc: Global,
     service: &mut S,
     output: &mut W,
@@ -62,9 +59,10 @@ fn answer_row<S: Ask, W: ByteOut, E: ByteOut>(
     place: RowPlace,
     row: &ByteRecord,
 ) -> Result<bool, RunFault>
-    ensures { HasAnsweredRow E.taken place.number (fields_of row.now)
+    ensures answered { HasAnsweredRow E.taken place.number (fields_of row.now)
         (come (S.talk service.old) (W.taken output.old) errors.old)
         (come (S.talk service.new) (W.taken output.new) errors.new) result }
+    ensures unread { result ≡ Err RunFault.Read → ⊥ }
 {
     match read_row(row) {
         Some((key, order)) => {
@@ -72,61 +70,4 @@ fn answer_row<S: Ask, W: ByteOut, E: ByteOut>(
         }
         None => answer_bad_row(alloc, output, errors, place, row),
     }
-}
-
-/// Answers the rows of a reader up to its end or an error.
-fn ask_rows<S: Ask, R: Read + Drop, W: ByteOut, E: ByteOut>(
-    alloc: Global,
-    service: &mut S,
-    reader: R,
-    output: &mut W,
-    errors: &mut E,
-    lines: &LineCount,
-) -> Result<bool, RunFault>
-    ensures { HaveRowsBeenAnswered (HasAnsweredRow E.taken) (R.remaining reader)
-        (come (S.talk service.old) (W.taken output.old) errors.old)
-        (come (S.talk service.new) (W.taken output.new) errors.new) result }
-{
-    let rdr = ReaderBuilder::new()
-        .has_headers(false)
-        .flexible(true)
-        .from_reader(alloc, reader);
-    let mut number: u64 = 0;
-    let mut good = true;
-    for row in rdr.into_byte_records() {
-        number += 1;
-        match row {
-            Ok(row) => {
-                let line = lines.first_line(&row);
-                let place = RowPlace { number, line };
-                let accepted = answer_row(alloc, service, output, errors, place, &row)?;
-                good &= accepted;
-            }
-            Err(e) => return Err(list_fault(e)),
-        }
-    }
-    Ok(good)
-}
-
-/// Sends the rows of a stock list to the service one after another, and writes the line of each
-/// when its answer arrives. `Ok` says whether all were accepted.
-pub(crate) fn ask_stock<S: Ask, R: Watched + Read, W: ByteOut, E: ByteOut>(
-    alloc: Global,
-    service: &mut S,
-    reader: &mut R,
-    output: &mut W,
-    errors: &mut E,
-) -> Result<bool, RunFault>
-    ensures answered { HaveRowsBeenAnswered (HasAnsweredRow E.taken) (R.remaining reader.old)
-        (come (S.talk service.old) (W.taken output.old) errors.old)
-        (come (S.talk service.new) (W.taken output.new) errors.new) result }
-    ensures read_cause { result ≡ Err RunFault.Read → 0 < (R.given reader.new).failures }
-    ensures no_failure { OnOk result ((R.given reader.new).failures ≡ 0) }
-{
-    let count = LineCount::new();
-    let Ok(lines) = line_by_line(alloc, &mut *reader, &count) else {
-        return Err(RunFault::Memory);
-    };
-    let ended = ask_rows(alloc, service, lines, output, errors, &count);
-    told_by(ended, reader.has_failed())
 }

@@ -1,14 +1,12 @@
 //! Running a command of the command line with a service.
-ghost use Rattle.cli_run.specs.InTurn.{come};
+ghost use Rattle.stock_list.specs.Come.{come};
 ghost use Rattle.desk_client.specs.Done.{HasDone};
 
+use crate::answering::ByService;
 use crate::ask::Ask;
-use crate::inputs::{ask_act, ask_takes};
-use crate::lines::ask_acts;
 use crate::looks::{ask_history, ask_number};
 use crate::question::Question;
-use crate::rows::ask_stock;
-use cli_run::Inputs;
+use cli_run::{Inputs, answer_act, answer_acts, answer_list, answer_takes};
 use cli_words::LineCommand;
 use reports::{Listing, Report};
 use station_core::ByteOut;
@@ -36,19 +34,20 @@ pub fn ask_command<S: Ask, I: Inputs + Read, W: ByteOut, E: ByteOut>(
     output: &mut W,
     errors: &mut E,
 ) -> Result<bool, RunFault>
-    ensures { HasDone command.now I.given I.turned E.taken (I.remaining reader.old)
-        (come (S.talk service.old) (W.taken output.old) errors.old, reader.old)
-        (come (S.talk service.new) (W.taken output.new) errors.new, reader.new) result }
+    ensures { HasDone command.now S.talk I.given I.turned E.taken (I.remaining reader.old)
+        (come service.old (W.taken output.old) errors.old, reader.old)
+        (come service.new (W.taken output.new) errors.new, reader.new) result }
 {
+    let way = ByService;
     match command {
-        LineCommand::Stock => ask_stock(alloc, service, reader, output, errors),
+        LineCommand::Stock => answer_list(&way, alloc, service, reader, output, errors),
         LineCommand::Take(paths) => {
-            ask_takes(alloc, service, paths.len(), reader, output, errors)
+            answer_takes(&way, alloc, service, paths.len(), reader, output, errors)
         }
         LineCommand::Act { verb, key } => {
-            ask_act(alloc, service, *verb, *key, reader, output, errors)
+            answer_act(&way, alloc, service, *verb, *key, reader, output, errors)
         }
-        LineCommand::Acts => ask_acts(alloc, service, reader, output, errors),
+        LineCommand::Acts => answer_acts(&way, alloc, service, reader, output, errors),
         LineCommand::Outbox(form) => {
             service.ask_rows(alloc, &Listing::All(Report::Pending), *form, output)
         }

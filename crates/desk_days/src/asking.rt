@@ -1,4 +1,4 @@
-//! Bytes from a keeper: reports, messages written to a writer that fails, and answers over HTTP.
+//! Bytes from a keeper: reports, cut messages, and answers over HTTP.
 use http_desk::serve_one;
 use reports::{Report, ReportCause, write_report};
 use station_core::{ActFault, Counted, Keeper};
@@ -6,7 +6,6 @@ use station_days::Moment;
 use std::alloc::Global;
 use test_kit::Narrow;
 
-/// Returns the text of a report.
 pub fn report_text<K: Keeper>(
     alloc: Global,
     keeper: &mut K,
@@ -22,8 +21,8 @@ pub fn report_text<K: Keeper>(
     }
 }
 
-/// Returns the bytes of the pending report that are written to a writer that fails after `room`
-/// bytes, and the number of bytes in the fault.
+/// Returns the messages as written to a writer that fails after `room` bytes, and the number of
+/// bytes in the fault.
 pub fn cut_pending<K: Keeper>(
     alloc: Global,
     keeper: &mut K,

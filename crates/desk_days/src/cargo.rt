@@ -1,14 +1,11 @@
-//! Cases about a waybill of which some pieces left: sinks that stop, and inputs as one list. Each
-//! case is played on the plain station and on one over tables.
-use crate::desk::{Desk, Kind};
+//! Cases about a waybill, on the plain station and over tables.
+use crate::desk::{Kind, ask_new};
 use crate::waybill::{all_done, at, booking, day, receipt};
-use imp_fields::Airport;
 use station_core::{BookRow, Input, Keeper, Message, act_all};
 use station_days::Moment;
 use std::alloc::Global;
 use test_kit::{Answers, Job, Taken, answers_said, count_said, keyed, shown};
 
-/// Returns the answers to inputs as one list, or `None` if the station fails.
 fn list_told<K: Keeper>(
     alloc: Global,
     station: &mut K,
@@ -21,8 +18,7 @@ fn list_told<K: Keeper>(
     }
 }
 
-/// Returns the answers to a booking, a receipt, the receipt again, and another command under its
-/// key, as one list.
+/// Returns the answers to a list with a repeat and with a key that has another command.
 fn at_once<K: Keeper>(alloc: Global, station: &mut K) -> Option<String> {
     let inputs = [
         (booking()?, at(10, 0)?),
@@ -40,14 +36,12 @@ fn book_rows<K: Keeper>(alloc: Global, station: &mut K, most: usize) -> Option<S
     count_said(alloc, is_given, sink.rows.len())
 }
 
-/// Returns the same for messages.
 fn pending_rows<K: Keeper>(alloc: Global, station: &mut K, most: usize) -> Option<String> {
     let mut sink: Taken<Message> = Taken::new(alloc, most);
     let is_given = station.pending(&mut sink).is_ok();
     count_said(alloc, is_given, sink.rows.len())
 }
 
-/// A case for a new station.
 #[derive(Clone, Copy)]
 struct CargoCase<'a> {
     alloc: Global,
@@ -83,13 +77,6 @@ impl Job for CargoCase<'_> {
     }
 }
 
-/// Runs one case on a new station at FRA.
-fn told(alloc: Global, kind: Kind, case: CargoCase<'_>) -> Option<String> {
-    let mut desk = Desk::new(alloc, kind, Airport::read(b"FRA")?).ok()?;
-    desk.ask(case)
-}
-
-/// The answers to the cases.
 #[derive(Drop)]
 pub struct CargoAnswers {
     pub alloc: Global,
@@ -99,8 +86,8 @@ impl Answers for CargoAnswers {
     fn answer(&mut self, asked: &str, text: &[u8]) -> Option<String> {
         let alloc = self.alloc;
         let case = CargoCase { alloc, asked, text };
-        let plain = told(alloc, Kind::Plain, case)?;
-        let tables = told(alloc, Kind::Tables, case)?;
+        let plain = ask_new(alloc, Kind::Plain, case).ok()??;
+        let tables = ask_new(alloc, Kind::Tables, case).ok()??;
         if plain.as_str() == tables.as_str() {
             Some(plain)
         } else {

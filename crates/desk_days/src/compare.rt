@@ -2,6 +2,7 @@
 use crate::day::Step;
 use crate::desk::Kind;
 use std::alloc::{AllocError, Global};
+use test_kit::shown;
 
 fn without_cr(line: &[u8]) -> &[u8] {
     match line.split_last() {
@@ -10,7 +11,6 @@ fn without_cr(line: &[u8]) -> &[u8] {
     }
 }
 
-/// Returns the next line of a text and the text after it, or `None` at its end.
 fn next_line(text: &[u8]) -> Option<(&[u8], &[u8])> {
     if text.is_empty() {
         return None;
@@ -24,7 +24,6 @@ fn next_line(text: &[u8]) -> Option<(&[u8], &[u8])> {
     }
 }
 
-/// The place of a difference.
 #[derive(Clone, Copy)]
 struct Place<'a> {
     name: &'a str,
@@ -32,11 +31,6 @@ struct Place<'a> {
     kind: Kind,
 }
 
-fn shown(bytes: &[u8]) -> &str {
-    std::str::from_utf8(bytes).unwrap_or("bytes that are no text")
-}
-
-/// Records a difference.
 fn note(
     alloc: Global,
     log: &mut String,

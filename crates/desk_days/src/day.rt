@@ -8,8 +8,7 @@ use station_days::Moment;
 use station_tables::AttachFault;
 use std::alloc::AllocError;
 
-/// The reason why a day can't be played.
-#[derive(Clone, Copy, Debug, PartialEq, Eq)]
+#[derive(Clone, Copy)]
 pub enum DayFault {
     /// A line of the script, counted from 1, is malformed.
     Bad { line: u32, why: &'static str },
@@ -25,22 +24,16 @@ impl From<AllocError> for DayFault {
 }
 
 /// The encoding of a telegram's lines.
-#[derive(Clone, Copy, Debug, PartialEq, Eq)]
+#[derive(Clone, Copy)]
 pub enum Form {
-    /// Each ends in CR and LF.
     CrLf,
-    /// Each ends in LF.
     Lf,
-    /// They are hexadecimal digits, two for each byte.
     Hex,
 }
 
-/// A statement.
-#[derive(Clone, Copy, Debug, PartialEq, Eq)]
+#[derive(Clone, Copy)]
 pub enum Ask {
-    /// A new station.
     Station(Airport),
-    /// A command.
     Act(Verb, Key),
     Take(Form),
     Beginnings,
@@ -50,41 +43,32 @@ pub enum Ask {
     Report(Report),
     /// Write the messages to a writer that fails after this many bytes.
     CutOutbox(usize),
-    /// A request over HTTP.
     Request,
 }
 
-/// A repeated line.
 #[derive(Clone, Copy)]
 pub struct Repeated<'a> {
-    /// The line of the script.
     pub line: u32,
     pub times: u32,
     pub text: &'a str,
 }
 
-/// An expected line of output.
 #[derive(Clone, Copy)]
 pub struct Wanted<'a> {
-    /// The line of the script.
     pub line: u32,
     pub text: &'a str,
 }
 
-/// A statement.
 #[derive(Drop)]
 pub struct Step<'a> {
-    /// The line of the script.
     pub line: u32,
     pub at: Moment,
     pub ask: Ask,
-    /// The body of a command.
     pub body: &'a str,
     pub lines: Vec<Repeated<'a>>,
     pub wanted: Vec<Wanted<'a>>,
 }
 
-/// A day.
 #[derive(Drop)]
 pub struct Day<'a> {
     /// The airport of its first station.
@@ -93,7 +77,6 @@ pub struct Day<'a> {
 }
 
 impl Day<'_> {
-    /// Returns the number of expected lines.
     pub fn told(&self) -> u64 {
         let mut told: u64 = 0;
         for step in &self.steps {

@@ -9,8 +9,7 @@ use station_tables::{AttachFault, Station, attach, create};
 use std::alloc::Global;
 use test_kit::Job;
 
-/// A kind of keeper.
-#[derive(Clone, Copy, Debug, PartialEq, Eq)]
+#[derive(Clone, Copy)]
 pub enum Kind {
     /// Lists in memory.
     Plain,
@@ -18,13 +17,11 @@ pub enum Kind {
     Maps,
     /// The tables of a store in memory.
     Tables,
-    /// The same, but the station is released and its tables are opened again in the middle of the
-    /// day.
+    /// Tables that are opened again in the middle of the day.
     Reopened,
 }
 
 impl Kind {
-    /// Returns the name that is printed with a difference.
     pub fn name(self) -> &'static str {
         match self {
             Kind::Plain => "the plain station",
@@ -35,7 +32,6 @@ impl Kind {
     }
 }
 
-/// A station with its keeper.
 #[derive(Drop)]
 pub enum Desk {
     Plain(PlainStation),
@@ -54,7 +50,7 @@ fn tables(alloc: Global, here: Airport) -> Result<Desk, AttachFault> {
 }
 
 impl Desk {
-    /// Returns a new station. If memory runs out before there are tables, the fault is `Memory`.
+    /// Returns a new station. The fault is `Memory` if memory runs out before there are tables.
     pub fn new(alloc: Global, kind: Kind, here: Airport) -> Result<Desk, AttachFault> {
         match kind {
             Kind::Plain => Ok(Desk::Plain(PlainStation::new(alloc, here))),
@@ -66,7 +62,6 @@ impl Desk {
         }
     }
 
-    /// Opens the tables again, if the station is over tables.
     pub fn opened_again(self, alloc: Global) -> Result<Desk, AttachFault> {
         match self {
             Desk::Plain(station) => Ok(Desk::Plain(station)),
@@ -87,4 +82,13 @@ impl Desk {
             Desk::Tables(station) => job.run(station),
         }
     }
+}
+
+/// Runs a job on a new station at FRA.
+pub fn ask_new<J: Job + Drop>(alloc: Global, kind: Kind, job: J) -> Result<J::Out, AttachFault> {
+    let Some(here) = Airport::read(b"FRA") else {
+        return Err(AttachFault::NoStation);
+    };
+    let mut desk = Desk::new(alloc, kind, here)?;
+    Ok(desk.ask(job))
 }

@@ -1,39 +1,28 @@
-//! Days at a cargo station, as scripts. Each script is played on every keeper of a station's state,
-//! and each line of output is compared with the one in the script.
+//! Days at a cargo station, as scripts of plain text. Each is played on every keeper, and its
+//! output compared with the `=` lines. One keeper has its tables opened again before each
+//! statement, and in a long day before each tenth.
 //!
-//! A script is plain text. Its statements, one a line:
+//! The statements, one a line:
 //!
 //! - `station FRA`: a new, empty station;
 //! - `at 2026-01-12 10:30`: the moment of all that follows;
 //! - `act VERB KEY BODY`: a command, its body one line of JSON;
 //! - `take`, `take lf`, `take hex`: a telegram, from the `|` lines below;
-//! - `beginnings`: each prefix of the bytes of the `|` lines, from empty to all, as a telegram. It
-//!   prints a line for each run of equal answers;
+//! - `beginnings`: each prefix of the bytes of the `|` lines as a telegram. It prints a line for
+//!   each run of equal answers;
 //! - `stock`: the `|` lines below as rows of a stock list: key, verb, prefix, serial, count and
 //!   agent;
-//! - `waybill NUMBER`, `holder NUMBER`: the record of a waybill, and the holder of a number, as
-//!   JSON objects, or `none`;
+//! - `waybill NUMBER`, `holder NUMBER`: a record as a JSON object, or `none`;
 //! - `outbox`, `report NAME`: a report;
 //! - `outbox 20`: the messages as written to a writer that fails after this many bytes, and the
 //!   number of bytes in the fault;
-//! - `request`: an HTTP request, from the `|` lines below, each ended by CR LF. Anything after its
-//!   body isn't read.
+//! - `request`: an HTTP request, from the `|` lines below, each ended by CR LF.
 //!
-//! A line `| TEXT` belongs to the statement above it. `take` sends such lines ended by CR LF, `take
-//! lf` and `beginnings` by LF, and `take hex` sends the bytes of their digits. `|998 TEXT` means
-//! 998 such lines. A line `= TEXT` is an expected line of output; a CR at the end of a printed line
-//! doesn't count. Empty lines and those that begin with `#` are ignored.
+//! `take` ends each `| TEXT` by CR LF, `take lf` and `beginnings` by LF; `take hex` sends the bytes
+//! of its digits. `|998 TEXT` means 998 such lines. A CR at the end of a printed line doesn't
+//! count. Empty lines and those that begin with `#` are ignored.
 //!
-//! One of the keepers has its tables opened again before each statement, and in a long day before
-//! each tenth.
-//!
-//! `run_by_rule` passes each keeper two hundred inputs by a fixed rule, or two thousand orders on
-//! the stock, one by one and as one list: their answers, and all rows of their readers, must be
-//! equal.
-//!
-//! `run_cases` runs a file of cases about sinks that stop and inputs as one list. `run_memory` runs
-//! what may exhaust memory: run it with each allocation failing in turn. `run_first_steps` has the
-//! first lines that a user of the libraries writes.
+//! Run `run_memory` with each allocation failing in turn.
 #![tactic(auto)]
 
 mod asking;
@@ -55,13 +44,14 @@ use cargo::CargoAnswers;
 use day::{Day, DayFault};
 use desk::Kind;
 pub use first_steps::run as run_first_steps;
+use memory::{Trial, is_told, trail_at_last};
 use play::Played;
 pub use rule::Inputs;
 use std::alloc::{AllocError, Global};
 use std::{fs, io};
 use test_kit::{go_through_file, print_told};
 
-/// The scripts, in the order in which they are played: `days/NAME.day`.
+/// The scripts, in the order of their runs: `days/NAME.day`.
 pub const FILES: &[&str] = &[
     "small_desk",
     "stock",
@@ -85,7 +75,6 @@ pub const FILES: &[&str] = &[
     "manifests",
 ];
 
-/// Returns the output of a played day: its differences, or that there are none.
 fn verdict(
     alloc: Global,
     name: &str,
@@ -111,7 +100,6 @@ fn play_on_all(alloc: Global, name: &str, day: &Day<'_>) -> Result<Played, DayFa
     Ok(played)
 }
 
-/// Returns the output of a day that couldn't be played.
 fn fault_text(alloc: Global, name: &str, fault: &DayFault) -> Result<String, AllocError> {
     match fault {
         DayFault::Bad { line, why } => format!(in alloc; "{name}:{line}: {why}\n"),
@@ -122,7 +110,7 @@ fn fault_text(alloc: Global, name: &str, fault: &DayFault) -> Result<String, All
     }
 }
 
-/// Reads and plays a script. Returns whether it went as expected, and the output.
+/// Returns whether a script went as expected, and the output.
 fn play_script(alloc: Global, name: &str, script: &str) -> Result<(bool, String), AllocError> {
     let day = match reading::read_day(alloc, script) {
         Ok(day) => day,
@@ -137,9 +125,8 @@ fn play_script(alloc: Global, name: &str, script: &str) -> Result<(bool, String)
     }
 }
 
-/// Plays a script on each keeper, and prints each line that differs, or how many were as expected.
-/// Returns whether all were. A script that can't be read wasn't. It fails if printing fails or
-/// memory runs out.
+/// Plays a script on each keeper, and prints its verdict. Returns whether each line was as
+/// expected. It fails if printing fails or memory runs out.
 pub fn run_file(rt: &HostRuntime, file: &str) -> Result<bool, io::Error> {
     let name = format!(in rt.alloc(); "{file}.day")?;
     let path = format!(in rt.alloc(); "days/{name}")?;
@@ -161,39 +148,47 @@ fn rule_told(given: Inputs, are_equal: Option<bool>) -> &'static str {
     }
 }
 
-/// Passes each keeper inputs by a rule, and prints the outcome. Returns whether all their answers
-/// and rows are equal. It fails if printing fails or memory runs out.
+/// Passes each keeper inputs by a rule, and prints the verdict. Returns whether all answers and
+/// rows are equal. It fails if printing fails or memory runs out.
 pub fn run_by_rule(rt: &HostRuntime, given: Inputs) -> Result<bool, io::Error> {
     let are_equal = rule::are_equal(rt.alloc(), given);
     println!(rt; "{}: {}", given.name(), rule_told(given, are_equal))?;
     Ok(are_equal == Some(true))
 }
 
-/// Runs the cases of a file in a folder, and prints the failed ones, or the number of cases.
-/// Returns whether all passed. It fails if printing fails or memory runs out.
+/// Runs a file of cases like `go_through_file`.
 pub fn run_cases(rt: &HostRuntime, folder: &str, file: &str) -> Result<bool, io::Error> {
     let mut answers = CargoAnswers { alloc: rt.alloc() };
     go_through_file(rt, folder, file, &mut answers)
 }
 
-/// Reads a trail of two rows, of which the first may be handed out before memory runs out, and
-/// prints the outcome. Returns whether it is as expected.
+/// Prints the outcome of a trail of two rows, and returns whether it is as expected.
 fn run_trail(rt: &HostRuntime) -> Result<bool, io::Error> {
-    let Some(told) = memory::trail_at_last(rt.alloc()) else {
+    let Some(told) = trail_at_last(rt.alloc()) else {
         return Ok(false);
     };
     println!(rt; "memory: a trail of two rows: {told}")?;
     Ok(told.starts_with("told"))
 }
 
-/// Passes stations inputs that may exhaust memory, and prints the outcomes. Returns whether all are
-/// as expected. It fails if printing fails or memory runs out.
+/// Prints the outcomes of stations for which memory may run out, and returns whether all are as
+/// expected. It fails if printing fails or memory runs out.
 pub fn run_memory(rt: &HostRuntime) -> Result<bool, io::Error> {
-    let alloc = rt.alloc();
-    let mut all = print_told(rt, "cargo in memory", memory::is_told_of_cargo(alloc))?;
-    let is_told = memory::is_told_of_plain_station(alloc);
-    all &= print_told(rt, "a station in memory", is_told)?;
-    let is_told = memory::is_told_of_tables(alloc);
-    all &= print_told(rt, "a station over tables", is_told)?;
+    let mut all = true;
+    for (what, kind, trial) in [
+        ("cargo in memory", Kind::Plain, Trial::Cargo),
+        (
+            "a station in memory",
+            Kind::Plain,
+            Trial::InTurn { may_break: false },
+        ),
+        (
+            "a station over tables",
+            Kind::Tables,
+            Trial::InTurn { may_break: true },
+        ),
+    ] {
+        all &= print_told(rt, what, is_told(rt.alloc(), kind, trial))?;
+    }
     Ok(all && run_trail(rt)?)
 }

@@ -1,9 +1,7 @@
-//! Stations for which memory runs out: that is reported, changes nothing, and the input acts when
-//! it is repeated. A station over tables may have to be opened again if memory ran out after its
-//! store was called.
-use crate::desk::{Desk, Kind};
+//! Stations for which memory runs out: that changes nothing, and a repeated input acts. A station
+//! over tables may have to be opened again.
+use crate::desk::{Kind, ask_new};
 use crate::waybill::{all_done, at, book_told, booking, pieces_taken, receipt, trail_told};
-use imp_fields::Airport;
 use station_core::{ActFault, Answer, Input, Keeper, answer_one};
 use station_days::Moment;
 use station_tables::AttachFault;
@@ -11,18 +9,15 @@ use std::alloc::Global;
 use telegrams::read_telegram;
 use test_kit::{Job, is_done, say};
 
-/// The outcome of an input.
-#[derive(Clone, Copy, Debug, PartialEq, Eq)]
+#[derive(Clone, Copy)]
 enum Outcome {
-    /// It was accepted, in a second attempt if memory ran out in the first, which changed nothing.
+    /// It was accepted, perhaps in a second attempt.
     Accepted,
     /// The station must be opened again.
     Broken,
-    /// Anything else.
     Wrong,
 }
 
-/// Passes an input to a station, and again if memory ran out.
 fn give<K: Keeper>(station: &mut K, input: &Input<'_>, at: Moment) -> Outcome {
     let before = pieces_taken(station);
     match answer_one(station, input, at) {
@@ -42,8 +37,7 @@ fn give<K: Keeper>(station: &mut K, input: &Input<'_>, at: Moment) -> Outcome {
     }
 }
 
-/// Returns whether a station hands out its one move, in a second attempt if memory ran out in the
-/// first, after at most `most` rows.
+/// Returns whether a station hands out its one move, perhaps in a second attempt after `most` rows.
 fn is_book_told<K: Keeper>(station: &mut K, most: u64) -> bool {
     match book_told(station) {
         (rows, true) => rows == 1,
@@ -51,22 +45,23 @@ fn is_book_told<K: Keeper>(station: &mut K, most: u64) -> bool {
     }
 }
 
-/// Returns whether this many pieces are received, in a second attempt if memory ran out in the
-/// first.
+/// Returns whether this many pieces are received, perhaps in a second attempt.
 fn has_taken<K: Keeper>(station: &mut K, pieces: u32) -> bool {
     pieces_taken(station) == Some(pieces) || pieces_taken(station) == Some(pieces)
 }
 
-/// Passes a station a booking and a receipt. Returns whether it hands out its one move, and none if
-/// memory runs out.
 fn is_cargo_told<K: Keeper>(station: &mut K) -> Option<bool> {
-    let is_booked = give(station, &booking()?, at(10, 0)?) == Outcome::Accepted;
-    let is_received = give(station, &receipt()?, at(10, 30)?) == Outcome::Accepted;
-    Some(is_booked && is_received && is_book_told(station, 0))
+    let booked = give(station, &booking()?, at(10, 0)?);
+    let received = give(station, &receipt()?, at(10, 30)?);
+    Some(
+        matches!(booked, Outcome::Accepted)
+            && matches!(received, Outcome::Accepted)
+            && is_book_told(station, 0),
+    )
 }
 
-/// Passes a station a booking, a receipt and the receipt again. Returns whether it has the pieces
-/// after each, and hands out its one move, or whether it may break.
+/// Returns whether a station has the pieces after each input and hands out its one move, or may
+/// break.
 fn is_told_in_turn<K: Keeper>(station: &mut K, may_break: bool) -> Option<bool> {
     let steps = [
         (booking()?, at(10, 0)?, 0),
@@ -86,11 +81,10 @@ fn is_told_in_turn<K: Keeper>(station: &mut K, may_break: bool) -> Option<bool> 
     Some(is_book_told(station, 1))
 }
 
-/// A status message of two lines about the waybill.
 const UPDATE: &[u8] =
     b"FSU/12\r\n020-12345675FRAJFK/T10K100.0\r\nRCS/12JAN1030/FRA/T10\r\nMAN/LH400/12JAN/FRAJFK/T10\r\n";
 
-/// Returns the outcome of reading a trail of two rows, and of a second attempt if that failed.
+/// Returns the outcome of reading a trail of two rows.
 fn two_rows_told<K: Keeper>(alloc: Global, station: &mut K) -> Option<String> {
     let update = Input::Wire(read_telegram(alloc, UPDATE).ok()?);
     all_done(station, &[(booking()?, at(10, 0)?), (update, at(10, 30)?)])?;
@@ -104,17 +98,15 @@ fn two_rows_told<K: Keeper>(alloc: Global, station: &mut K) -> Option<String> {
     format!(in alloc; "told {rows}, then a fault, then told").ok()
 }
 
-/// A trial of a station.
 #[derive(Clone, Copy)]
-enum Trial {
+pub enum Trial {
     /// A booking and a receipt.
     Cargo,
-    /// A booking, a receipt, and the receipt again. With `may_break` the station may break.
+    /// A booking, a receipt, and the receipt again.
     InTurn { may_break: bool },
 }
 
 impl Job for Trial {
-    /// True if the outcome is as expected.
     type Out = Option<bool>;
 
     fn run<K: Keeper>(self, keeper: &mut K) -> Option<bool> {
@@ -125,34 +117,15 @@ impl Job for Trial {
     }
 }
 
-/// Returns whether a trial on a new station at FRA has the expected outcome. If memory runs out
-/// before there is a station, that must be reported.
-fn is_told(alloc: Global, kind: Kind, trial: Trial) -> bool {
-    let Some(here) = Airport::read(b"FRA") else {
-        return false;
-    };
-    match Desk::new(alloc, kind, here) {
-        Ok(mut desk) => desk.ask(trial) == Some(true),
+/// Returns the outcome of a trial on a new station. Without a station, the fault has to be that of
+/// memory.
+pub fn is_told(alloc: Global, kind: Kind, trial: Trial) -> bool {
+    match ask_new(alloc, kind, trial) {
+        Ok(is_told) => is_told == Some(true),
         Err(fault) => matches!(fault, AttachFault::Memory | AttachFault::Store),
     }
 }
 
-/// Returns whether the plain station reports that memory ran out for a booking and a receipt.
-pub fn is_told_of_cargo(alloc: Global) -> bool {
-    is_told(alloc, Kind::Plain, Trial::Cargo)
-}
-
-/// Returns whether the plain station reports that memory ran out, and goes on.
-pub fn is_told_of_plain_station(alloc: Global) -> bool {
-    is_told(alloc, Kind::Plain, Trial::InTurn { may_break: false })
-}
-
-/// Returns the same for a station over tables, which may break.
-pub fn is_told_of_tables(alloc: Global) -> bool {
-    is_told(alloc, Kind::Tables, Trial::InTurn { may_break: true })
-}
-
-/// A trail of two rows.
 #[derive(Drop)]
 struct TwoRows {
     alloc: Global,
@@ -166,16 +139,11 @@ impl Job for TwoRows {
     }
 }
 
-/// Returns the outcome of a trail of two rows over tables.
-fn try_trail(alloc: Global) -> Option<String> {
-    let mut desk = Desk::new(alloc, Kind::Tables, Airport::read(b"FRA")?).ok()?;
-    desk.ask(TwoRows { alloc })
-}
-
-/// Returns the same, in a second attempt if memory ran out before the trail was read.
+/// Returns the outcome of a trail of two rows over tables, in a second attempt if memory ran out
+/// before it.
 pub fn trail_at_last(alloc: Global) -> Option<String> {
-    match try_trail(alloc) {
-        Some(told) => Some(told),
-        None => try_trail(alloc),
+    match ask_new(alloc, Kind::Tables, TwoRows { alloc }) {
+        Ok(Some(told)) => Some(told),
+        _ => ask_new(alloc, Kind::Tables, TwoRows { alloc }).ok()?,
     }
 }

@@ -1,8 +1,7 @@
-//! Records of numbers as JSON objects. Their members are in the order of their names.
+//! Records of numbers as JSON objects, with their members in the order of their names.
 use agent_stock::Holder;
 use awb_number::Awb;
 use desk_commands::day_text;
-use imp_fields::{Airport, Goods};
 use serde_json::Value;
 use shipment_machine::{Amount, Declared};
 use station_core::Waybill;
@@ -17,7 +16,6 @@ fn holder_word(holder: &Holder) -> &'static str {
     }
 }
 
-/// Returns the object with the holder of a number.
 pub fn holder_object(alloc: Global, awb: &Awb, holder: &Holder) -> Result<String, AllocError> {
     let word = holder_word(holder);
     let name = match holder {
@@ -32,7 +30,6 @@ fn pair(alloc: Global, amount: &Amount) -> Result<String, AllocError> {
     format!(in alloc; "[{pieces},{tenths}]")
 }
 
-/// Returns an ASCII text as a JSON string.
 fn quoted(alloc: Global, text: &[u8]) -> Result<String, AllocError> {
     match std::str::from_utf8(text) {
         Ok(text) => Value::String(String::from_str(alloc, text)?).to_string(alloc),
@@ -40,15 +37,6 @@ fn quoted(alloc: Global, text: &[u8]) -> Result<String, AllocError> {
     }
 }
 
-fn letters(alloc: Global, airport: &Airport) -> Result<String, AllocError> {
-    quoted(alloc, &airport.letters())
-}
-
-fn goods(alloc: Global, goods: &Goods) -> Result<String, AllocError> {
-    quoted(alloc, goods.as_bytes())
-}
-
-/// Returns the day of the declaration, or an empty text.
 fn since(alloc: Global, declared: &Declared) -> Result<String, AllocError> {
     match declared.since {
         Some(day) => quoted(alloc, &day_text(day)),
@@ -59,7 +47,7 @@ fn since(alloc: Global, declared: &Declared) -> Result<String, AllocError> {
 /// Returns the members from `notified` to `since`.
 fn route(alloc: Global, declared: &Declared) -> Result<String, AllocError> {
     let notified = declared.notified;
-    let origin = letters(alloc, &declared.origin)?;
+    let origin = quoted(alloc, &declared.origin.letters())?;
     let pieces = declared.pieces.number();
     let since = since(alloc, declared)?;
     format!(in alloc;
@@ -71,16 +59,15 @@ fn route(alloc: Global, declared: &Declared) -> Result<String, AllocError> {
 fn left(alloc: Global, waybill: &Waybill) -> Result<String, AllocError> {
     let delivered = pair(alloc, &waybill.delivered)?;
     let departed = pair(alloc, &waybill.departed)?;
-    let destination = letters(alloc, &waybill.declared.destination)?;
+    let destination = quoted(alloc, &waybill.declared.destination.letters())?;
     let found = pair(alloc, &waybill.found)?;
-    let goods = goods(alloc, &waybill.declared.goods)?;
+    let goods = quoted(alloc, waybill.declared.goods.as_bytes())?;
     let missing = pair(alloc, &waybill.missing)?;
     format!(in alloc;
         "\"delivered\":{delivered},\"departed\":{departed},\"destination\":{destination},\"found\":{found},\"goods\":{goods},\"missing\":{missing}"
     )
 }
 
-/// Returns the object with the record of a waybill.
 pub fn waybill_object(alloc: Global, awb: &Awb, waybill: &Waybill) -> Result<String, AllocError> {
     let left = left(alloc, waybill)?;
     let route = route(alloc, &waybill.declared)?;

@@ -18,19 +18,14 @@ use test_kit::Job;
 /// The number of expected lines above which a day is long.
 const LONG: u64 = 300;
 
-/// The outcome of a day so far.
 #[derive(Drop)]
 pub struct Played {
-    /// The number of lines that differed.
     pub differences: u64,
-    /// Each of them.
     pub log: String,
-    /// The number of times that a station was opened again.
     pub openings: u64,
 }
 
 impl Played {
-    /// Starts before the first statement.
     pub fn new(alloc: Global) -> Played {
         Played {
             differences: 0,
@@ -40,19 +35,12 @@ impl Played {
     }
 }
 
-/// Returns the output for a fault other than a refusal.
-fn fault_word(fault: &ActFault) -> &'static str {
-    match fault {
-        ActFault::Store => "fault store",
-        ActFault::Reopen => "fault reopen",
-        _ => "fault memory",
-    }
-}
-
 fn fault_text(alloc: Global, fault: &ActFault) -> Result<String, AllocError> {
     match fault {
         ActFault::Refused(refusal) => refusal_text(alloc, refusal),
-        _ => String::from_str(alloc, fault_word(fault)),
+        ActFault::Store => String::from_str(alloc, "fault store"),
+        ActFault::Reopen => String::from_str(alloc, "fault reopen"),
+        _ => String::from_str(alloc, "fault memory"),
     }
 }
 
@@ -106,7 +94,6 @@ fn take<K: Keeper>(
     }
 }
 
-/// Appends the line of a run of prefixes.
 fn put_run(
     alloc: Global,
     out: &mut Vec<u8>,
@@ -118,7 +105,6 @@ fn put_run(
     out.extend_from_slice(line.as_bytes())
 }
 
-/// Runs each prefix of some bytes as a telegram.
 fn take_beginnings<K: Keeper>(
     alloc: Global,
     keeper: &mut K,
@@ -139,7 +125,7 @@ fn take_beginnings<K: Keeper>(
     put_run(alloc, out, from, bytes.len(), before.as_str())
 }
 
-/// Returns the key of a stock row and the text of its command, if the row has six fields and a key.
+/// Returns the key of a stock row of six fields and the text of its command.
 fn row_text(alloc: Global, row: &str) -> Result<Option<(Key, String)>, AllocError> {
     if row.split(',').count() != 6 {
         return Ok(None);
@@ -165,7 +151,6 @@ fn row_text(alloc: Global, row: &str) -> Result<Option<(Key, String)>, AllocErro
     Ok(Some((key, text)))
 }
 
-/// Runs a stock row, counted from 1.
 fn act_row<K: Keeper>(
     alloc: Global,
     keeper: &mut K,
@@ -200,7 +185,6 @@ fn act_rows<K: Keeper>(
     Ok(())
 }
 
-/// Returns the holder of a number.
 pub fn holder_text<K: Keeper>(
     alloc: Global,
     keeper: &mut K,
@@ -213,7 +197,6 @@ pub fn holder_text<K: Keeper>(
     }
 }
 
-/// Returns the record of a waybill.
 pub fn waybill_text<K: Keeper>(
     alloc: Global,
     keeper: &mut K,
@@ -226,7 +209,6 @@ pub fn waybill_text<K: Keeper>(
     }
 }
 
-/// Appends a line.
 pub fn put_text(out: &mut Vec<u8>, text: &str) -> Result<(), AllocError> {
     out.extend_from_slice(text.as_bytes())?;
     out.extend_from_slice(b"\n")
@@ -245,8 +227,8 @@ fn answered<K: Keeper>(
     }
 }
 
-/// Returns the messages as written to a writer that fails after `room` bytes, and a line with the
-/// number of bytes in the fault.
+/// Returns the messages as written to a writer that fails after `room` bytes, and a line about the
+/// fault.
 fn cut_outbox<K: Keeper>(
     alloc: Global,
     keeper: &mut K,
@@ -292,7 +274,6 @@ fn printed<K: Keeper>(alloc: Global, keeper: &mut K, step: &Step<'_>) -> Result<
     Ok(out)
 }
 
-/// The output of a keeper at a statement.
 #[derive(Drop)]
 struct Printing<'a> {
     alloc: Global,
@@ -307,7 +288,6 @@ impl Job for Printing<'_> {
     }
 }
 
-/// Returns a new station for a statement on this line.
 fn new_desk(alloc: Global, kind: Kind, here: Airport, line: u32) -> Result<Desk, DayFault> {
     match Desk::new(alloc, kind, here) {
         Ok(desk) => Ok(desk),
@@ -318,13 +298,11 @@ fn new_desk(alloc: Global, kind: Kind, here: Airport, line: u32) -> Result<Desk,
     }
 }
 
-/// Returns whether the station is opened again before a statement, counted from 0. In a long day
-/// that is each tenth one, since an opening reads the whole station.
+/// Returns whether the station is opened again before a statement: in a long day before each tenth.
 fn is_opened_again(kind: Kind, day_is_long: bool, statement: usize) -> bool {
-    kind == Kind::Reopened && (!day_is_long || statement % 10 == 9)
+    matches!(kind, Kind::Reopened) && (!day_is_long || statement % 10 == 9)
 }
 
-/// Opens the station again for a statement.
 fn opened_again(
     alloc: Global,
     desk: Desk,

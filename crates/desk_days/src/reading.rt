@@ -1,11 +1,11 @@
 //! Scripts, line by line.
 use crate::day::{Ask, Day, DayFault, Repeated, Step, Wanted};
-use crate::statement::{Statement, body, first_word, read_statement};
+use crate::statement::{Statement, read_statement};
 use imp_fields::Airport;
 use station_days::Moment;
 use std::alloc::Global;
+use test_kit::{body, first_word};
 
-/// The part of a script read so far.
 #[derive(Drop)]
 struct Script<'a> {
     alloc: Global,
@@ -18,8 +18,7 @@ fn bad<T>(line: u32, why: &'static str) -> Result<T, DayFault> {
     Err(DayFault::Bad { line, why })
 }
 
-/// Reads the line after a `|`: a space and the line, or a number of repetitions, a space and the
-/// line.
+/// Reads the line after a `|`, and the number of its repetitions.
 fn repeated(line: u32, rest: &str) -> Option<Repeated<'_>> {
     let (times, text) = first_word(rest);
     let times = if times.is_empty() {
@@ -30,7 +29,6 @@ fn repeated(line: u32, rest: &str) -> Option<Repeated<'_>> {
     Some(Repeated { line, times, text })
 }
 
-/// Returns the text after a mark and a space.
 fn behind(rest: &str) -> Option<&str> {
     if rest.is_empty() {
         return Some(rest);
@@ -38,7 +36,6 @@ fn behind(rest: &str) -> Option<&str> {
     rest.strip_prefix(' ')
 }
 
-/// Returns whether a statement may have lines below it.
 fn has_lines(ask: Ask) -> bool {
     matches!(
         ask,
@@ -47,7 +44,6 @@ fn has_lines(ask: Ask) -> bool {
 }
 
 impl<'a> Script<'a> {
-    /// Returns the statement to which a line belongs.
     fn above(&mut self, line: u32) -> Result<&mut Step<'a>, DayFault> {
         match self.steps.last_mut() {
             Some(step) => Ok(step),
@@ -58,7 +54,6 @@ impl<'a> Script<'a> {
         }
     }
 
-    /// Adds a line of a telegram, of a stock list or of a request.
     fn add_line(&mut self, line: u32, rest: &'a str) -> Result<(), DayFault> {
         let Some(repeated) = repeated(line, rest) else {
             return bad(line, "no line stands behind the bar");
@@ -84,7 +79,6 @@ impl<'a> Script<'a> {
         Ok(())
     }
 
-    /// Begins with a station, the first statement.
     fn begin(&mut self, line: u32, ask: Ask) -> Result<(), DayFault> {
         match ask {
             Ask::Station(here) => {
@@ -116,11 +110,6 @@ impl<'a> Script<'a> {
         Ok(())
     }
 
-    fn set_moment(&mut self, at: Moment) {
-        self.at = Some(at);
-    }
-
-    /// Adds a statement, with its body if it is a command.
     fn add_statement(
         &mut self,
         line: u32,
@@ -129,7 +118,7 @@ impl<'a> Script<'a> {
     ) -> Result<(), DayFault> {
         match statement {
             Statement::At(at) => {
-                self.set_moment(at);
+                self.at = Some(at);
                 Ok(())
             }
             Statement::Ask(ask) => self.add_ask(line, ask, body),
@@ -153,7 +142,6 @@ impl<'a> Script<'a> {
     }
 }
 
-/// Reads a script.
 pub fn read_day(alloc: Global, text: &str) -> Result<Day<'_>, DayFault> {
     let mut script = Script {
         alloc,

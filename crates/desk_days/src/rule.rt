@@ -1,5 +1,5 @@
-//! Inputs by a fixed rule: each keeper must return the same answers, one by one and for the list of
-//! all, and hand out the same rows.
+//! Inputs by a fixed rule, for which all keepers return the same answers and rows, one by one and
+//! as a list.
 use crate::asking::report_text;
 use crate::desk::{Desk, Kind};
 use crate::play::{holder_text, put_text, waybill_text};
@@ -15,17 +15,13 @@ use std::alloc::{AllocError, Global};
 use telegrams::read_telegram;
 use test_kit::Job;
 
-/// A set of inputs.
-#[derive(Clone, Copy, Debug, PartialEq, Eq)]
+#[derive(Clone, Copy)]
 pub enum Inputs {
-    /// Two hundred of every kind.
     Mixed,
-    /// Two thousand orders on the stock, whose runs are split and joined again and again.
     Orders,
 }
 
 impl Inputs {
-    /// Returns the name that is printed.
     pub fn name(self) -> &'static str {
         match self {
             Inputs::Mixed => "by-rule",
@@ -34,24 +30,20 @@ impl Inputs {
     }
 }
 
-/// The number of inputs of every kind.
 const MIXED: u32 = 200;
 
 const ORDERS: u32 = 2_000;
 
-/// The first and the last serial of their waybills.
 const FIRST: u32 = 1_234_560;
 
 const LAST: u32 = 1_234_565;
 
-/// A sequence of numbers.
 #[derive(Drop)]
 struct Rule {
     state: u64,
 }
 
 impl Rule {
-    /// Returns the next number from `low` to `high`, inclusive.
     fn between(&mut self, low: u32, high: u32) -> u32 {
         self.state = self
             .state
@@ -67,7 +59,7 @@ impl Rule {
     }
 }
 
-/// An input as a text: a command under a key, or a telegram without one.
+/// A command under a key, or a telegram without one.
 #[derive(Drop)]
 struct Asked {
     key: Option<String>,
@@ -85,7 +77,6 @@ fn order_text(alloc: Global, rule: &mut Rule) -> Option<String> {
     }
 }
 
-/// Returns the text of a command that declares a waybill, out of Frankfurt or into it.
 fn booking_text(alloc: Global, awb: Awb) -> Option<String> {
     if awb.serial() % 2 == 0 {
         format!(in alloc; "book\n{awb}\nFRA\nJFK\n10\n1000\nCARGO").ok()
@@ -94,8 +85,6 @@ fn booking_text(alloc: Global, awb: Awb) -> Option<String> {
     }
 }
 
-/// Returns the text of a command about an outbound flight, or about cargo that leaves by flight or
-/// with another airline.
 fn outbound_text(alloc: Global, rule: &mut Rule, awb: Awb) -> Option<String> {
     let pieces = rule.between(1, 5);
     let day = rule.between(12, 13);
@@ -111,7 +100,6 @@ fn outbound_text(alloc: Global, rule: &mut Rule, awb: Awb) -> Option<String> {
     }
 }
 
-/// Returns the text of a command about inbound cargo.
 fn inbound_text(alloc: Global, rule: &mut Rule, awb: Awb) -> Option<String> {
     let pieces = rule.between(1, 6);
     match rule.between(0, 7) {
@@ -136,8 +124,8 @@ fn telegram_text(alloc: Global, rule: &mut Rule, awb: Awb) -> Option<String> {
     }
 }
 
-/// Returns the n-th input: the first ones declare the waybills, and each eighth one has the key of
-/// an earlier one.
+/// Returns the n-th input. The first ones declare the waybills; each eighth has the key of an
+/// earlier one.
 fn next_asked(alloc: Global, rule: &mut Rule, n: u32) -> Option<Asked> {
     if n <= LAST - FIRST {
         let text = booking_text(alloc, Awb::new(20, FIRST + n)?)?;
@@ -169,7 +157,6 @@ fn copied(alloc: Global, asked: &Asked) -> Option<Asked> {
     Some(Asked { key, text })
 }
 
-/// Returns the text of an order on one of a thousand numbers and those after it.
 fn stock_text(alloc: Global, rule: &mut Rule) -> Option<String> {
     let serial = rule.between(FIRST, FIRST + 999);
     let count = rule.between(1, 3);
@@ -181,7 +168,6 @@ fn stock_text(alloc: Global, rule: &mut Rule) -> Option<String> {
     }
 }
 
-/// Returns orders on the stock as texts, each under its own key.
 fn all_orders(alloc: Global) -> Option<Vec<Asked>> {
     let mut rule = Rule { state: 20_260_112 };
     let mut all = Vec::new(alloc);
@@ -193,7 +179,7 @@ fn all_orders(alloc: Global) -> Option<Vec<Asked>> {
     Some(all)
 }
 
-/// Returns inputs of every kind as texts. Some repeat the one before them.
+/// Returns inputs of every kind. Some repeat the one before them.
 fn all_mixed(alloc: Global) -> Option<Vec<Asked>> {
     let mut rule = Rule { state: 20_260_112 };
     let mut all = Vec::new(alloc);
@@ -220,8 +206,7 @@ fn input_of<'a>(alloc: Global, asked: &'a Asked) -> Option<Input<'a>> {
     }
 }
 
-/// Returns the inputs, each a minute after the one before it, from ten o'clock to midnight and
-/// again.
+/// Returns the inputs, a minute apart from ten o'clock to midnight and again.
 fn inputs_of<'a>(alloc: Global, all: &'a [Asked]) -> Option<Vec<(Input<'a>, Moment)>> {
     let mut inputs = Vec::new(alloc);
     for (n, asked) in all.iter().enumerate() {
@@ -232,7 +217,6 @@ fn inputs_of<'a>(alloc: Global, all: &'a [Asked]) -> Option<Vec<(Input<'a>, Mome
     Some(inputs)
 }
 
-/// Appends the line of an answer. Returns whether it accepts.
 fn answer_told(alloc: Global, answer: &Answer, out: &mut Vec<u8>) -> Option<bool> {
     let text = match answer {
         Answer::Done(reply) => reply_text(alloc, reply).ok()?,
@@ -243,7 +227,6 @@ fn answer_told(alloc: Global, answer: &Answer, out: &mut Vec<u8>) -> Option<bool
     Some(matches!(answer, Answer::Done(_)))
 }
 
-/// An input that a keeper must answer.
 #[derive(Drop)]
 struct Given<'a> {
     alloc: Global,
@@ -254,7 +237,6 @@ struct Given<'a> {
 impl Job for Given<'_> {
     type Out = Option<(Vec<u8>, bool)>;
 
-    /// Returns the line of the answer, and whether it accepts.
     fn run<K: Keeper>(self, keeper: &mut K) -> Option<(Vec<u8>, bool)> {
         let answer = answer_one(keeper, self.input, self.at).ok()?;
         let mut line = Vec::new(self.alloc);
@@ -263,7 +245,6 @@ impl Job for Given<'_> {
     }
 }
 
-/// Inputs that a keeper must answer as one list.
 #[derive(Drop)]
 struct List<'a> {
     alloc: Global,
@@ -282,7 +263,6 @@ impl Job for List<'_> {
     }
 }
 
-/// All rows of a keeper's readers, and its records of each waybill and number.
 #[derive(Drop)]
 struct AllRows {
     alloc: Global,
@@ -296,8 +276,7 @@ impl Job for AllRows {
     }
 }
 
-/// Passes the inputs one by one, and prints the answers. Returns the station, and how many it
-/// accepts.
+/// Returns the station, and how many inputs it accepts.
 fn one_by_one(
     alloc: Global,
     mut desk: Desk,
@@ -307,7 +286,7 @@ fn one_by_one(
 ) -> Option<(Desk, usize)> {
     let mut accepted: usize = 0;
     for (input, at) in inputs {
-        if kind == Kind::Reopened {
+        if matches!(kind, Kind::Reopened) {
             desk = desk.opened_again(alloc).ok()?;
         }
         let (line, accepts) = desk.ask(Given {
@@ -323,14 +302,13 @@ fn one_by_one(
     Some((desk, accepted))
 }
 
-/// Passes the inputs as one list, and prints the answers. Returns the station, and how many it
-/// accepts.
+/// Returns how many inputs the station accepts as one list.
 fn at_once(
     alloc: Global,
-    mut desk: Desk,
+    desk: &mut Desk,
     inputs: &[(Input<'_>, Moment)],
     out: &mut Vec<u8>,
-) -> Option<(Desk, usize)> {
+) -> Option<usize> {
     let answers = desk.ask(List { alloc, inputs })?;
     let mut accepted: usize = 0;
     for answer in &answers {
@@ -338,10 +316,9 @@ fn at_once(
             accepted = accepted.saturating_add(1);
         }
     }
-    Some((desk, accepted))
+    Some(accepted)
 }
 
-/// Returns all rows of the readers, and the records of each waybill and number.
 fn rows_told<K: Keeper>(alloc: Global, keeper: &mut K) -> Result<Vec<u8>, ActFault> {
     let mut out = Vec::new(alloc);
     for report in [
@@ -353,6 +330,8 @@ fn rows_told<K: Keeper>(alloc: Global, keeper: &mut K) -> Result<Vec<u8>, ActFau
         Report::Movements,
         Report::Trail,
         Report::Pending,
+        Report::Sent,
+        Report::Station,
     ] {
         let text = report_text(alloc, keeper, report)?;
         if out.extend_from_slice(&text).is_err() {
@@ -367,12 +346,11 @@ fn rows_told<K: Keeper>(alloc: Global, keeper: &mut K) -> Result<Vec<u8>, ActFau
     Ok(out)
 }
 
-/// Returns whether a text is an object, or `none`. Any other is a fault's.
+/// Returns whether a text is an object or `none`, and no fault.
 fn is_told(text: &str) -> bool {
     matches!(text.as_bytes(), [b'{', ..] | b"none")
 }
 
-/// Appends the records of a number. It fails if the keeper fails, or memory runs out.
 fn number_told<K: Keeper>(
     alloc: Global,
     keeper: &mut K,
@@ -391,22 +369,24 @@ fn number_told<K: Keeper>(
     put_text(out, holder.as_str())
 }
 
-/// Returns all answers and rows of a kind of keeper, for inputs one by one or as a list, or `None`
-/// if too few of them are accepted or refused.
+/// Returns all answers and rows of a kind of keeper, or `None` if too few inputs are accepted or
+/// refused.
 fn told(
     alloc: Global,
     kind: Kind,
     inputs: &[(Input<'_>, Moment)],
     as_list: bool,
 ) -> Option<Vec<u8>> {
-    let desk = Desk::new(alloc, kind, Airport::read(b"FRA")?).ok()?;
+    let mut desk = Desk::new(alloc, kind, Airport::read(b"FRA")?).ok()?;
     let mut out = Vec::new(alloc);
     let (mut desk, accepted) = if as_list {
-        at_once(alloc, desk, inputs, &mut out)?
+        let accepted = at_once(alloc, &mut desk, inputs, &mut out)?;
+        (desk, accepted)
     } else {
         one_by_one(alloc, desk, kind, inputs, &mut out)?
     };
-    if !is_mixed(inputs.len(), accepted) {
+    let fifth = inputs.len() / 5;
+    if accepted < fifth || inputs.len().saturating_sub(accepted) < fifth {
         return None;
     }
     let rows = desk.ask(AllRows { alloc }).ok()?;
@@ -414,14 +394,8 @@ fn told(
     Some(out)
 }
 
-/// Returns whether at least a fifth of the inputs are accepted, and at least a fifth are refused.
-fn is_mixed(inputs: usize, accepted: usize) -> bool {
-    let fifth = inputs / 5;
-    accepted >= fifth && inputs.saturating_sub(accepted) >= fifth
-}
-
-/// Returns whether all keepers answer these inputs alike, in both ways. If there are few inputs, a
-/// station is opened again before each.
+/// Returns whether all keepers answer alike. If there are few inputs, a station is opened again
+/// before each.
 pub fn are_equal(alloc: Global, given: Inputs) -> Option<bool> {
     let all = match given {
         Inputs::Mixed => all_mixed(alloc)?,
@@ -437,7 +411,7 @@ pub fn are_equal(alloc: Global, given: Inputs) -> Option<bool> {
         (Kind::Tables, true),
         (Kind::Reopened, false),
     ] {
-        if kind == Kind::Reopened && given == Inputs::Orders {
+        if matches!((kind, given), (Kind::Reopened, Inputs::Orders)) {
             continue;
         }
         let other = told(alloc, kind, &inputs, as_list)?;

@@ -23,7 +23,6 @@ fn put_digits(alloc: Global, bytes: &mut Vec<u8>, line: &Repeated<'_>) -> Result
     Ok(())
 }
 
-/// Returns the bytes that are sent.
 pub fn bytes_of(alloc: Global, form: Form, lines: &[Repeated<'_>]) -> Result<Vec<u8>, DayFault> {
     let mut bytes = Vec::new(alloc);
     for line in lines {

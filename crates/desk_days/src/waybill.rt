@@ -5,23 +5,19 @@ use station_days::Moment;
 use std::alloc::Global;
 use test_kit::{RowCount, is_done, keyed};
 
-/// Returns a minute of 2026-01-12.
 pub fn at(hour: u16, minute: u16) -> Option<Moment> {
     Moment::new(20465, (hour % 24) * 60 + minute % 60)
 }
 
-/// Returns the booking of ten pieces of the waybill.
 pub fn booking<'a>() -> Option<Input<'a>> {
     keyed("b1", "book\n020-12345675\nFRA\nJFK\n10\n1000\nCARGO")
 }
 
-/// Returns their receipt.
 pub fn receipt<'a>() -> Option<Input<'a>> {
     keyed("r1", "receive\n020-12345675\n10\n1000\nACME")
 }
 
-/// Returns booking, receipt, a manifest of four of the pieces, and the departure of their flight,
-/// each at its moment.
+/// Returns booking, receipt, a manifest of four pieces, and the departure of their flight.
 pub fn day<'a>(alloc: Global) -> Option<Vec<(Input<'a>, Moment)>> {
     let manifest = keyed("m1", "manifest\n020-12345675\nLH400\n2026-01-12\nJFK\n4")?;
     let departure = keyed("d1", "depart\nLH400\n2026-01-12")?;
@@ -43,7 +39,6 @@ pub fn all_done<K: Keeper>(station: &mut K, inputs: &[(Input<'_>, Moment)]) -> O
     Some(())
 }
 
-/// Returns the received pieces of the waybill, if it is declared.
 pub fn pieces_taken<K: Keeper>(station: &mut K) -> Option<u32> {
     let number = Awb::read(b"020-12345675").ok()?;
     match station.waybill(&number) {
@@ -52,14 +47,13 @@ pub fn pieces_taken<K: Keeper>(station: &mut K) -> Option<u32> {
     }
 }
 
-/// Returns the number of book rows that a station hands out, and whether these are all.
+/// Returns the number of rows that the book hands out, and whether these are all.
 pub fn book_told<K: Keeper>(station: &mut K) -> (u64, bool) {
     let mut sink = RowCount { rows: 0 };
     let is_given = station.book(&mut sink).is_ok();
     (sink.rows, is_given)
 }
 
-/// Returns the same for the trail.
 pub fn trail_told<K: Keeper>(station: &mut K) -> (u64, bool) {
     let mut sink = RowCount { rows: 0 };
     let is_given = station.trail(&mut sink).is_ok();

@@ -1,11 +1,13 @@
 -- What the connections of a service leave of its station.
-use Rattle.std.specs.Prelude.{◌≡◌, ◌≤◌, ℕ, false, List, [], ◌∷◌, length, All, Result, IfOk}
+use Rattle.std.specs.Prelude.{◌≡◌, ◌⊎◌, ◌≤◌, ℕ, false, List, [], ◌∷◌, length, All, Result, IfOk}
 use Rattle.station_days.specs.Date.{LocalMinute}
+use Rattle.station_core.specs.Ends.{SendsLine}
 use Rattle.station_core.specs.Given.{Given, nothing_given}
 use Rattle.station_core.specs.Keeping.{Keeping, KeepsSound, StaysIfBroken}
 use Rattle.station_core.specs.Step.{State}
 use Rattle.http_desk.specs.declared.serve.Served.{Served}
 use Rattle.http_desk.specs.declared.serve.ServeFault.{ServeFault}
+use Rattle.http_desk.specs.Refused.{IsRefusalLine}
 use Rattle.http_desk.specs.StationAfter.{station_after}
 use Rattle.http_desk.specs.Serving.{HasServed}
 
@@ -41,3 +43,7 @@ HaveServed {K} k (ended ∷ before) old new =
 abbrev pub AtMost : {K : Type 0} → Keeping K → ℕ → Type 0 → K → K → Type 0
 AtMost k most is_good old new = (ends : List End) × HaveServed k ends old new
     × (length ends ≤ most) × (is_good → All GoesOn ends)
+
+-- Nothing was written, or the line of a refused body as far as the writer took it.
+abbrev pub HasExplained : Given → Given → Type 0
+HasExplained old new = (new ≡ old) ⊎ ((line : List ℕ) × IsRefusalLine line × SendsLine line old new)

@@ -1,13 +1,14 @@
 //! Connections, which are read side by side and answered one after another.
 ghost use Rattle.std.specs.Prelude.{◌≡◌, ◌≤◌, ⊤, false, Ok, Err, IfOk, IsOk, MatchOption, length, List, All};
-ghost use Rattle.desk_server.specs.Served.{AtMost, End, GoesOn, HasServedOne, HaveServed};
+ghost use Rattle.desk_server.specs.Served.{AtMost, End, GoesOn, HasExplained, HasServedOne, HaveServed};
 
 use crate::connections::Connections;
 use crate::held::{Arrival, Held};
 use crate::paced::Paced;
 use desk_clock::{Zone, moment_now};
-use http_desk::{ServeFault, Served, serve_one};
-use station_core::{Counted, Keeper};
+use http_desk::{ServeFault, Served, refusal_line, serve_one};
+use input_reasons::tell_reason;
+use station_core::{ByteOut, Counted, Keeper};
 use station_days::Moment;
 use std::alloc::Global;
 use std::io;
@@ -73,11 +74,21 @@ fn answer<C: Clock, K: Keeper>(
     )
 }
 
+/// Writes why the body of a request was refused, up to the first write that fails.
+fn explain<E: ByteOut>(alloc: Global, errors: &mut E, held: &Held, served: &Served)
+    ensures { HasExplained (E.taken errors.old) (E.taken errors.new) }
+{
+    if let Ok(Some(line)) = refusal_line(alloc, held.bytes(), served) {
+        tell_reason(errors, Ok(line));
+    }
+}
+
 /// Reads what came of a request, and answers it if it is whole, at the moment that the clock then
 /// shows. A write that fails, or an answer that isn't read in time, ends the connection alone.
-fn serve_held<C: Clock, K: Keeper>(
+fn serve_held<C: Clock, K: Keeper, E: ByteOut>(
     setting: &Setting<'_, C>,
     keeper: &mut K,
+    errors: &mut E,
     held: &mut Held,
     now: Duration,
 ) -> Result<Next, ServerFault>
@@ -93,6 +104,7 @@ fn serve_held<C: Clock, K: Keeper>(
     };
     match answer(setting, keeper, held, at) {
         Ok(served) => {
+            explain(setting.alloc, errors, held, &served);
             let is_open = held.end_answer(now).is_ok() && held.drain(now);
             if served.reopen {
                 return Err(ServerFault::Store);
@@ -106,9 +118,10 @@ fn serve_held<C: Clock, K: Keeper>(
 
 /// Serves the connection at a place, from which something came. Returns whether it needs no more
 /// answer.
-fn serve_place<C: Clock, K: Keeper>(
+fn serve_place<C: Clock, K: Keeper, E: ByteOut>(
     setting: &Setting<'_, C>,
     keeper: &mut K,
+    errors: &mut E,
     connections: &mut Connections<'_>,
     place: usize,
 ) -> Result<bool, ServerFault>
@@ -119,7 +132,7 @@ fn serve_place<C: Clock, K: Keeper>(
     let Some(held) = connections.waiting_at(place, now) else {
         return Ok(false);
     };
-    match serve_held(setting, keeper, held, now)? {
+    match serve_held(setting, keeper, errors, held, now)? {
         Next::Waits => Ok(false),
         Next::Drains => Ok(true),
         Next::Ends => {
@@ -131,9 +144,10 @@ fn serve_place<C: Clock, K: Keeper>(
 
 /// Serves the connections from which something came, and answers at most `most` of them. Returns
 /// the number of answers.
-fn serve_places<C: Clock, K: Keeper>(
+fn serve_places<C: Clock, K: Keeper, E: ByteOut>(
     setting: &Setting<'_, C>,
     keeper: &mut K,
+    errors: &mut E,
     connections: &mut Connections<'_>,
     places: &[usize],
     most: usize,
@@ -147,7 +161,7 @@ fn serve_places<C: Clock, K: Keeper>(
         if answered >= most {
             return Ok(answered);
         }
-        if serve_place(setting, keeper, connections, place)? {
+        if serve_place(setting, keeper, errors, connections, place)? {
             answered += 1;
         }
     }
@@ -168,12 +182,13 @@ fn most_of(count: Option<u32>) -> usize
 /// and each request is answered when it is whole, one at a time, at the moment that the clock then
 /// shows. So a connection that sends slowly, or nothing, holds no other up.
 ///
-/// A connection that was given up counts as one. Returns a [`ServerFault`] if the service can't go
-/// on.
-pub fn serve<N: Net, C: Clock, K: Keeper>(
+/// A connection that was given up counts as one. After an answer of 400, `errors` gets the line of
+/// [`refusal_line`]. Returns a [`ServerFault`] if the service can't go on.
+pub fn serve<N: Net, C: Clock, K: Keeper, E: ByteOut>(
     net: &N,
     setting: &Setting<'_, C>,
     keeper: &mut K,
+    errors: &mut E,
     listener: &TcpListener,
     count: Option<u32>,
 ) -> Result<(), ServerFault>
@@ -190,7 +205,14 @@ pub fn serve<N: Net, C: Clock, K: Keeper>(
             return Ok(());
         }
         let places = connections.wait(setting.clock, most)?;
-        match serve_places(setting, keeper, &mut connections, places.as_slice(), left) {
+        match serve_places(
+            setting,
+            keeper,
+            errors,
+            &mut connections,
+            places.as_slice(),
+            left,
+        ) {
             Ok(answered) => left -= answered,
             Err(fault) => {
                 connections.drain_all(setting.clock);

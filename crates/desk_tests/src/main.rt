@@ -1,14 +1,5 @@
-//! The tests of public calls from data: days, HTTP requests and files of cases. Libraries play
-//! them, each case in the lowest one that can. The words select what is run:
-//!
-//! - `days`, `messages`, `station`, `found`, `lines`, `http`: each file of the folder with that
-//!   name;
-//! - such a name and a file, such as `days/stock`: only that file;
-//! - `by-rule`, `orders-by-rule`: inputs by a fixed rule on each keeper;
-//! - `station-memory`, `found-memory`: runs to be repeated with each allocation failing in turn;
-//! - `service`: the service on a port of this machine;
-//! - `first-steps`: the lines of Rust of the README;
-//! - `bench`: how fast messages are written and read, by hand.
+//! The tests of public calls from data. Libraries play them, each case in the lowest one that can.
+//! The words select the parts (README.md), or one file of a part, such as `days/stock`.
 #![tactic(auto)]
 
 use desk_days::Inputs;
@@ -18,7 +9,7 @@ use std::{env, io};
 /// The files of the folder `station`.
 const STATION_FILES: &[&str] = &["rows", "tables", "counted-ends", "cargo"];
 
-/// Returns the files of a part, in the order in which they run, empty for an unknown part.
+/// Returns the files of a part, in the order of their runs.
 fn files_of(part: &str) -> &'static [&'static str] {
     match part {
         "days" => desk_days::FILES,
@@ -31,7 +22,6 @@ fn files_of(part: &str) -> &'static [&'static str] {
     }
 }
 
-/// Runs a file of the folder `station`. Returns whether it passed.
 fn run_station_file(rt: &HostRuntime, file: &str) -> Result<bool, io::Error> {
     match file {
         "counted-ends" => message_tests::run_file(rt, "station", file),
@@ -40,7 +30,6 @@ fn run_station_file(rt: &HostRuntime, file: &str) -> Result<bool, io::Error> {
     }
 }
 
-/// Runs a file of a part. Returns whether it passed, or `None` for an unknown part.
 fn run_file(rt: &HostRuntime, part: &str, file: &str) -> Result<Option<bool>, io::Error> {
     Ok(Some(match part {
         "days" => desk_days::run_file(rt, file)?,
@@ -53,7 +42,7 @@ fn run_file(rt: &HostRuntime, part: &str, file: &str) -> Result<Option<bool>, io
     }))
 }
 
-/// Runs each file of a part. Returns whether all passed, or `None` for an unknown part.
+/// Returns whether each file of a part passed, or `None` for an unknown part.
 fn run_files(rt: &HostRuntime, part: &str) -> Result<Option<bool>, io::Error> {
     let files = files_of(part);
     let mut all = true;
@@ -63,7 +52,7 @@ fn run_files(rt: &HostRuntime, part: &str) -> Result<Option<bool>, io::Error> {
     Ok(if files.is_empty() { None } else { Some(all) })
 }
 
-/// Runs the part in a word. Returns whether it passed, or `None` for an unknown word.
+/// Returns whether the part in a word passed, or `None` for an unknown word.
 fn run_word(rt: &HostRuntime, word: &str) -> Result<Option<bool>, io::Error> {
     if let Some((part, file)) = word.split_once('/') {
         return run_file(rt, part, file);
@@ -83,8 +72,7 @@ fn run_word(rt: &HostRuntime, word: &str) -> Result<Option<bool>, io::Error> {
     }))
 }
 
-/// Returns exit status 0 if everything passed, 1 if something failed, and 2 for an unknown word or
-/// none.
+/// Returns exit status 0 if everything passed, 1 if something failed, and 2 for wrong words.
 fn main(rt: HostRuntime) -> Result<ExitCode, io::Error> {
     let words: Vec<String> = env::args(&rt)?.collect(rt.alloc())?;
     let mut status = 0;

@@ -12,7 +12,6 @@ use std::alloc::Global;
 use telegrams::read_telegram;
 use test_kit::{Job, answered, answers_said, holder, keyed, noon, say, shown, stock, waybill};
 
-/// The readers of a station compared with those over the day's tables.
 const ASKED: [(&str, &str); 9] = [
     ("waybill", "055-00000114"),
     ("waybill", "020-12345675"),
@@ -29,7 +28,6 @@ const ASKED: [(&str, &str); 9] = [
 #[derive(Drop)]
 pub struct FoundAnswers<S: Fresh> {
     alloc: Global,
-    /// The statements that make and fill the tables.
     day: String,
     station: Option<Station<S>>,
     conn: Option<Connection<S>>,
@@ -80,8 +78,6 @@ impl<S: Fresh> FoundAnswers<S> {
         }
     }
 
-    /// Runs one call on a station and returns its result as text. A word that isn't a call names a
-    /// damage of the day's tables.
     fn ask(&mut self, asked: &str, text: &[u8]) -> Option<String> {
         match asked {
             "act" => {
@@ -98,7 +94,6 @@ impl<S: Fresh> FoundAnswers<S> {
         }
     }
 
-    /// Records the statements of a table.
     fn note(&mut self, text: &str) -> Option<String> {
         let text = statements(self.alloc, text.as_bytes())?;
         self.day.push_str(text.as_str()).ok()?;
@@ -110,7 +105,6 @@ impl<S: Fresh> FoundAnswers<S> {
         database(self.alloc, self.day.as_str())
     }
 
-    /// Returns the day's tables after further statements.
     fn damaged(&self, text: &[u8]) -> Option<Connection<S>> {
         let mut conn = self.day_tables()?;
         let text = statements(self.alloc, text)?;
@@ -130,7 +124,6 @@ impl<S: Fresh> FoundAnswers<S> {
         say(self.alloc, "ok")
     }
 
-    /// Declares a table differently, and keeps its rows.
     fn declare(&mut self, text: &str) -> Option<String> {
         let (table, declared) = text.split_once(' ')?;
         let columns = columns_of(table)?;
@@ -146,7 +139,6 @@ impl<S: Fresh> FoundAnswers<S> {
         say(self.alloc, "ok")
     }
 
-    /// Ends the station, and returns the rows of a query.
     fn query(&mut self, text: &[u8]) -> Option<String> {
         let query = statements(self.alloc, text)?;
         let mut conn = self.connection()?;
@@ -155,7 +147,6 @@ impl<S: Fresh> FoundAnswers<S> {
         said
     }
 
-    /// Ends the station and returns its connection, or the one that was left.
     fn connection(&mut self) -> Option<Connection<S>> {
         match self.station.take() {
             Some(station) => Some(station.release()),
@@ -163,7 +154,6 @@ impl<S: Fresh> FoundAnswers<S> {
         }
     }
 
-    /// Makes a station over a connection.
     fn start(&mut self, conn: Connection<S>) -> Option<String> {
         match create(self.alloc, conn, here()?) {
             Ok(station) => self.put(station),
@@ -171,7 +161,6 @@ impl<S: Fresh> FoundAnswers<S> {
         }
     }
 
-    /// Opens the station that the connection shows.
     fn go_on(&mut self) -> Option<String> {
         let conn = self.connection()?;
         match attach(self.alloc, conn) {
@@ -180,7 +169,6 @@ impl<S: Fresh> FoundAnswers<S> {
         }
     }
 
-    /// Upgrades the tables of the connection to version 2.
     fn migrate_tables(&mut self) -> Option<String> {
         let conn = self.connection()?;
         match migrate(self.alloc, conn) {
@@ -200,7 +188,6 @@ impl<S: Fresh> FoundAnswers<S> {
         said
     }
 
-    /// Returns whether the rows of the station are those of the day's tables.
     fn compare(&mut self) -> Option<String> {
         let mut day = self.day_tables()?;
         let mut conn = self.connection()?;
@@ -220,13 +207,11 @@ impl<S: Fresh> FoundAnswers<S> {
         self.call(Call::Act(input))
     }
 
-    /// Returns the station's answer to a call.
     fn call(&mut self, call: Call<'_>) -> Option<String> {
         let alloc = self.alloc;
         ask(self.station.as_mut()?, Calling { alloc, call })
     }
 
-    /// Returns whether the readers of the station return the same as over the day's tables.
     fn tell_as_day(&mut self) -> Option<String> {
         let Ok(mut day) = attach(self.alloc, self.day_tables()?) else {
             return None;
@@ -247,14 +232,12 @@ pub fn statements(alloc: Global, text: &[u8]) -> Option<String> {
     shown(text).replace(alloc, '"', "'").ok()
 }
 
-/// Returns a database in memory after these statements.
 fn database<S: Fresh>(alloc: Global, statements: &str) -> Option<Connection<S>> {
     let mut conn = S::open(alloc)?;
     conn.execute_batch(statements).ok()?;
     Some(conn)
 }
 
-/// Returns why there is no station, and whether the connection is inside a transaction.
 fn refusal_said<S: Alter>(
     alloc: Global,
     conn: &Connection<S>,
@@ -268,7 +251,6 @@ fn refusal_said<S: Alter>(
     }
 }
 
-/// Returns whether a database is a station's, or why it isn't.
 fn found<S: Alter + Drop>(alloc: Global, conn: Connection<S>) -> Option<String> {
     match attach(alloc, conn) {
         Ok(_) => say(alloc, "ok"),
@@ -276,7 +258,6 @@ fn found<S: Alter + Drop>(alloc: Global, conn: Connection<S>) -> Option<String> 
     }
 }
 
-/// Returns what an opening finds in a database file without a log.
 fn found_in_file(alloc: Global, bytes: &[u8]) -> Option<String> {
     let mut files = FileBytes::new(alloc);
     files.db.extend_from_slice(bytes).ok()?;
@@ -317,7 +298,6 @@ impl Job for Calling<'_> {
     }
 }
 
-/// Returns the answers to commands under keys, as one list at noon. A bar separates their texts.
 fn list_told<K: Keeper>(alloc: Global, station: &mut K, texts: &str) -> Option<String> {
     let mut inputs = Vec::new(alloc);
     for text in texts.split('|') {
@@ -331,7 +311,6 @@ fn list_told<K: Keeper>(alloc: Global, station: &mut K, texts: &str) -> Option<S
     }
 }
 
-/// Returns a reader's record of a number, or the rows that it hands out to a sink of this size.
 fn told<K: Keeper>(alloc: Global, station: &mut K, asked: &str, text: &[u8]) -> Option<String> {
     match asked {
         "waybill" => waybill(alloc, station, text),
@@ -344,7 +323,6 @@ fn told<K: Keeper>(alloc: Global, station: &mut K, asked: &str, text: &[u8]) -> 
     }
 }
 
-/// Returns all that the readers return about the day's waybills and numbers.
 fn all_told<K: Keeper>(alloc: Global, station: &mut K) -> Option<String> {
     let mut said = String::new(alloc);
     for (asked, text) in ASKED {

@@ -8,10 +8,8 @@ use std::alloc::Global;
 
 /// A file in memory that serves a number of calls, and whose bytes can be read.
 trait FailingDisk: Crash + Drop {
-    /// Returns a file with these bytes, or `None` if memory runs out.
     fn holding(alloc: Global, bytes: &[u8], calls: u64) -> Option<Self>;
 
-    /// Returns its bytes after a crash.
     fn crashed(self, alloc: Global) -> Option<Vec<u8>>;
 }
 
@@ -99,7 +97,6 @@ pub struct Visited {
     pub bytes: FileBytes,
 }
 
-/// Returns the bytes of files after a crash.
 fn bytes_of<D: FailingDisk>(alloc: Global, files: Files<D>) -> Option<FileBytes> {
     let Files { log, db } = files;
     Some(FileBytes {
@@ -108,8 +105,6 @@ fn bytes_of<D: FailingDisk>(alloc: Global, files: Files<D>) -> Option<FileBytes>
     })
 }
 
-/// Returns a connection over files with these bytes, or the crash state if they can't be opened. It
-/// is `None` if memory runs out.
 fn open_files<D: FailingDisk>(
     alloc: Global,
     bytes: &FileBytes,
@@ -128,8 +123,6 @@ fn open_files<D: FailingDisk>(
     }
 }
 
-/// Closes a connection. Returns its files, and whether the log was copied into the database file.
-/// If `is_closed` is false, a crash ends it.
 fn ended<D: FailingDisk>(conn: Connection<FileStore<D>>, is_closed: bool) -> (bool, Files<D>) {
     if !is_closed {
         return (false, conn.into_store().close());
@@ -140,8 +133,6 @@ fn ended<D: FailingDisk>(conn: Connection<FileStore<D>>, is_closed: bool) -> (bo
     }
 }
 
-/// Opens files with these bytes, does the work over them, and closes them or lets a crash end it.
-/// Returns the result, and the bytes of the files. It is `None` if memory runs out.
 fn visit_over<D: FailingDisk>(
     alloc: Global,
     bytes: &FileBytes,

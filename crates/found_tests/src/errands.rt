@@ -6,8 +6,6 @@ use station_days::Moment;
 use std::alloc::Global;
 use test_kit::{Job, answer_said, is_done, keyed, noon, say};
 
-/// The commands of a day, each with its key: numbers are taken in, and four of ten received pieces
-/// depart.
 const DAY: [(&str, &str); 5] = [
     ("t1", "take-in\n055\n0000010\n10"),
     ("b1", "book\n020-12345675\nFRA\nJFK\n10\n1000\nCARGO"),
@@ -67,7 +65,6 @@ impl Job for Asked {
     }
 }
 
-/// Returns whether a command is accepted at noon of 12 January 2026.
 fn accepts<K: Keeper>(station: &mut K, key: &str, command: &str) -> bool {
     let (Some(input), Some(noon)) = (keyed(key, command), noon()) else {
         return false;
@@ -75,7 +72,6 @@ fn accepts<K: Keeper>(station: &mut K, key: &str, command: &str) -> bool {
     is_done(station, &input, noon)
 }
 
-/// Returns how many of the day's first commands were accepted, one after another.
 fn act_on_day<K: Keeper>(station: &mut K, wanted: usize) -> usize {
     for (done, (key, text)) in DAY.iter().take(wanted).enumerate() {
         if !accepts(station, key, text) {
@@ -106,7 +102,6 @@ impl Job for Giving<'_> {
     }
 }
 
-/// Books, receives and builds a waybill on flight LH400 of 12 January 2026.
 fn build_up<K: Keeper>(alloc: Global, station: &mut K, awb: Awb) -> Option<()> {
     let steps = [
         format!(in alloc; "book\n{awb}\nFRA\nJFK\n3\n100\nCARGO").ok()?,

@@ -19,7 +19,6 @@ struct Waybills<'a> {
 impl Job for Waybills<'_> {
     type Out = Option<String>;
 
-    /// Returns the station's records of them.
     fn run<K: Keeper>(self, keeper: &mut K) -> Option<String> {
         let mut said = String::new(self.alloc);
         for number in self.numbers {
@@ -31,7 +30,6 @@ impl Job for Waybills<'_> {
     }
 }
 
-/// Returns the rows of another program's table `notes`, if there is one.
 fn notes_said<S: Alter>(alloc: Global, conn: &mut Connection<S>) -> Option<String> {
     let said = rows_of(
         alloc,
@@ -45,7 +43,6 @@ fn notes_said<S: Alter>(alloc: Global, conn: &mut Connection<S>) -> Option<Strin
     format!(in alloc; ", notes {rows}").ok()
 }
 
-/// Returns the rows of a file of version 1, if the version is the fault and it has all its tables.
 fn old_rows_said<S: Alter>(
     alloc: Global,
     conn: &mut Connection<S>,
@@ -74,7 +71,6 @@ pub fn fault_found<S: Alter>(
     format!(in alloc; "{fault}, {count} tables and indexes{notes}{rows}").ok()
 }
 
-/// Returns the records of waybills, all rows of the station's tables, and those of a table `notes`.
 fn rows_found<S: Alter>(
     alloc: Global,
     conn: &mut Connection<S>,
@@ -86,8 +82,7 @@ fn rows_found<S: Alter>(
     Some(said)
 }
 
-/// Opens a connection. Returns the records of waybills and all rows, or why there is no station,
-/// and the connection. The text is `None` if memory runs out.
+/// Opens a connection.
 pub fn found<S: Alter>(
     alloc: Global,
     conn: Connection<S>,

@@ -1,11 +1,5 @@
 //! Databases that are opened as a station's: existing ones, right and damaged, and those of
 //! stations that were stopped; and the calls of stations over tables, and of the tables themselves.
-//!
-//! `run_memory` runs inputs for which memory may run out. Run it with each allocation failing in
-//! turn.
-//!
-//! Everything is generic over stores of tables. Only `run_file` and `run_memory` name the one in
-//! memory, and only `disks` names the one over files that fail.
 #![tactic(auto)]
 
 mod databases;
@@ -63,8 +57,6 @@ impl<S: Fresh> Answers for FileAnswers<'_, S> {
     }
 }
 
-/// Runs each input for which memory may run out, and an upgrade, and prints the outcomes. Returns
-/// whether all are as expected.
 fn run_memory_over<S: Fresh>(rt: &HostRuntime) -> Result<bool, io::Error> {
     let mut all = true;
     for run in Run::ALL {
@@ -77,13 +69,11 @@ fn run_memory_over<S: Fresh>(rt: &HostRuntime) -> Result<bool, io::Error> {
     Ok(all && told != Told::Otherwise)
 }
 
-/// Does the same over tables in memory. It fails if printing fails or memory runs out.
+/// Does the same over tables in memory.
 pub fn run_memory(rt: &HostRuntime) -> Result<bool, io::Error> {
     run_memory_over::<MemStore>(rt)
 }
 
-/// Runs the cases of a file in a folder, and prints the failed ones, or the number of cases.
-/// Returns whether all passed.
 fn run_file_over<S: Fresh>(rt: &HostRuntime, folder: &str, file: &str) -> Result<bool, io::Error> {
     let mut answers: FileAnswers<'_, S> = FileAnswers {
         alloc: rt.alloc(),
@@ -95,7 +85,7 @@ fn run_file_over<S: Fresh>(rt: &HostRuntime, folder: &str, file: &str) -> Result
     go_through_file(rt, folder, file, &mut answers)
 }
 
-/// Does the same over tables in memory. It fails if printing fails or memory runs out.
+/// Does the same over tables in memory.
 pub fn run_file(rt: &HostRuntime, folder: &str, file: &str) -> Result<bool, io::Error> {
     run_file_over::<MemStore>(rt, folder, file)
 }

@@ -2,7 +2,6 @@
 use sqlite::{Alter, Connection, Row};
 use std::alloc::Global;
 
-/// The tables of a station, each with its columns and those of its key.
 const TABLES: [(&str, &str, &str); 14] = [
     ("station", "id, airport, version, confirmed", "id"),
     (
@@ -54,7 +53,6 @@ pub fn columns_of(table: &str) -> Option<&'static str> {
     None
 }
 
-/// Returns a whole number, or a text in brackets.
 fn value_said(alloc: Global, row: &Row, at: usize) -> Option<String> {
     if let Ok(number) = row.get::<i64>(at) {
         return format!(in alloc; "{number}").ok();
@@ -89,7 +87,6 @@ pub fn rows_of<S: Alter>(alloc: Global, conn: &mut Connection<S>, query: &str) -
     Some(said)
 }
 
-/// Returns the rows of a table in the order of their key.
 fn table_said<S: Alter>(
     alloc: Global,
     conn: &mut Connection<S>,

@@ -1,7 +1,4 @@
-//! Inputs for which an allocation fails. Before the first call of the store everything is
-//! unchanged. From then on the store counts as failed, has the state before or after, and repeating
-//! the input gets the same reply. An upgrade that fails for memory leaves the file unchanged, and
-//! one that fails for the store leaves either version.
+//! Inputs for which an allocation fails.
 use crate::errands::build_up_all;
 use crate::fused::Fused;
 use crate::listing::{all_rows, old_rows};
@@ -17,7 +14,6 @@ use std::alloc::Global;
 use telegrams::read_telegram;
 use test_kit::{answer_said, is_done, keyed, noon, say};
 
-/// The number of calls that the tables serve: more than are made.
 const CALLS: u32 = 1_000_000;
 
 /// An input, in the order of a day.
@@ -57,7 +53,7 @@ pub enum Told {
     Unbegun,
     /// Memory ran out, and nothing changed.
     Unchanged,
-    /// The tables failed, and have the state before or after. The repeat gets the same reply.
+    /// The tables failed, and have the state before or after.
     Broken,
     /// Anything else.
     Otherwise,
@@ -76,7 +72,6 @@ impl Told {
     }
 }
 
-/// Returns the manifest of waybills of eight pieces.
 fn manifest(alloc: Global, waybills: u32) -> Option<String> {
     let mut text = String::from_str(alloc, "FFM/8\r\n1/LH401/12JAN/JFK\r\nFRA\r\n").ok()?;
     for serial in 1..=waybills {
@@ -106,7 +101,6 @@ fn input_of<'a>(alloc: Global, run: Run, text: &'a str) -> Option<Input<'a>> {
     }
 }
 
-/// Returns the expected reply to an input.
 fn wanted(run: Run) -> &'static str {
     match run {
         Run::TakeIn => "ok 10",
@@ -118,7 +112,6 @@ fn wanted(run: Run) -> &'static str {
     }
 }
 
-/// Returns `Some` if a station accepts an input.
 fn accepts<K: Keeper>(station: &mut K, input: &Input<'_>) -> Option<()> {
     if is_done(station, input, noon()?) {
         Some(())
@@ -127,7 +120,6 @@ fn accepts<K: Keeper>(station: &mut K, input: &Input<'_>) -> Option<()> {
     }
 }
 
-/// Gives a station the inputs that precede one.
 fn prepare<K: Keeper>(alloc: Global, station: &mut K, run: Run) -> Option<()> {
     match run {
         Run::TakeIn | Run::Manifest => Some(()),
@@ -144,16 +136,12 @@ fn prepare<K: Keeper>(alloc: Global, station: &mut K, run: Run) -> Option<()> {
     }
 }
 
-/// Gives a station over a store the inputs that precede one. Returns whether that succeeded, and
-/// the store.
 fn prepare_over<T: StateStore>(alloc: Global, store: T, run: Run) -> (Option<()>, T) {
     let mut station = StoredStation::over(alloc, store);
     let prepared = prepare(alloc, &mut station, run);
     (prepared, station.into_store())
 }
 
-/// Passes an input to a station over a store. Returns its answer, the number of calls of the store,
-/// and the store.
 fn give_over<T: StateStore>(
     alloc: Global,
     store: T,
@@ -219,7 +207,6 @@ struct Given<S: Fresh> {
     conn: Connection<S>,
 }
 
-/// Passes an input to a station over the tables before it.
 fn give<S: Fresh>(alloc: Global, run: Run, input: &Input<'_>) -> Option<Given<S>> {
     let at = noon()?;
     let ((answer, made), conn) = over_tables(alloc, Giving { run, input, at })?;
@@ -230,7 +217,6 @@ fn rows_before<S: Fresh>(alloc: Global, run: Run) -> Option<String> {
     all_rows(alloc, &mut tables::<S>(alloc, run)?)
 }
 
-/// Returns all rows after an input for which memory suffices.
 fn rows_after<S: Fresh>(alloc: Global, run: Run, input: &Input<'_>) -> Option<String> {
     let mut given = give::<S>(alloc, run, input)?;
     match given.answer {
@@ -239,7 +225,6 @@ fn rows_after<S: Fresh>(alloc: Global, run: Run, input: &Input<'_>) -> Option<St
     }
 }
 
-/// Returns whether the repeated input gets its reply, and leaves these rows.
 fn is_repeated<S: Fresh>(
     alloc: Global,
     conn: Connection<S>,
@@ -255,7 +240,6 @@ fn is_repeated<S: Fresh>(
     Some(reply.as_str() == wanted(run) && rows.as_str() == after)
 }
 
-/// Returns the outcome of an input without an answer, after a number of calls of the tables.
 fn after_fault<S: Fresh>(
     alloc: Global,
     run: Run,
@@ -284,8 +268,6 @@ fn after_fault<S: Fresh>(
     })
 }
 
-/// Returns the outcome of an input with an answer: the same reply, and the same rows as if memory
-/// suffices.
 fn after_answer<S: Fresh>(
     alloc: Global,
     run: Run,
@@ -304,7 +286,6 @@ fn after_answer<S: Fresh>(
     })
 }
 
-/// Returns the outcome of an input, or `None` if memory ran out before it.
 fn try_run<S: Fresh>(alloc: Global, run: Run) -> Option<Told> {
     let text = text_of(alloc, run)?;
     let input = input_of(alloc, run, text.as_str())?;
@@ -323,20 +304,17 @@ pub fn told_at_last<S: Fresh>(alloc: Global, run: Run) -> Told {
     }
 }
 
-/// The statements that make a file of version 2 one of version 1.
 const BACK: &str = "INSERT INTO waybill
     SELECT awb, origin, destination, pieces, tenths, goods, notified FROM waybill2;
     DROP TABLE waybill2;
     UPDATE station SET version = 1";
 
-/// Returns the tables of version 1 of a station with twenty waybills on a flight.
 fn old_tables<S: Fresh>(alloc: Global) -> Option<Connection<S>> {
     let mut conn = tables::<S>(alloc, Run::Departure)?;
     conn.execute_batch(BACK).ok()?;
     Some(conn)
 }
 
-/// Returns all rows of these tables after an upgrade for which memory suffices.
 fn rows_migrated<S: Fresh>(alloc: Global) -> Option<String> {
     match migrate(alloc, old_tables::<S>(alloc)?) {
         Ok(conn) => {
@@ -347,7 +325,6 @@ fn rows_migrated<S: Fresh>(alloc: Global) -> Option<String> {
     }
 }
 
-/// Returns whether tables are upgraded, with the same rows as if memory suffices.
 fn is_migrated<S: Fresh>(alloc: Global, conn: Connection<S>) -> Option<bool> {
     let after = rows_migrated::<S>(alloc)?;
     let mut conn = conn;
@@ -355,7 +332,6 @@ fn is_migrated<S: Fresh>(alloc: Global, conn: Connection<S>) -> Option<bool> {
     Some(rows.as_str() == after.as_str())
 }
 
-/// Returns whether tables have the rows of version 1.
 fn is_old<S: Fresh>(alloc: Global, conn: &mut Connection<S>) -> Option<bool> {
     let mut old = old_tables::<S>(alloc)?;
     let before = old_rows(alloc, &mut old)?;
@@ -363,7 +339,6 @@ fn is_old<S: Fresh>(alloc: Global, conn: &mut Connection<S>) -> Option<bool> {
     Some(rows.as_str() == before.as_str())
 }
 
-/// Returns whether upgrading tables again succeeds, or they are upgraded already.
 fn is_migrated_again<S: Fresh>(alloc: Global, conn: Connection<S>) -> Option<bool> {
     match migrate(alloc, conn) {
         Ok(conn) => is_migrated(alloc, conn),
@@ -372,7 +347,6 @@ fn is_migrated_again<S: Fresh>(alloc: Global, conn: Connection<S>) -> Option<boo
     }
 }
 
-/// Returns the outcome for tables that weren't upgraded.
 fn after_unmigrated<S: Fresh>(
     alloc: Global,
     fault: &AttachFault,
@@ -392,7 +366,6 @@ fn after_unmigrated<S: Fresh>(
     })
 }
 
-/// Returns the outcome of an upgrade, or `None` if memory ran out before it.
 fn try_migration<S: Fresh>(alloc: Global) -> Option<Told> {
     match migrate(alloc, old_tables::<S>(alloc)?) {
         Ok(conn) => Some(if is_migrated(alloc, conn)? {

@@ -10,10 +10,8 @@ use station_days::Moment;
 use std::alloc::Global;
 use test_kit::{say, shown};
 
-/// The day of the calls: 12 January 2026.
 const DAY: u32 = 20_465;
 
-/// The minute of a call, 10:30, and that of a repeat, 10:45.
 const CALLED: u16 = 630;
 
 const REPEATED: u16 = 645;
@@ -25,7 +23,6 @@ pub struct RepeatAnswers {
     before: Before,
 }
 
-/// Returns empty files, without waybills to compare.
 fn nothing(alloc: Global) -> Before {
     Before {
         bytes: FileBytes::new(alloc),
@@ -65,7 +62,6 @@ impl RepeatAnswers {
         self.work_on(&Work::Execute(statements.as_str()))
     }
 
-    /// Runs an input that is given, stopped or repeated.
     fn ask(&mut self, asked: &str, text: &[u8]) -> Option<String> {
         let (word, form) = match asked.strip_suffix("-take") {
             Some(word) => (word, InputForm::Telegram),
@@ -79,26 +75,21 @@ impl RepeatAnswers {
         }
     }
 
-    /// Empties the files, and forgets the waybills.
     fn forget(&mut self) -> Option<String> {
         self.before = nothing(self.alloc);
         say(self.alloc, "ok")
     }
 
-    /// Does work over the files, and keeps their new state.
     fn work_on(&mut self, work: &Work<'_>) -> Option<String> {
         let (said, left) = said_of(self.alloc, &self.before.bytes, work, &self.before.numbers)?;
         self.before.bytes = left;
         Some(said)
     }
 
-    /// Does work that is stopped at each call of a file. The files stay unchanged.
     fn stop(&self, work: &Work<'_>) -> Option<String> {
         stops(self.alloc, &self.before, work)
     }
 
-    /// Returns the answer to an input that is repeated by an opening a quarter of an hour later,
-    /// and whether that changed anything.
     fn repeat(&mut self, form: InputForm, text: &[u8]) -> Option<String> {
         let alloc = self.alloc;
         let before = found_in(alloc, &self.before.bytes, &self.before.numbers)?;
@@ -111,14 +102,12 @@ impl RepeatAnswers {
         }
     }
 
-    /// Records a waybill whose record is compared.
     fn note(&mut self, text: &[u8]) -> Option<String> {
         let number = Awb::read(text.first_chunk()?).ok()?;
         self.before.numbers.push(number).ok()?;
         say(self.alloc, "noted")
     }
 
-    /// Builds two of three pieces of each of this many waybills on a flight, and records them.
     fn build_up(&mut self, waybills: u32) -> Option<String> {
         for serial in 1..=waybills {
             self.before.numbers.push(Awb::new(20, serial)?).ok()?;

@@ -71,7 +71,6 @@ impl<S: Fresh> RowAnswers<S> {
     }
 }
 
-/// Returns why no tables are made over a connection, and whether it is outside a transaction.
 fn fault_of<S: Alter + Drop>(alloc: Global, conn: Connection<S>) -> Option<String> {
     match Rows::create(conn, "FRA") {
         Ok(_) => say(alloc, "made"),
@@ -90,15 +89,12 @@ fn fault_of<S: Alter + Drop>(alloc: Global, conn: Connection<S>) -> Option<Strin
     }
 }
 
-/// Returns the same after a statement.
 fn made_over<S: Fresh>(alloc: Global, statement: &str) -> Option<String> {
     let mut conn = S::open(alloc)?;
     conn.execute(statement, &[]).ok()?;
     fault_of(alloc, conn)
 }
 
-/// Returns the row of a new station: its number, its airport, its version and the last confirmed
-/// message.
 fn station_row<S: Alter + Drop>(alloc: Global, mut conn: Connection<S>) -> Option<String> {
     let row = conn
         .query_row("SELECT id, airport, version, confirmed FROM station", &[])
@@ -110,8 +106,6 @@ fn station_row<S: Alter + Drop>(alloc: Global, mut conn: Connection<S>) -> Optio
     format!(in alloc; "{id} {airport} {version} {confirmed}").ok()
 }
 
-/// Returns the number of stock rows, the least number and the least holder, if the connection is
-/// outside a transaction.
 fn stock_summed<S: Alter + Drop>(alloc: Global, mut conn: Connection<S>) -> Option<String> {
     if !conn.is_autocommit() {
         return None;
@@ -125,7 +119,6 @@ fn stock_summed<S: Alter + Drop>(alloc: Global, mut conn: Connection<S>) -> Opti
     format!(in alloc; "{count} {low} {holder}").ok()
 }
 
-/// Runs one call on tables and returns its result as text.
 fn called<R: TableStore>(alloc: Global, rows: &mut R, asked: &str, text: &str) -> Option<String> {
     let mut words = text.split_whitespace();
     match asked {
@@ -159,7 +152,6 @@ fn done(alloc: Global, done: Result<(), StoreFault>) -> Option<String> {
     }
 }
 
-/// Reads the row of one number: its prefix, its serial, its holder and an optional agent.
 fn stock_row(alloc: Global, words: &mut SplitWhitespace<'_>) -> Option<StockRow> {
     let prefix = next_whole(words)?;
     let low = next_whole(words)?;
@@ -188,7 +180,6 @@ fn insert_kept<R: TableStore>(
     done(alloc, rows.write(kept))
 }
 
-/// Returns the command and the count of a key.
 fn kept<R: TableStore>(alloc: Global, rows: &mut R, key: &str) -> Option<String> {
     match rows.read(KeptUnder { id: key }) {
         Ok(Some(kept)) => format!(in alloc; "{} {}", kept.command, kept.count).ok(),
@@ -197,7 +188,6 @@ fn kept<R: TableStore>(alloc: Global, rows: &mut R, key: &str) -> Option<String>
     }
 }
 
-/// Returns the rows of a prefix from one serial to another.
 fn between<R: TableStore>(
     alloc: Global,
     rows: &mut R,
@@ -225,7 +215,6 @@ fn rows_said(alloc: Global, rows: Result<Vec<StockRow>, StoreFault>) -> Option<S
     Some(said)
 }
 
-/// Returns a row: its prefix, its first and last serial, its holder and its agent.
 fn row_said(alloc: Global, row: &StockRow) -> Option<String> {
     let (prefix, low, high) = (row.prefix, row.low, row.high);
     let (holder, agent) = (row.holder, row.agent.as_str());
@@ -242,7 +231,6 @@ pub fn runs_of_row<S: Fresh>(alloc: Global, text: &[u8]) -> Option<String> {
     }
 }
 
-/// Returns the runs of the stock after a row is inserted.
 fn runs_with<R: TableStore>(alloc: Global, rows: &mut R, row: &StockRow) -> Option<String> {
     rows.begin().ok()?;
     rows.write(InsertStock { row }).ok()?;

@@ -1,5 +1,4 @@
-//! A call that is stopped at each call of a file. An opening afterwards finds the station before it
-//! or after it, and its repeat gets the reply of a call that nothing stops.
+//! A call that is stopped at each call of a file.
 use crate::disks::{Calls, FailingFile, FileBytes, Visited, found_in, said_of, visit};
 use crate::errands::Came;
 use crate::work::Work;
@@ -61,7 +60,6 @@ struct Left {
     is_repeated: bool,
 }
 
-/// Opens the files, and does the work.
 fn try_work(alloc: Global, before: &Before, work: &Work<'_>, calls: Calls) -> Option<Ended> {
     let Visited {
         came,
@@ -82,7 +80,6 @@ fn try_work(alloc: Global, before: &Before, work: &Work<'_>, calls: Calls) -> Op
     })
 }
 
-/// Does the work without a stop.
 fn undisturbed(alloc: Global, before: &Before, work: &Work<'_>) -> Option<Whole> {
     let first = found_in(alloc, &before.bytes, &before.numbers)?;
     let ended = try_work(alloc, before, work, Calls::all())?;
@@ -97,7 +94,6 @@ fn undisturbed(alloc: Global, before: &Before, work: &Work<'_>) -> Option<Whole>
     })
 }
 
-/// Classifies the findings.
 fn remains_of(whole: &Whole, found: &str) -> Remains {
     if found == whole.before.as_str() {
         Remains::Before
@@ -116,7 +112,6 @@ fn may_remain(attempt: Attempt, remains: Remains) -> bool {
     }
 }
 
-/// Returns whether work over the remains gets this reply, and leaves the same as without a stop.
 fn is_replied(
     alloc: Global,
     before: &Before,
@@ -130,8 +125,6 @@ fn is_replied(
     Some(said.as_str() == reply && found.as_str() == whole.after.as_str())
 }
 
-/// Returns whether repeating the work gets the same reply, and leaves the same as without a stop. A
-/// station can be made only once. A file of version 2 isn't upgraded again.
 fn is_repeated(
     alloc: Global,
     before: &Before,
@@ -154,7 +147,6 @@ fn is_repeated(
     }
 }
 
-/// Returns the outcome of a stop. Files like those of the last stop aren't opened again.
 fn looked_at(
     alloc: Global,
     before: &Before,
@@ -178,7 +170,6 @@ fn looked_at(
     })
 }
 
-/// Returns the failure after a stop, if there is one.
 fn difference(whole: &Whole, attempt: Attempt, reply: &str, left: &Left) -> Option<&'static str> {
     let is_answered = matches!(attempt, Attempt::Done | Attempt::Closed);
     if is_answered && reply != whole.reply.as_str() {
@@ -192,8 +183,6 @@ fn difference(whole: &Whole, attempt: Attempt, reply: &str, left: &Left) -> Opti
     }
 }
 
-/// Runs one stop of a file after another, up to the first attempt that isn't stopped. Returns the
-/// failure, if there is one.
 fn stops_of(
     alloc: Global,
     before: &Before,
@@ -221,7 +210,7 @@ fn stops_of(
     Some(Some(format!(in alloc; "{file:?}: it never came to its end").ok()?))
 }
 
-/// Runs the stops of both files. Returns the reply of the work without a stop, if nothing failed.
+/// Runs the stops of both files.
 pub fn stops(alloc: Global, before: &Before, work: &Work<'_>) -> Option<String> {
     let whole = undisturbed(alloc, before, work)?;
     if !is_repeated(alloc, before, work, &whole, Remains::Before, &before.bytes)? {

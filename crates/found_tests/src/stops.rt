@@ -13,14 +13,10 @@ use station_engine::StoredStation;
 use std::alloc::Global;
 use test_kit::{Job, say};
 
-/// The findings without a station: no table, no index.
 const NO_STATION: &str = "602, 0 tables and indexes";
 
-/// The steps of a day: making a station, and five accepted commands.
 const STEPS: usize = 6;
 
-/// Runs at most this many steps over new files that serve a number of calls. Returns the number of
-/// steps done, and the crash state.
 fn play(alloc: Global, calls: Calls, wanted: usize) -> Option<(usize, FileBytes)> {
     let fresh = FileBytes::new(alloc);
     if wanted == 0 {
@@ -39,12 +35,10 @@ fn play(alloc: Global, calls: Calls, wanted: usize) -> Option<(usize, FileBytes)
     }
 }
 
-/// Returns the waybill of the day.
 fn number() -> Option<Awb> {
     Awb::new(20, 1_234_567)
 }
 
-/// Returns the findings after this many steps without a stop.
 fn state(alloc: Global, wanted: usize) -> Option<String> {
     let (steps, left) = play(alloc, Calls::all(), wanted)?;
     if steps != wanted {
@@ -53,8 +47,6 @@ fn state(alloc: Global, wanted: usize) -> Option<String> {
     found_in(alloc, &left, &[number()?])
 }
 
-/// Returns the findings after each number of such steps: first no station, and then one. Each step
-/// changes them.
 fn states(alloc: Global) -> Option<Vec<String>> {
     let mut states = Vec::new(alloc);
     for wanted in 0..=STEPS {
@@ -70,7 +62,6 @@ fn states(alloc: Global) -> Option<Vec<String>> {
     Some(states)
 }
 
-/// Returns whether these are the findings after this many steps.
 fn is_state(states: &[String], steps: usize, found: &str) -> bool {
     match states.get(steps) {
         Some(state) => state.as_str() == found,
@@ -78,7 +69,6 @@ fn is_state(states: &[String], steps: usize, found: &str) -> bool {
     }
 }
 
-/// Runs one stop after another, up to the first day that isn't stopped.
 fn stops(alloc: Global, file: FailingFile) -> Option<String> {
     let states = states(alloc)?;
     for calls in 0..5000 {
@@ -95,8 +85,6 @@ fn stops(alloc: Global, file: FailingFile) -> Option<String> {
     say(alloc, "no day came to its end")
 }
 
-/// Returns how many commands of the day a station accepted. It is `None` if the station goes on
-/// after one that it didn't accept, and needn't be opened again.
 fn commands_done<K: Keeper>(alloc: Global, station: &mut K) -> Option<usize> {
     let errand = Errand::Day(STEPS - 1);
     let commands = match (Asked { alloc, errand }).run(station)? {
@@ -129,8 +117,6 @@ impl StoreJob for FailingDay {
     }
 }
 
-/// Plays the day over tables in memory that serve a number of calls of the station. Returns the
-/// number of steps done, and the findings, or `None` if the station goes on after a failed call.
 fn play_in_memory<S: Fresh>(alloc: Global, calls: u32) -> Option<(usize, String)> {
     let numbers = [number()?];
     let (steps, conn) = over_tables::<S, FailingDay>(alloc, FailingDay { calls })?;
@@ -138,8 +124,6 @@ fn play_in_memory<S: Fresh>(alloc: Global, calls: u32) -> Option<(usize, String)
     Some((steps, said?))
 }
 
-/// Runs one failing call after another, up to the first day without one. The findings are what was
-/// acknowledged.
 fn failing_calls<S: Fresh>(alloc: Global) -> Option<String> {
     let states = states(alloc)?;
     for calls in 0..5000 {

@@ -10,7 +10,6 @@ use test_kit::Job;
 
 /// A store of tables in memory.
 pub trait Fresh: Alter + Drop {
-    /// Returns a new database, or `None` if memory runs out.
     fn open(alloc: Global) -> Option<Connection<Self>>;
 }
 
@@ -30,13 +29,10 @@ pub trait StoreJob {
     /// The result.
     type Out;
 
-    /// Runs over a store, and returns the store. The result is `None` if memory runs out or the job
-    /// can't be done.
     fn run<T: StateStore>(self, alloc: Global, store: T) -> (Option<Self::Out>, T);
 }
 
-/// Runs a job over the new tables of a station at FRA. Returns its result, and the connection. No
-/// other function works over these tables: each that does costs the check as much as forty others.
+/// Runs a job over the new tables of a station at FRA.
 pub fn over_tables<S: Fresh, J: StoreJob + Drop>(
     alloc: Global,
     job: J,
@@ -50,8 +46,7 @@ pub fn over_tables<S: Fresh, J: StoreJob + Drop>(
     Some((out?, conn))
 }
 
-/// Runs a job on a station. No other function hands out one over tables: each that does costs the
-/// check as much as twenty others.
+/// Runs a job on a station.
 pub fn ask<S: Alter, J: Job>(station: &mut Station<S>, job: J) -> J::Out {
     job.run(station)
 }

@@ -22,7 +22,7 @@ pub enum InputForm {
 }
 
 impl InputForm {
-    /// Reads an input. It is `None` if memory runs out, or the text isn't one.
+    /// Reads an input.
     pub fn input<'a>(self, alloc: Global, text: &'a [u8]) -> Option<Input<'a>> {
         match self {
             InputForm::Telegram => Some(Input::Wire(read_telegram(alloc, text).ok()?)),
@@ -54,8 +54,7 @@ pub enum Work<'a> {
 }
 
 impl Work<'_> {
-    /// Does the work. Returns the outcome, and the connection. The outcome is `None` if memory runs
-    /// out or the work can't be done.
+    /// Does the work.
     pub fn run<S: Alter>(
         &self,
         alloc: Global,
@@ -79,7 +78,7 @@ impl Work<'_> {
         }
     }
 
-    /// Returns whether the connection is closed afterwards. Otherwise a crash ends it.
+    /// Returns whether the connection is closed afterwards.
     pub fn is_closed_after(&self, came: &Option<Came>) -> bool {
         match self {
             Work::Execute(_) | Work::Make(_, Errand::Nothing) | Work::Migrate => true,
@@ -89,7 +88,6 @@ impl Work<'_> {
     }
 }
 
-/// Returns the result, unless memory ran out for it.
 fn done(said: Option<String>) -> Option<Came> {
     Some(Came::Done(said?))
 }
@@ -106,7 +104,6 @@ fn execute<S: Alter>(
     }
 }
 
-/// Makes a station, and runs an errand.
 fn make<S: Alter>(
     alloc: Global,
     conn: Connection<S>,
@@ -120,7 +117,6 @@ fn make<S: Alter>(
     }
 }
 
-/// Upgrades a file of version 1, or returns why it can't.
 fn migrate_tables<S: Alter>(alloc: Global, conn: Connection<S>) -> (Option<Came>, Connection<S>) {
     match migrate(alloc, conn) {
         Ok(conn) => (done(say(alloc, "ok")), conn),
@@ -129,7 +125,6 @@ fn migrate_tables<S: Alter>(alloc: Global, conn: Connection<S>) -> (Option<Came>
     }
 }
 
-/// Opens the station, and runs a job.
 fn serve_opened<S: Alter, J: Job<Out = Option<Came>> + Drop>(
     alloc: Global,
     conn: Connection<S>,
@@ -142,7 +137,6 @@ fn serve_opened<S: Alter, J: Job<Out = Option<Came>> + Drop>(
     }
 }
 
-/// Runs a job on a station, and ends it.
 fn serve<S: Alter, J: Job<Out = Option<Came>>>(
     station: Station<S>,
     job: J,
@@ -152,7 +146,6 @@ fn serve<S: Alter, J: Job<Out = Option<Came>>>(
     (came, station.release())
 }
 
-/// Opens the station, and passes it an input.
 fn act<S: Alter>(
     alloc: Global,
     conn: Connection<S>,
@@ -175,7 +168,6 @@ fn give<S: Alter>(
     }
 }
 
-/// Repeats an input by an opening. Returns the answer, or why there is no station.
 fn repeat_input<S: Alter>(
     alloc: Global,
     conn: Connection<S>,

@@ -15,7 +15,7 @@ use Rattle.http_desk.specs.declared.printout.Printout.{Printout}
 use Rattle.http_desk.specs.declared.serve.Served.{Served}
 use Rattle.http_desk.specs.declared.serve.ServeFault.{ServeFault}
 use Rattle.http_desk.specs.declared.serve.ServeFault.TheVariants as serve
-use Rattle.http_desk.specs.Routes.{Posted, posted_command, posted_telegram, posted_look, Got, Place, posts, gets, place_of}
+use Rattle.http_desk.specs.Routes.{Posted, is_dry, posted_command, posted_check, posted_telegram, posted_look, Got, Place, posts, gets, place_of}
 use Rattle.http_desk.specs.Digits.{number_told}
 use Rattle.http_desk.specs.Request.{Head, Fault, fault, wrong_method, HeadAsks, refuses, looks_up, sends, sends_body, place_asks, is_foreign, own_asks, head_asks, body_length, length_beside, length_among, within_length, key_of, values_of, BodyAsks, bad_body, unreadable, looks_at, for_station, IsAskedUnder}
 use Rattle.http_desk.specs.Reply.{refused_data, answer_reply, refusal_status, body_reply, body_state, IsWritten}
@@ -102,17 +102,18 @@ asked_told : (posted : Posted) (key : Option (List ℕ)) (body : List ℕ) (asks
 asked_told (posted_command verb) None body asks is = subst IsBodyTold (sym is) no_400
 asked_told (posted_command verb) (Some key) body asks (inl (command, said, is)) = subst IsBodyTold (sym is) tt
 asked_told (posted_command verb) (Some key) body asks (inr (none, is)) = subst IsBodyTold (sym is) no_400
+asked_told (posted_check verb) key body asks (d, checked, is) = subst IsBodyTold (sym is) tt
 asked_told posted_telegram key body asks (inl (t, means, is)) = subst IsBodyTold (sym is) tt
 asked_told posted_telegram key body asks (inr (told, why, is)) = subst IsBodyTold (sym is) tt
 asked_told posted_look key body asks (inl (look, is_look, is)) = subst IsBodyTold (sym is) tt
 asked_told posted_look key body asks (inr (told, why, is)) = subst IsBodyTold (sym is) tt
 
--- a telegram is looked at only where that is asked
+-- only a dry run looks
 abbrev IsLooking : BodyAsks → Bool
 IsLooking (looks_at look) = true
 IsLooking _ = false
 
-no_look : (posted : Posted) (key : Option (List ℕ)) (body : List ℕ) (asks : BodyAsks) → IsAskedUnder posted key body asks → IsLooking asks ≡ true → posted ≡ posted_look
+no_look : (posted : Posted) (key : Option (List ℕ)) (body : List ℕ) (asks : BodyAsks) → IsAskedUnder posted key body asks → IsLooking asks ≡ true → is_dry posted ≡ true
 no_look (posted_command verb) None body asks is looking = absurd (never (ap IsLooking (sym is) ∙ looking))
   where
     never : ¬ (◌≡◌ {A = Bool} false true)
@@ -133,7 +134,14 @@ no_look posted_telegram key body asks (inr (told, why, is)) looking = absurd (ne
   where
     never : ¬ (◌≡◌ {A = Bool} false true)
     never e = cc e
+no_look (posted_check verb) key body asks is looking = refl
 no_look posted_look key body asks is looking = refl
+
+no_both : (b : Bool) → b ≡ true → b ≡ false → ⊥
+no_both b is isnt = never (sym isnt ∙ is)
+  where
+    never : ¬ (◌≡◌ {A = Bool} false true)
+    never e = cc e
 
 -- the bodies of faults and refusals
 abbrev fault_body : Fault → List ℕ
@@ -163,14 +171,14 @@ module _ (s : State) (at : LocalMinute) (bytes : List ℕ) (left : StationAfter)
   behind h = drop (length (print_request h)) bytes
 
   -- what a body that came says
-  sent_begun : (h : RequestHead) → HasHead bytes h → (posted : Posted) (n : ℕ) → head_asks (head_of h) ≡ sends posted n → ¬ (posted ≡ posted_look)
+  sent_begun : (h : RequestHead) → HasHead bytes h → (posted : Posted) (n : ℕ) → head_asks (head_of h) ≡ sends posted n → is_dry posted ≡ false
       → (asks : BodyAsks) → SendsWhole posted n (head_of h) (behind h) asks → (status : ℕ) (out : List ℕ) (after : State)
       → Replied s (body_reply s at asks) (body_state s at asks) status out after → left.keeps after → BeginsAs200 out → IsAfterStep bytes s at left.may_find
   sent_begun h has posted n is acts (bad_body f) sent status out after r kept (rest, e) =
       absurd (asked_told posted (key_of (head_of h).fields) (take n (behind h)) (bad_body f) sent.asked f.allow (fault_body f) (rest, sym r.written ∙ e))
   sent_begun h has posted n is acts (unreadable refusal) sent status out after r kept (rest, e) = absurd (no_refusal refusal.number None (refusal_body refusal) (rest, sym r.written ∙ e))
   sent_begun h has posted n is acts (looks_at look) sent status out after r kept begun =
-      absurd (acts (no_look posted (key_of (head_of h).fields) (take n (behind h)) (looks_at look) sent.asked refl))
+      absurd (no_both (is_dry posted) (no_look posted (key_of (head_of h).fields) (take n (behind h)) (looks_at look) sent.asked refl) acts)
   sent_begun h has posted n is acts (for_station i) sent status out after r kept begun = (
     i,
     record { head = h; has = has; posted = posted; size = n; is_sent = is; sent = sent },
@@ -178,12 +186,12 @@ module _ (s : State) (at : LocalMinute) (bytes : List ℕ) (left : StationAfter)
     λ found finds. settled (step s i at).state (subst left.keeps r.state kept) found finds,
   )
 
-  answered : (h : RequestHead) → HasHead bytes h → h.method ≡ codes "POST" → ((size : ℕ) → ¬ (head_asks (head_of h) ≡ sends posted_look size)) → (asks : HeadAsks) → head_asks (head_of h) ≡ asks → (status : ℕ) (out : List ℕ) (after : State)
+  answered : (h : RequestHead) → HasHead bytes h → h.method ≡ codes "POST" → ((posted : Posted) (size : ℕ) → head_asks (head_of h) ≡ sends posted size → is_dry posted ≡ false) → (asks : HeadAsks) → head_asks (head_of h) ≡ asks → (status : ℕ) (out : List ℕ) (after : State)
       → IsAnsweredAs asks (head_of h) (behind h) s at status out after → left.keeps after → BeginsAs200 out → IsAfterStep bytes s at left.may_find
   answered h has post acts (refuses f) is status out after r kept (rest, e) = absurd (subst (IsTold h.method) is (head_told (head_of h)) f.allow (fault_body f) (rest, sym r.written ∙ e))
   answered h has post acts (looks_up got) is status out after r kept begun = absurd (no_get h.method post (subst (IsTold h.method) is (head_told (head_of h))))
   answered h has post acts (sends posted n) is status out after (asks, sent, r) kept begun =
-      sent_begun h has posted n is (λ look. acts n (is ∙ ap (λ p. sends p n) look)) asks sent status out after r kept begun
+      sent_begun h has posted n is (acts posted n is) asks sent status out after r kept begun
 
   no_report : (name : Printout) → GetsReport bytes name → ¬ (IsPosted bytes)
   no_report name (k, also, looks) (h, has, post, acts) =

@@ -5,6 +5,7 @@ mod AskedJson
 mod Beginnings
 mod Endings
 mod Begun
+mod Checked
 mod Examples
 mod FieldLaws
 mod Heads

@@ -16,6 +16,7 @@ use Rattle.http_desk.specs.Paths.{is_path_byte, IsPath, IsName}
 -- the path leads to this page
 abbrev pub LeadsToPage : List ℕ → Page → Type 0
 LeadsToPage path page.Act = (name : List ℕ) × IsName name × (path ≡ codes "/v1/act/" ++ name)
+LeadsToPage path page.Check = (name : List ℕ) × IsName name × (path ≡ codes "/v1/check/" ++ name)
 LeadsToPage path page.Telegrams = path ≡ codes "/v1/telegrams"
 LeadsToPage path page.Look = path ≡ codes "/v1/read"
 LeadsToPage path page.Waybill = (name : List ℕ) × IsName name × (path ≡ codes "/v1/waybills/" ++ name)
@@ -103,6 +104,10 @@ act_ends : Ends (codes "/v1/act/") page.Act
 unfolding matchit_on_literals
 act_ends = (_, refl, refl)
 
+check_ends : Ends (codes "/v1/check/") page.Check
+unfolding matchit_on_literals
+check_ends = (_, refl, refl)
+
 waybill_ends : Ends (codes "/v1/waybills/") page.Waybill
 unfolding matchit_on_literals
 waybill_ends = (_, refl, refl)
@@ -129,6 +134,7 @@ outbox_leads = refl
 
 pub page_leads : (path : List ℕ) (value : Page) → IsPath path → LeadsToPage path value → page_of desk_rows path ≡ Some value
 page_leads path page.Act all (name, is, e) = subst (λ p. page_of desk_rows p ≡ Some page.Act) (sym e) (name_leads (codes "/v1/act/") name page.Act act_ends is (subst IsPath e all))
+page_leads path page.Check all (name, is, e) = subst (λ p. page_of desk_rows p ≡ Some page.Check) (sym e) (name_leads (codes "/v1/check/") name page.Check check_ends is (subst IsPath e all))
 page_leads path page.Telegrams all e = subst (λ p. page_of desk_rows p ≡ Some page.Telegrams) (sym e) telegrams_lead
 page_leads path page.Look all e = subst (λ p. page_of desk_rows p ≡ Some page.Look) (sym e) look_leads
 page_leads path page.Waybill all (name, is, e) = subst (λ p. page_of desk_rows p ≡ Some page.Waybill) (sym e) (name_leads (codes "/v1/waybills/") name page.Waybill waybill_ends is (subst IsPath e all))
@@ -337,8 +343,8 @@ IsOf t r text value = (t ≡ text) × (r.value ≡ value)
 
 abbrev IsOneOf : List ℕ → RouteOf Page → Type 0
 IsOneOf t r =
-    IsOf t r (codes "/v1/act/" ++ (param_token ∷ [])) page.Act ⊎ (IsOf t r (codes "/v1/outbox") page.Outbox ⊎ (IsOf t r (codes "/v1/read") page.Look ⊎ (IsOf t r (codes "/v1/reports/" ++ (param_token ∷ [])) page.Report
-    ⊎ (IsOf t r (codes "/v1/stock/" ++ (param_token ∷ [])) page.Stock ⊎ (IsOf t r (codes "/v1/telegrams") page.Telegrams ⊎ IsOf t r (codes "/v1/waybills/" ++ (param_token ∷ [])) page.Waybill)))))
+    IsOf t r (codes "/v1/act/" ++ (param_token ∷ [])) page.Act ⊎ (IsOf t r (codes "/v1/check/" ++ (param_token ∷ [])) page.Check ⊎ (IsOf t r (codes "/v1/outbox") page.Outbox ⊎ (IsOf t r (codes "/v1/read") page.Look
+    ⊎ (IsOf t r (codes "/v1/reports/" ++ (param_token ∷ [])) page.Report ⊎ (IsOf t r (codes "/v1/stock/" ++ (param_token ∷ [])) page.Stock ⊎ (IsOf t r (codes "/v1/telegrams") page.Telegrams ⊎ IsOf t r (codes "/v1/waybills/" ++ (param_token ∷ [])) page.Waybill))))))
 
 one_of : (t : List ℕ) (r : RouteOf Page) → Has t r desk_rows → IsOneOf t r
 unfolding matchit_on_literals
@@ -348,17 +354,19 @@ one_of t r (inr (inr (inl (is, k)))) = inr (inr (inl (is, ap (λ (r : RouteOf Pa
 one_of t r (inr (inr (inr (inl (is, k))))) = inr (inr (inr (inl (is, ap (λ (r : RouteOf Page). r.value) k))))
 one_of t r (inr (inr (inr (inr (inl (is, k)))))) = inr (inr (inr (inr (inl (is, ap (λ (r : RouteOf Page). r.value) k)))))
 one_of t r (inr (inr (inr (inr (inr (inl (is, k))))))) = inr (inr (inr (inr (inr (inl (is, ap (λ (r : RouteOf Page). r.value) k))))))
-one_of t r (inr (inr (inr (inr (inr (inr (inl (is, k)))))))) = inr (inr (inr (inr (inr (inr (is, ap (λ (r : RouteOf Page). r.value) k))))))
-one_of t r (inr (inr (inr (inr (inr (inr (inr h))))))) = absurd h
+one_of t r (inr (inr (inr (inr (inr (inr (inl (is, k)))))))) = inr (inr (inr (inr (inr (inr (inl (is, ap (λ (r : RouteOf Page). r.value) k)))))))
+one_of t r (inr (inr (inr (inr (inr (inr (inr (inl (is, k))))))))) = inr (inr (inr (inr (inr (inr (inr (is, ap (λ (r : RouteOf Page). r.value) k)))))))
+one_of t r (inr (inr (inr (inr (inr (inr (inr (inr h)))))))) = absurd h
 
 led : (path t : List ℕ) (r : RouteOf Page) → IsPath path → Fits t path → IsOneOf t r → LeadsToPage path r.value
 led path t r all fits (inl (is, k)) = subst (LeadsToPage path) (sym k) (behind (codes "/v1/act/") t path refl is all fits)
-led path t r all fits (inr (inl (is, k))) = subst (LeadsToPage path) (sym k) (exact (codes "/v1/outbox") t path refl is fits)
-led path t r all fits (inr (inr (inl (is, k)))) = subst (LeadsToPage path) (sym k) (exact (codes "/v1/read") t path refl is fits)
-led path t r all fits (inr (inr (inr (inl (is, k))))) = subst (LeadsToPage path) (sym k) (behind (codes "/v1/reports/") t path refl is all fits)
-led path t r all fits (inr (inr (inr (inr (inl (is, k)))))) = subst (LeadsToPage path) (sym k) (behind (codes "/v1/stock/") t path refl is all fits)
-led path t r all fits (inr (inr (inr (inr (inr (inl (is, k))))))) = subst (LeadsToPage path) (sym k) (exact (codes "/v1/telegrams") t path refl is fits)
-led path t r all fits (inr (inr (inr (inr (inr (inr (is, k))))))) = subst (LeadsToPage path) (sym k) (behind (codes "/v1/waybills/") t path refl is all fits)
+led path t r all fits (inr (inl (is, k))) = subst (LeadsToPage path) (sym k) (behind (codes "/v1/check/") t path refl is all fits)
+led path t r all fits (inr (inr (inl (is, k)))) = subst (LeadsToPage path) (sym k) (exact (codes "/v1/outbox") t path refl is fits)
+led path t r all fits (inr (inr (inr (inl (is, k))))) = subst (LeadsToPage path) (sym k) (exact (codes "/v1/read") t path refl is fits)
+led path t r all fits (inr (inr (inr (inr (inl (is, k)))))) = subst (LeadsToPage path) (sym k) (behind (codes "/v1/reports/") t path refl is all fits)
+led path t r all fits (inr (inr (inr (inr (inr (inl (is, k))))))) = subst (LeadsToPage path) (sym k) (behind (codes "/v1/stock/") t path refl is all fits)
+led path t r all fits (inr (inr (inr (inr (inr (inr (inl (is, k)))))))) = subst (LeadsToPage path) (sym k) (exact (codes "/v1/telegrams") t path refl is fits)
+led path t r all fits (inr (inr (inr (inr (inr (inr (inr (is, k)))))))) = subst (LeadsToPage path) (sym k) (behind (codes "/v1/waybills/") t path refl is all fits)
 
 value_some : (o : Option (RouteOf Page)) (value : Page) → option_map (λ (r : RouteOf Page). r.value) o ≡ Some value → (r : RouteOf Page) × (o ≡ Some r) × (r.value ≡ value)
 value_some None value e = absurd (never e)

@@ -14,7 +14,7 @@ use Rattle.reports.specs.declared.report.Report.{Report}
 use Rattle.reports.specs.declared.report.Report.TheVariants as report
 use Rattle.http_desk.specs.declared.printout.Printout.{Printout}
 use Rattle.http_desk.specs.Printouts.{as_text, printout_at}
-use Rattle.http_desk.specs.Routes.{desk_rows, page_of, posted_command, posted_telegram, posted_look, got_waybill, got_holder, got_report, Place, posts, gets, place_at, routed, asked_place, place_of}
+use Rattle.http_desk.specs.Routes.{desk_rows, page_of, posted_command, posted_check, posted_telegram, posted_look, got_waybill, got_holder, got_report, Place, posts, gets, place_at, routed, asked_place, place_of}
 use Rattle.reports.specs.Reports.{report_called}
 use Rattle.http_desk.specs.Paths.{IsPath, IsName, report_path, LeadsToPlace, LeadsTo}
 use Rattle.http_desk.proofs.Pages.{LeadsToPage, page_leads, page_only, path_is, path_behind}
@@ -32,6 +32,9 @@ word_name v =
 act_at : (v : Verb) → place_at (codes "/v1/act/" ++ word v) page.Act ≡ Some (posts (posted_command v))
 act_at v = ap (option_map (λ verb. posts (posted_command verb))) (called_again v)
 
+check_at : (v : Verb) → place_at (codes "/v1/check/" ++ word v) page.Check ≡ Some (posts (posted_check v))
+check_at v = ap (option_map (λ verb. posts (posted_check verb))) (called_again v)
+
 abbrev IsThere : Place → List ℕ → Type 0
 IsThere place path = IsPath path → routed path ≡ Some place
 
@@ -44,10 +47,14 @@ report_there report.Irregularities all = at_page _ page.Report _ all (codes "irr
 report_there report.Movements all = at_page _ page.Report _ all (codes "movements", (omega arith, refl), refl) refl
 report_there report.Trail all = at_page _ page.Report _ all (codes "trail", (omega arith, refl), refl) refl
 report_there report.Pending all = at_page _ page.Outbox _ all refl refl
+report_there report.Sent all = at_page _ page.Report _ all (codes "sent", (omega arith, refl), refl) refl
+report_there report.Station all = at_page _ page.Report _ all (codes "station", (omega arith, refl), refl) refl
 
 there : (path : List ℕ) (place : Place) → IsPath path → LeadsToPlace path place → routed path ≡ Some place
 there path (posts (posted_command v)) all e =
     subst (IsThere (posts (posted_command v))) (sym e) (λ all. at_page (codes "/v1/act/" ++ word v) page.Act (posts (posted_command v)) all (word v, word_name v, refl) (act_at v)) all
+there path (posts (posted_check v)) all e =
+    subst (IsThere (posts (posted_check v))) (sym e) (λ all. at_page (codes "/v1/check/" ++ word v) page.Check (posts (posted_check v)) all (word v, word_name v, refl) (check_at v)) all
 there path (posts posted_telegram) all e = at_page path page.Telegrams (posts posted_telegram) all e refl
 there path (posts posted_look) all e = at_page path page.Look (posts posted_look) all e refl
 there path (gets (got_waybill name)) all (is, e) =
@@ -78,6 +85,11 @@ act_only name place e =
     let told = map_some (λ verb. posts (posted_command verb)) (verb_called name) place e in
     subst (LeadsToPlace (codes "/v1/act/" ++ name)) told.2 (ap (λ w. codes "/v1/act/" ++ w) (sym (called_is name told.0 told.1)))
 
+check_only : (name : List ℕ) (place : Place) → place_at (codes "/v1/check/" ++ name) page.Check ≡ Some place → LeadsToPlace (codes "/v1/check/" ++ name) place
+check_only name place e =
+    let told = map_some (λ verb. posts (posted_check verb)) (verb_called name) place e in
+    subst (LeadsToPlace (codes "/v1/check/" ++ name)) told.2 (ap (λ w. codes "/v1/check/" ++ w) (sym (called_is name told.0 told.1)))
+
 -- a report by its name
 abbrev IsCalled : List ℕ → Report → Type 0
 IsCalled name r = codes "/v1/reports/" ++ name ≡ report_path r
@@ -96,7 +108,9 @@ called_only name found e =
     (called_at name (codes "expected") report.Expected _ (bytes_eq name (codes "expected")) refl refl found
     (called_at name (codes "irregularities") report.Irregularities _ (bytes_eq name (codes "irregularities")) refl refl found
     (called_at name (codes "movements") report.Movements _ (bytes_eq name (codes "movements")) refl refl found
-    (called_at name (codes "trail") report.Trail None (bytes_eq name (codes "trail")) refl refl found (λ none. absurd (no_some found none))))))))
+    (called_at name (codes "trail") report.Trail _ (bytes_eq name (codes "trail")) refl refl found
+    (called_at name (codes "sent") report.Sent _ (bytes_eq name (codes "sent")) refl refl found
+    (called_at name (codes "station") report.Station None (bytes_eq name (codes "station")) refl refl found (λ none. absurd (no_some found none))))))))))
     e
 
 report_only : (name : List ℕ) (place : Place) → place_at (codes "/v1/reports/" ++ name) page.Report ≡ Some place → LeadsToPlace (codes "/v1/reports/" ++ name) place
@@ -106,6 +120,7 @@ report_only name place e =
 
 of_page : (path : List ℕ) (value : Page) (place : Place) → LeadsToPage path value → place_at path value ≡ Some place → LeadsToPlace path place
 of_page path page.Act place (name, is, e) at = subst (λ p. place_at p page.Act ≡ Some place → LeadsToPlace p place) (sym e) (act_only name place) at
+of_page path page.Check place (name, is, e) at = subst (λ p. place_at p page.Check ≡ Some place → LeadsToPlace p place) (sym e) (check_only name place) at
 of_page path page.Telegrams place e at = subst (LeadsToPlace path) (some_is (posts posted_telegram) place at) e
 of_page path page.Look place e at = subst (LeadsToPlace path) (some_is (posts posted_look) place at) e
 of_page path page.Waybill place (name, is, e) at =

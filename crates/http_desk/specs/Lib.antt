@@ -16,3 +16,4 @@ pub mod Told
 pub mod Writing
 pub mod Printouts
 pub mod Digits
+pub mod Refused

@@ -7,7 +7,7 @@ use Rattle.reports.specs.declared.report.Report.{Report}
 use Rattle.reports.specs.declared.report.Report.TheVariants as report
 use Rattle.http_desk.specs.declared.printout.Printout.{Printout}
 use Rattle.http_desk.specs.Printouts.{as_text, printout_at}
-use Rattle.http_desk.specs.Routes.{posted_command, posted_telegram, posted_look, got_waybill, got_holder, got_report, Place, posts, gets}
+use Rattle.http_desk.specs.Routes.{posted_command, posted_check, posted_telegram, posted_look, got_waybill, got_holder, got_report, Place, posts, gets}
 
 -- bytes without a question mark
 abbrev pub is_path_byte : ℕ → Bool
@@ -29,10 +29,13 @@ report_path report.Irregularities = codes "/v1/reports/irregularities"
 report_path report.Movements = codes "/v1/reports/movements"
 report_path report.Trail = codes "/v1/reports/trail"
 report_path report.Pending = codes "/v1/outbox"
+report_path report.Sent = codes "/v1/reports/sent"
+report_path report.Station = codes "/v1/reports/station"
 
--- the path leads to a page: a verb, the telegrams, a look-up, or a whole report as text
+-- the path leads to a page: a verb, its check, the telegrams, a look-up, or a whole report as text
 abbrev pub LeadsToPlace : List ℕ → Place → Type 0
 LeadsToPlace path (posts (posted_command verb)) = path ≡ codes "/v1/act/" ++ word verb
+LeadsToPlace path (posts (posted_check verb)) = path ≡ codes "/v1/check/" ++ word verb
 LeadsToPlace path (posts posted_telegram) = path ≡ codes "/v1/telegrams"
 LeadsToPlace path (posts posted_look) = path ≡ codes "/v1/read"
 LeadsToPlace path (gets (got_waybill name)) = IsName name × (path ≡ codes "/v1/waybills/" ++ name)

@@ -37,11 +37,12 @@ later_part path = after_first (λ b. b == 47) path
 abbrev pub is_json : List ℕ → Bool
 is_json path = bytes_eq (drop (length path - 5) path) (codes ".json")
 
--- `movements` and `trail` of a waybill
+-- `movements`, `trail` and `sent` of a waybill
 abbrev pub waybill_rows : List ℕ → ℕ → Option Listing
 waybill_rows word w =
     if bytes_eq word (codes "movements") then Some (listing.Movements w)
     else if bytes_eq word (codes "trail") then Some (listing.Trail w)
+    else if bytes_eq word (codes "sent") then Some (listing.Sent w)
     else None
 
 -- `stock` of an agent
@@ -66,9 +67,12 @@ line_rows word n =
     else if bytes_eq word (codes "last") then Some (listing.TrailLast n)
     else None
 
--- `after` of the outbox, with a number
+-- `after` of the outbox, and of all messages, with a number
 abbrev pub message_rows : List ℕ → ℕ → Option Listing
 message_rows word n = where_true (bytes_eq word (codes "after")) (listing.PendingAfter n)
+
+abbrev pub sent_rows : List ℕ → ℕ → Option Listing
+sent_rows word n = where_true (bytes_eq word (codes "after")) (listing.SentAfter n)
 
 abbrev pub flight_rows : List ℕ → Designator → Option Listing
 flight_rows day flight =
@@ -88,12 +92,15 @@ rows_of_kind kind rest =
     then option_and_then (line_rows (first_part rest)) (row_number (later_part rest))
     else if bytes_eq kind (codes "outbox")
     then option_and_then (message_rows (first_part rest)) (row_number (later_part rest))
+    else if bytes_eq kind (codes "sent")
+    then option_and_then (sent_rows (first_part rest)) (row_number (later_part rest))
     else None
 
 -- the rows at a path after `/v1/`
 abbrev pub rows_behind : List ℕ → Option Listing
 rows_behind path =
     if bytes_eq path (codes "outbox") then Some (listing.All report.Pending)
+    else if bytes_eq path (codes "station") then Some (listing.All report.Station)
     else rows_of_kind (first_part path) (later_part path)
 
 abbrev pub rows_at : List ℕ → Option Listing

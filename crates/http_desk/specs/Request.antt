@@ -1,10 +1,13 @@
 -- Requests, by the tests in their order.
-use Rattle.std.specs.Prelude.{◌≡◌, ◌⊎◌, ℕ, ◌&&◌, ◌||◌, not, Bool, true, false, nat_le, take, drop, List, [], ◌∷◌, length, map, codes, Option, Some, None, Result, Ok, Err, IsUtf8, if◌then◌else◌}
+use Rattle.std.specs.Prelude.{◌≡◌, ◌⊎◌, ℕ, ◌&&◌, ◌||◌, not, Bool, true, false, nat_le, take, drop, List, [], ◌∷◌, length, map, codes, Option, Some, None, Result, Ok, Err, IsUtf8, IsTrue, if◌then◌else◌}
 use Rattle.std.specs.Char.{to_ascii_lowercase}
+use Rattle.std.specs.List.{list_all}
 use Rattle.std.specs.Str.{bytes_eq}
-use Rattle.serde_json.specs.Data.{Data}
+use Rattle.serde_json.specs.Data.{Data, boolean, string, object, member, no_members}
 use Rattle.serde_json.specs.Read.{read}
+use Rattle.serde_json.specs.Written.{compact_text}
 use Rattle.http_desk.specs.Digits.{number_told}
+use Rattle.imp_fields.specs.Characters.{is_printable}
 use Rattle.imp_fields.specs.TextSize.{most_bytes}
 use Rattle.imp_fields.specs.declared.fault.TextFault.{TextFault}
 use Rattle.shipment_machine.specs.declared.plans.Refusal.{Refusal}
@@ -12,13 +15,13 @@ use Rattle.desk_commands.specs.declared.command.Command.{Command}
 use Rattle.desk_commands.specs.declared.verb.Verb.{Verb}
 use Rattle.desk_commands.specs.Body.{IsBodyOf}
 use Rattle.telegrams.specs.Meaning.{Meant, IsTelegram, telegram_fault, refusal_of}
-use Rattle.telegram_look.specs.Look.{IsLook}
+use Rattle.telegram_look.specs.Look.{IsLook, IsLookFault}
 use Rattle.telegram_look.specs.LookObject.{look_object}
 use Rattle.telegram_look.specs.declared.look.Look.{Look}
 use Rattle.station_core.specs.Key.{is_key}
 use Rattle.station_core.specs.declared.input.Input.{Input}
 use Rattle.station_core.specs.declared.input.Input.TheVariants.{Keyed, Wire}
-use Rattle.http_desk.specs.Routes.{Posted, posted_command, posted_telegram, posted_look, Got, Place, posts, gets, place_of}
+use Rattle.http_desk.specs.Routes.{Posted, posted_command, posted_check, posted_telegram, posted_look, Got, Place, posts, gets, place_of}
 
 -- a request's head: its fields are names and values, without spaces and tabs around them
 pub record Head : Type 0 where
@@ -143,6 +146,25 @@ abbrev pub IsSaid : Verb → List ℕ → Command → Type 0
 IsSaid verb bytes command =
     IsUtf8 bytes × ((d : Data) × (read bytes ≡ Some d) × IsBodyOf verb d command)
 
+-- whether a body is a command of its verb, with a reason in printable ASCII if it isn't
+abbrev pub good_data : Data
+good_data = object (member (codes "good") (boolean true) no_members)
+
+abbrev pub bad_data : List ℕ → Data
+bad_data reason =
+    object (member (codes "good") (boolean false)
+    (member (codes "reason") (string reason) no_members))
+
+abbrev pub IsChecked : Verb → List ℕ → Data → Type 0
+IsChecked verb bytes d =
+    ((command : Command) × IsSaid verb bytes command × (d ≡ good_data))
+    ⊎ (((command : Command) → ¬ (IsSaid verb bytes command))
+    × ((reason : List ℕ) × IsTrue (list_all is_printable reason) × (d ≡ bad_data reason)))
+
+abbrev pub IsCheckAsked : Verb → List ℕ → BodyAsks → Type 0
+IsCheckAsked verb bytes asks =
+    (d : Data) × IsChecked verb bytes d × (asks ≡ looks_at (compact_text d))
+
 abbrev pub IsCommandAsked : Verb → Option (List ℕ) → List ℕ → BodyAsks → Type 0
 IsCommandAsked verb None bytes asks = asks ≡ bad_body (fault 400 (codes "key"))
 IsCommandAsked verb (Some key) bytes asks =
@@ -159,11 +181,11 @@ IsTelegramAsked bytes asks =
 abbrev pub IsLookAsked : List ℕ → BodyAsks → Type 0
 IsLookAsked bytes asks =
     ((look : Look) × IsLook bytes look × (asks ≡ looks_at (look_object look)))
-    ⊎ ((told : TextFault) × (telegram_fault bytes ≡ Some told)
-    × (asks ≡ unreadable (refusal_of told)))
+    ⊎ ((told : TextFault) × IsLookFault bytes told × (asks ≡ unreadable (refusal_of told)))
 
 abbrev pub IsAskedUnder : Posted → Option (List ℕ) → List ℕ → BodyAsks → Type 0
 IsAskedUnder (posted_command verb) key bytes asks = IsCommandAsked verb key bytes asks
+IsAskedUnder (posted_check verb) key bytes asks = IsCheckAsked verb bytes asks
 IsAskedUnder posted_telegram key bytes asks = IsTelegramAsked bytes asks
 IsAskedUnder posted_look key bytes asks = IsLookAsked bytes asks
 

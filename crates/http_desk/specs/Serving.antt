@@ -1,5 +1,5 @@
 -- The outcome of one connection.
-use Rattle.std.specs.Prelude.{◌≡◌, ◌⊎◌, ℕ, ◌<◌, ◌≤◌, true, Option, Some, None, Result, Ok, Err, List, [], ◌++◌, length, take, drop, codes}
+use Rattle.std.specs.Prelude.{◌≡◌, ◌⊎◌, ℕ, ◌<◌, ◌≤◌, true, false, Option, Some, None, Result, Ok, Err, List, [], ◌++◌, length, take, drop, codes}
 use Rattle.serde_json.specs.Written.{compact_text}
 use Rattle.station_days.specs.Date.{LocalMinute}
 use Rattle.station_core.specs.Given.{Given}
@@ -13,7 +13,7 @@ use Rattle.http_desk.specs.declared.printout.Printout.{Printout}
 use Rattle.http_desk.specs.Reply.{json_answer, refused_data, report_head}
 use Rattle.http_desk.specs.Printouts.{IsPrinted}
 use Rattle.httparse.specs.Grammar.{RequestHead, print_request}
-use Rattle.http_desk.specs.Routes.{Posted, posted_look, got_report}
+use Rattle.http_desk.specs.Routes.{Posted, is_dry, got_report}
 use Rattle.http_desk.specs.Request.{looks_up, sends, head_asks, for_station}
 use Rattle.http_desk.specs.Answer.{head_of, HasHead, SendsWhole, Answers}
 use Rattle.http_desk.specs.Reading.{HasNoHeadYet}
@@ -130,7 +130,8 @@ HasServedShut at came before after r =
 abbrev pub IsPosted : List ℕ → Type 0
 IsPosted bytes =
     (h : RequestHead) × HasHead bytes h × (h.method ≡ codes "POST")
-    × ((size : ℕ) → ¬ (head_asks (head_of h) ≡ sends posted_look size))
+    × ((posted : Posted) (size : ℕ) → head_asks (head_of h) ≡ sends posted size
+    → is_dry posted ≡ false)
 
 -- the bytes begin like each 200, and like no other answer
 abbrev pub BeginsAs200 : List ℕ → Type 0

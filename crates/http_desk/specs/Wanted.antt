@@ -12,7 +12,7 @@ use Rattle.http_desk.specs.declared.wanted.Wanted.TheVariants as wanted
 use Rattle.http_desk.specs.declared.wanted.HeadWants.{HeadWants}
 use Rattle.http_desk.specs.declared.wanted.HeadWants.TheVariants as wants
 use Rattle.http_desk.specs.Fields.{meant}
-use Rattle.http_desk.specs.Routes.{Posted, posted_command, posted_telegram, posted_look, got_report}
+use Rattle.http_desk.specs.Routes.{Posted, posted_command, posted_check, posted_telegram, posted_look, got_report}
 use Rattle.http_desk.specs.Request.{Head, HeadAsks, BodyAsks, looks_up, sends, for_station, IsAskedUnder}
 use Rattle.http_desk.specs.Reply.{Reply, look_reply, report_reply, fault_reply, refusal_reply, answer_reply, waybill_reply, holder_reply, body_reply, body_state}
 use Rattle.http_desk.specs.Answer.{Replied, IsAnsweredAs, Answers}
@@ -52,6 +52,7 @@ pub record WantsNow (asks : HeadAsks) (w : Wanted) : Type 0 where
 
 abbrev pub posted_of : Post → Posted
 posted_of (post.Command verb) = posted_command verb
+posted_of (post.Check verb) = posted_check verb
 posted_of post.Telegram = posted_telegram
 posted_of post.Look = posted_look
 

@@ -3,6 +3,7 @@ ghost use Rattle.std.specs.Prelude.{◌≡◌, IfOk, string_bytes, option_map};
 ghost use Rattle.http.specs.StatusCode.{IsStatusCode};
 ghost use Rattle.serde_json.specs.View.{view};
 ghost use Rattle.serde_json.specs.Written.{compact_text};
+ghost use Rattle.http_desk.specs.Request.{good_data, bad_data};
 ghost use Rattle.http_desk.specs.Reply.{status_line, allow_line, json_fields, json_answer, media_type, report_head, refused_data, pair_data, holding_data, holder_data, since_text, waybill_data};
 ghost use Rattle.reports.specs.Objects.{holder_word, holder_name};
 ghost use Rattle.serde_json.specs.Data.{boolean, string};
@@ -88,6 +89,18 @@ pub(crate) fn refused_text(alloc: Global, refused: u16, detail: &str) -> Result<
         (refused_data refused detail.now)) }
 {
     json!(in alloc; {"detail": detail, "refused": refused})?.to_string(alloc)
+}
+
+pub(crate) fn good_text(alloc: Global) -> Result<String, AllocError>
+    ensures { IfOk result (λ text. string_bytes text ≡ compact_text good_data) }
+{
+    json!(in alloc; {"good": true})?.to_string(alloc)
+}
+
+pub(crate) fn bad_text(alloc: Global, reason: &str) -> Result<String, AllocError>
+    ensures { IfOk result (λ text. string_bytes text ≡ compact_text (bad_data reason.now)) }
+{
+    json!(in alloc; {"good": false, "reason": reason})?.to_string(alloc)
 }
 
 fn holder_word(holder: &Holder) -> &'static str

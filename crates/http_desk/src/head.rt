@@ -95,6 +95,7 @@ pub(crate) fn head_asks(
     };
     match route {
         Route::Command(_) => post(route, method, buf, fields),
+        Route::Check(_) => post(route, method, buf, fields),
         Route::Telegrams => post(route, method, buf, fields),
         Route::Look => post(route, method, buf, fields),
         Route::Waybill => get(route, method),

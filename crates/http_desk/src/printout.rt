@@ -3,7 +3,7 @@ ghost use Rattle.std.specs.Prelude.{◌≡◌, ◌-◌, take, drop, length, opti
 ghost use Rattle.std.specs.Result.{result_ok};
 ghost use Rattle.std.specs.Str.{bytes_eq};
 ghost use Rattle.awb_number.specs.Number.{number_of};
-ghost use Rattle.http_desk.specs.Printouts.{first_part, later_part, waybill_rows, agent_rows, row_number, movement_rows, line_rows, message_rows, flight_rows, rows_of_kind, rows_behind, rows_at, in_form, printout_at};
+ghost use Rattle.http_desk.specs.Printouts.{first_part, later_part, waybill_rows, agent_rows, row_number, movement_rows, line_rows, message_rows, sent_rows, flight_rows, rows_of_kind, rows_behind, rows_at, in_form, printout_at};
 
 use crate::fields::number_told;
 use agent_stock::AgentCode;
@@ -61,6 +61,7 @@ fn waybill_rows(word: &str, number: Awb) -> Option<Listing>
     match word {
         "movements" => Some(Listing::Movements(number)),
         "trail" => Some(Listing::Trail(number)),
+        "sent" => Some(Listing::Sent(number)),
         _ => None,
     }
 }
@@ -116,6 +117,15 @@ fn message_rows(word: &str, number: u32) -> Option<Listing>
     }
 }
 
+fn sent_rows(word: &str, number: u32) -> Option<Listing>
+    ensures { result ≡ sent_rows word.now number }
+{
+    match word {
+        "after" => Some(Listing::SentAfter(number)),
+        _ => None,
+    }
+}
+
 fn flight_rows(day: &str, flight: Flight) -> Option<Listing>
     ensures { result ≡ flight_rows day.now flight }
 {
@@ -151,6 +161,10 @@ fn rows_of_kind(kind: &str, rest: &str) -> Option<Listing>
             let number = row_number(later_part(rest))?;
             message_rows(first_part(rest), number)
         }
+        "sent" => {
+            let number = row_number(later_part(rest))?;
+            sent_rows(first_part(rest), number)
+        }
         _ => None,
     }
 }
@@ -158,10 +172,11 @@ fn rows_of_kind(kind: &str, rest: &str) -> Option<Listing>
 fn rows_behind(path: &str) -> Option<Listing>
     ensures { result ≡ rows_behind path.now }
 {
-    if path == "outbox" {
-        return Some(Listing::All(Report::Pending));
+    match path {
+        "outbox" => Some(Listing::All(Report::Pending)),
+        "station" => Some(Listing::All(Report::Station)),
+        _ => rows_of_kind(first_part(path), later_part(path)),
     }
-    rows_of_kind(first_part(path), later_part(path))
 }
 
 fn rows_at(path: &str) -> Option<Listing>

@@ -1,5 +1,6 @@
 //! The desk's routes.
 ghost use Rattle.std.specs.Prelude.{◌≡◌, ◌∷◌, drop, IfOk, option_map, option_and_then};
+ghost use Rattle.desk_commands.specs.Verb.{verb_called};
 ghost use Rattle.http_desk.specs.Printouts.{as_text};
 ghost use Rattle.http_desk.specs.Routes.{asked_place, desk_rows, page_of, place_told, place_at};
 
@@ -13,6 +14,7 @@ use std::alloc::Global;
 #[derive(Clone, Copy, Debug, PartialEq, Eq)]
 pub enum Page {
     Act,
+    Check,
     Telegrams,
     Look,
     Waybill,
@@ -25,6 +27,7 @@ pub enum Page {
 #[derive(Clone, Copy, Debug, PartialEq, Eq)]
 pub enum Route {
     Command(Verb),
+    Check(Verb),
     Telegrams,
     Look,
     Waybill,
@@ -37,6 +40,7 @@ pub(crate) fn desk_router(alloc: Global) -> Result<Router<Page>, InsertError>
 {
     let mut router = Router::new(alloc);
     router.insert("/v1/act/{verb}", Page::Act)?;
+    router.insert("/v1/check/{verb}", Page::Check)?;
     router.insert("/v1/telegrams", Page::Telegrams)?;
     router.insert("/v1/read", Page::Look)?;
     router.insert("/v1/waybills/{awb}", Page::Waybill)?;
@@ -65,6 +69,12 @@ pub(crate) fn behind(path: &str, count: usize) -> &[u8]
     }
 }
 
+fn verb_behind(path: &str, count: usize) -> Option<Verb>
+    ensures { result ≡ verb_called (drop count path.now) }
+{
+    Verb::read(behind(path, count))
+}
+
 fn as_text(report: Report) -> Printout
     ensures { result ≡ as_text report }
 {
@@ -79,8 +89,12 @@ fn route_at(page: Page, path: &str) -> Option<Route>
 {
     match page {
         Page::Act => {
-            let verb = Verb::read(behind(path, 8))?;
+            let verb = verb_behind(path, 8)?;
             Some(Route::Command(verb))
+        }
+        Page::Check => {
+            let verb = verb_behind(path, 10)?;
+            Some(Route::Check(verb))
         }
         Page::Telegrams => Some(Route::Telegrams),
         Page::Look => Some(Route::Look),

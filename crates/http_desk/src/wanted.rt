@@ -11,7 +11,7 @@ ghost use Rattle.http_desk.specs.Request.{head_asks, own_asks, IsAskedUnder};
 ghost use Rattle.http_desk.specs.Routes.{asked_place, path_of, place_told, routed};
 ghost use Rattle.http_desk.specs.Wanted.{WantsNow, HasWants, WantsAsked, BodyWants, posted_of};
 
-use crate::asked::{Body, command_asked, look_asked, telegram_asked};
+use crate::asked::{Body, check_asked, command_asked, look_asked, telegram_asked};
 use crate::fault::FaultTold;
 use crate::fields::is_foreign;
 use crate::head::{Asks, NOT_FOUND, head_asks};
@@ -31,7 +31,7 @@ pub(crate) enum Wanted<'a> {
     Fault(FaultTold),
     /// Its body isn't a telegram.
     Unreadable(Refusal),
-    /// A dry run of a telegram, as JSON.
+    /// A dry run, as JSON.
     Look(String),
     Waybill(Awb),
     Holder(Awb),
@@ -43,6 +43,7 @@ pub(crate) enum Wanted<'a> {
 #[derive(Clone, Copy, Debug, PartialEq, Eq)]
 pub(crate) enum Post {
     Command(Verb),
+    Check(Verb),
     Telegram,
     Look,
 }
@@ -107,6 +108,7 @@ fn got(route: Route, path: &str) -> Wanted<'static>
         Route::Stock => holder_at(path),
         Route::Report(printout) => Wanted::Report(printout),
         Route::Command(_) => Wanted::Fault(NOT_FOUND),
+        Route::Check(_) => Wanted::Fault(NOT_FOUND),
         Route::Telegrams | Route::Look => Wanted::Fault(NOT_FOUND),
     }
 }
@@ -142,6 +144,7 @@ fn wants_of(asks: &Asks, path: &str) -> HeadWants
         Asks::Got(route) => HeadWants::Now(got(*route, path)),
         Asks::Posted(route, len) => match route {
             Route::Command(verb) => HeadWants::Body(Post::Command(*verb), *len),
+            Route::Check(verb) => HeadWants::Body(Post::Check(*verb), *len),
             Route::Telegrams => HeadWants::Body(Post::Telegram, *len),
             Route::Look => HeadWants::Body(Post::Look, *len),
             _ => HeadWants::Now(Wanted::Fault(NOT_FOUND)),
@@ -186,7 +189,7 @@ pub(crate) fn head_wants(
 }
 
 /// Returns the content of a body.
-fn asked<'a>(
+pub(crate) fn asked<'a>(
     alloc: Global,
     post: Post,
     key: Option<Key>,
@@ -197,6 +200,9 @@ fn asked<'a>(
 {
     if let Post::Command(verb) = post {
         return command_asked(alloc, verb, key, body);
+    }
+    if let Post::Check(verb) = post {
+        return check_asked(alloc, verb, body);
     }
     if let Post::Look = post {
         return look_asked(alloc, body);

@@ -23,16 +23,14 @@ const LOOKS: [&str; 10] = [
     "stock/020-12345723",
 ];
 
-/// The outcome of a connection.
 #[derive(Drop)]
 pub struct Came {
     pub served: Result<Served, ServeFault>,
     pub written: Vec<u8>,
-    /// The number of bytes that weren't read.
     pub unread: usize,
 }
 
-/// Returns a reader of some bytes, at most `most` in one read.
+/// Returns a reader that returns at most `most` bytes a read.
 pub fn sent(bytes: &[u8], most: usize) -> Sent<'_> {
     Sent {
         rest: bytes,
@@ -42,7 +40,7 @@ pub fn sent(bytes: &[u8], most: usize) -> Sent<'_> {
     }
 }
 
-/// Returns a writer of any number of bytes, at most `most` in one write.
+/// Returns a writer that takes at most `most` bytes a write.
 pub fn taken(alloc: Global, most: usize) -> Taken {
     Taken {
         bytes: Vec::new(alloc),
@@ -52,7 +50,6 @@ pub fn taken(alloc: Global, most: usize) -> Taken {
     }
 }
 
-/// Serves one connection.
 pub fn connect(
     alloc: Global,
     station: &mut PlainStation,
@@ -72,7 +69,7 @@ pub fn connect(
     }
 }
 
-/// Serves a connection on which some bytes arrive in one piece.
+/// Serves a connection on which the bytes arrive in one piece.
 pub fn connect_at_once(
     alloc: Global,
     station: &mut PlainStation,
@@ -84,7 +81,6 @@ pub fn connect_at_once(
     connect(alloc, station, at, reader, writer)
 }
 
-/// Returns the state of a station, as the answers to `LOOKS`.
 pub fn state_of(
     alloc: Global,
     station: &mut PlainStation,
@@ -99,7 +95,6 @@ pub fn state_of(
     Ok(state)
 }
 
-/// Returns whether a command is accepted.
 fn acts(
     alloc: Global,
     station: &mut PlainStation,

@@ -2,10 +2,8 @@
 use std::io;
 use std::io::{Read, Write};
 
-/// A reader of some bytes.
 #[derive(Drop)]
 pub struct Sent<'a> {
-    /// The bytes that weren't read yet.
     pub rest: &'a [u8],
     /// The largest number of bytes in one read.
     pub most: usize,
@@ -30,14 +28,12 @@ impl Read for Sent<'_> {
     }
 }
 
-/// The way in which a writer without room stops.
-#[derive(Clone, Copy, Debug, PartialEq, Eq)]
+#[derive(Clone, Copy)]
 pub enum Stop {
     Fails,
     TakesNone,
 }
 
-/// A writer with a limited number of bytes.
 #[derive(Drop)]
 pub struct Taken {
     pub bytes: Vec<u8>,
@@ -50,7 +46,7 @@ pub struct Taken {
 
 impl Write for Taken {
     fn write(&mut self, buf: &[u8]) -> io::Result<usize> {
-        if self.room == 0 && self.stop == Stop::Fails {
+        if self.room == 0 && matches!(self.stop, Stop::Fails) {
             return Err(io::Error::from(io::ErrorKind::Other));
         }
         let count = self.most.min(buf.len()).min(self.room);

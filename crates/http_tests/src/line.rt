@@ -1,9 +1,9 @@
 //! The bytes of a script's line.
 use crate::script::ScriptFault;
 use std::alloc::{AllocError, Global};
+use test_kit::first_word;
 
-/// The bytes after the text of a line.
-#[derive(Clone, Copy, Debug, PartialEq, Eq)]
+#[derive(Clone, Copy)]
 enum End {
     CrLf,
     Lf,
@@ -20,15 +20,6 @@ impl End {
     }
 }
 
-/// Returns the first word of a line, and the text after its space.
-pub fn first_word(line: &str) -> (&str, &str) {
-    match line.split_once(' ') {
-        Some(parts) => parts,
-        None => (line, ""),
-    }
-}
-
-/// Reads a number of repetitions, and the text.
 fn repeated(rest: &str) -> Option<(u32, &str)> {
     let (times, text) = first_word(rest);
     if times.is_empty() {
@@ -83,7 +74,6 @@ fn put_digits(
     }
 }
 
-/// Appends the bytes after a line's sign.
 pub fn put_line(
     alloc: Global,
     bytes: &mut Vec<u8>,

@@ -2,25 +2,20 @@
 use crate::ends::Stop;
 use std::alloc::{AllocError, Global};
 use std::fmt;
+use test_kit::shown;
 
 /// A way of playing a request.
-#[derive(Clone, Copy, Debug, PartialEq, Eq)]
+#[derive(Clone, Copy)]
 pub enum Way {
     InOnePiece,
     ByteByByte,
     InPieces,
     Interrupted,
-    /// Only its first bytes.
     Beginning(usize),
-    /// All of its incomplete prefixes.
     Beginnings,
-    /// With a writer that takes this many bytes.
     Room(usize, Stop),
-    /// With all writers that stop.
     Rooms,
-    /// Once more, after a writer that took this many bytes.
     Again(usize),
-    /// After this many interrupted reads.
     After(u32),
 }
 
@@ -42,23 +37,16 @@ impl fmt::Display for Way {
     }
 }
 
-/// The differences so far.
 #[derive(Drop)]
 pub struct Log {
     alloc: Global,
-    /// Each of them.
     pub text: String,
     pub differences: u64,
     /// The number of requests played.
     pub answers: u64,
 }
 
-fn shown(bytes: &[u8]) -> &str {
-    std::str::from_utf8(bytes).unwrap_or("bytes that are no text")
-}
-
 impl Log {
-    /// Starts before the first request.
     pub fn new(alloc: Global) -> Log {
         Log {
             alloc,
@@ -66,11 +54,6 @@ impl Log {
             differences: 0,
             answers: 0,
         }
-    }
-
-    /// Counts a request.
-    pub fn count(&mut self) {
-        self.answers = self.answers.saturating_add(1);
     }
 
     fn note(
@@ -88,7 +71,6 @@ impl Log {
         self.text.push_str(text.as_str())
     }
 
-    /// Compares bytes.
     pub fn compare(
         &mut self,
         line: u32,
@@ -101,17 +83,5 @@ impl Log {
             return Ok(());
         }
         self.note(line, way, what, shown(wanted), shown(came))
-    }
-
-    /// Compares values as texts.
-    pub fn compare_text(
-        &mut self,
-        line: u32,
-        way: Way,
-        what: &str,
-        wanted: &String,
-        came: &String,
-    ) -> Result<(), AllocError> {
-        self.compare(line, way, what, wanted.as_bytes(), came.as_bytes())
     }
 }

@@ -7,7 +7,6 @@ use http_desk::{ServeFault, Served};
 use plain_station::PlainStation;
 use std::alloc::Global;
 
-/// A request in its story.
 #[derive(Clone, Copy)]
 struct Case<'a> {
     alloc: Global,
@@ -18,13 +17,11 @@ struct Case<'a> {
     wanted: Result<Served, ServeFault>,
 }
 
-/// Returns the status in an answer's first line, after `HTTP/1.1 `.
 fn status_in(answer: &[u8]) -> Option<u16> {
     let digits = answer.get(9..12)?;
     std::str::from_utf8(digits).ok()?.parse::<u16>().ok()
 }
 
-/// Returns the expected outcome of a request.
 fn wanted(step: &Step<'_>) -> Result<Result<Served, ServeFault>, ScriptFault> {
     if step.answer.is_empty() {
         return Ok(Err(ServeFault::Read));
@@ -42,12 +39,10 @@ fn wanted(step: &Step<'_>) -> Result<Result<Served, ServeFault>, ScriptFault> {
 }
 
 impl Case<'_> {
-    /// Returns a station after all earlier steps of the story.
     fn station(&self) -> Result<PlainStation, ScriptFault> {
         station_after(self.alloc, self.story, self.before)
     }
 
-    /// Compares the outcome of a connection.
     fn check(
         &self,
         log: &mut Log,
@@ -60,7 +55,7 @@ impl Case<'_> {
         log.compare(line, way, "what was written", written, &came.written)?;
         let ends = format!(in self.alloc; "{served:?}")?;
         let ended = format!(in self.alloc; "{:?}", came.served)?;
-        log.compare_text(line, way, "how it ended", &ends, &ended)?;
+        log.compare(line, way, "how it ended", ends.as_bytes(), ended.as_bytes())?;
         Ok(())
     }
 
@@ -93,8 +88,7 @@ impl Case<'_> {
         Ok(state_of(self.alloc, &mut station, self.step.at)?)
     }
 
-    /// Plays the request in reads of at most `most` bytes with interrupted reads between them,
-    /// answered one byte a write.
+    /// Plays reads of at most `most` bytes with pauses between them, answered one byte a write.
     fn play_reads(
         &self,
         log: &mut Log,
@@ -127,7 +121,7 @@ impl Case<'_> {
     }
 
     fn check_unread(&self, log: &mut Log, way: Way, unread: usize) -> Result<(), ScriptFault> {
-        if self.step.ask == Ask::Request(Care::Early) {
+        if matches!(self.step.ask, Ask::Request(Care::Early)) {
             return Ok(());
         }
         let wanted = format!(in self.alloc;
@@ -135,35 +129,34 @@ impl Case<'_> {
             self.step.sent.len().saturating_sub(self.step.needed)
         )?;
         let came = format!(in self.alloc; "{unread}")?;
-        log.compare_text(
+        log.compare(
             self.step.line,
             way,
             "bytes that weren't read",
-            &wanted,
-            &came,
+            wanted.as_bytes(),
+            came.as_bytes(),
         )?;
         Ok(())
     }
 
-    /// Returns whether the request is answered after its first `count` bytes; `was_whole` says
-    /// whether it was after one byte fewer.
+    /// Returns whether the request is answered after its first `count` bytes, given whether it was
+    /// after one byte fewer.
     fn is_whole(&self, count: usize, was_whole: bool, came: &Came) -> bool {
-        if self.step.ask == Ask::Request(Care::Early) {
+        if matches!(self.step.ask, Ask::Request(Care::Early)) {
             return was_whole || came.served != Err(ServeFault::Read);
         }
         count >= self.step.needed
     }
 
-    /// Returns whether a prefix of `count` bytes out of `all` is played.
+    /// Returns whether a prefix of `count` of `all` bytes is played.
     fn plays(&self, count: usize, all: usize) -> bool {
-        if self.step.ask == Ask::Request(Care::Every) {
+        if matches!(self.step.ask, Ask::Request(Care::Every)) {
             return true;
         }
         count == 0 || count == all / 2 || count == all || count.saturating_add(1) == all
     }
 
-    /// Plays prefixes of the request. Incomplete ones leave the station unchanged, and any other is
-    /// answered like the whole request.
+    /// Plays prefixes of the request. Incomplete ones change nothing.
     fn play_beginnings(&self, log: &mut Log, before: &[u8]) -> Result<(), ScriptFault> {
         let mut station = self.station()?;
         let mut is_whole = false;
@@ -190,7 +183,7 @@ impl Case<'_> {
         self.check_state(log, Way::Beginnings, before, &mut station)
     }
 
-    /// Writes its answer to a writer with room for these first bytes.
+    /// Writes the answer to a writer with room for these first bytes.
     fn play_room(
         &self,
         log: &mut Log,
@@ -210,8 +203,7 @@ impl Case<'_> {
         self.check(log, Way::Room(room, stop), ends, written, &came)
     }
 
-    /// Does the same on a separate station, which is then as after the whole answer, and answers
-    /// the same request in the same way.
+    /// Does the same on a separate station, which then answers the same request in the same way.
     fn play_room_alone(
         &self,
         log: &mut Log,
@@ -227,7 +219,6 @@ impl Case<'_> {
         self.check_whole(log, Way::Again(room), &again)
     }
 
-    /// Writes its answer to a writer that stops after these first bytes.
     fn play_stop(
         &self,
         log: &mut Log,
@@ -243,8 +234,7 @@ impl Case<'_> {
         }
     }
 
-    /// Plays writers that take a prefix of the answer. If the request changes nothing, they share a
-    /// station.
+    /// Plays writers that stop. If the request changes nothing, they share a station.
     fn play_rooms(&self, log: &mut Log, after: &[u8]) -> Result<(), ScriptFault> {
         let mut station = self.station()?;
         for room in 0..self.step.answer.len() {
@@ -272,7 +262,6 @@ impl Case<'_> {
         self.check_whole(log, Way::After(pauses), &came)
     }
 
-    /// Plays the request in all ways.
     fn play(&self, log: &mut Log, care: Care) -> Result<(), ScriptFault> {
         if let Care::After(pauses) = care {
             return self.play_after(log, pauses);
@@ -283,7 +272,7 @@ impl Case<'_> {
             let line = self.step.line;
             log.compare(line, Way::InOnePiece, "the station", &before, &after)?;
         }
-        if care == Care::Long {
+        if matches!(care, Care::Long) {
             return self.play_reads(log, Way::InPieces, 64, 0, &after);
         }
         self.play_reads(log, Way::ByteByByte, 1, 0, &after)?;
@@ -307,12 +296,11 @@ fn play_story(alloc: Global, story: &Story<'_>, log: &mut Log) -> Result<(), Scr
             wanted: wanted(step)?,
         };
         case.play(log, care)?;
-        log.count();
+        log.answers = log.answers.saturating_add(1);
     }
     Ok(())
 }
 
-/// Plays a script.
 pub fn play(alloc: Global, stories: &[Story<'_>], log: &mut Log) -> Result<(), ScriptFault> {
     for story in stories {
         play_story(alloc, story, log)?;

@@ -1,22 +1,18 @@
 //! Reading scripts, line by line.
-use crate::line::{first_word, put_line};
+use crate::line::put_line;
 use crate::script::{Ask, Care, ScriptFault, Step, Story};
-use desk_commands::Verb;
 use imp_fields::Airport;
-use jiff::civil::DateTime;
-use station_core::Key;
 use station_days::Moment;
 use std::alloc::Global;
+use test_kit::{act, body, first_word, moment};
 
-#[derive(Clone, Copy, Debug, PartialEq, Eq)]
+#[derive(Clone, Copy)]
 enum Statement {
     Station(Airport),
     At(Moment),
-    /// A command or a request.
     Ask(Ask),
 }
 
-/// The part of a script read so far.
 #[derive(Drop)]
 struct Script<'a> {
     alloc: Global,
@@ -24,33 +20,6 @@ struct Script<'a> {
     stories: Vec<Story<'a>>,
 }
 
-/// Reads a moment such as `2026-01-12 10:30`.
-fn moment(text: &str) -> Option<Moment> {
-    let time = text.parse::<DateTime>().ok()?;
-    let day = u32::try_from(time.date().to_plain().to_unix_epoch_day()).ok()?;
-    let hour = u16::try_from(time.hour()).ok()?;
-    let minute = u16::try_from(time.minute()).ok()?;
-    Moment::new(day, hour.checked_mul(60)?.checked_add(minute)?)
-}
-
-/// Reads a command: its verb and its key.
-fn act(rest: &str) -> Option<Ask> {
-    let (verb, rest) = first_word(rest);
-    let (key, _body) = first_word(rest);
-    let verb = Verb::read(verb.as_bytes())?;
-    let key = Key::read(key.as_bytes())?;
-    Some(Ask::Act(verb, key))
-}
-
-/// Returns the text after the third space of a line: the body of a command.
-fn body(line: &str) -> &str {
-    let (_word, rest) = first_word(line);
-    let (_verb, rest) = first_word(rest);
-    let (_key, body) = first_word(rest);
-    body
-}
-
-/// Reads how a request is played.
 fn care(rest: &str) -> Option<Care> {
     match rest {
         "" => Some(Care::Whole),
@@ -69,7 +38,10 @@ fn read_statement(line: &str) -> Option<Statement> {
     match word {
         "station" => Some(Statement::Station(Airport::read(rest.as_bytes())?)),
         "at" => Some(Statement::At(moment(rest)?)),
-        "act" => Some(Statement::Ask(act(rest)?)),
+        "act" => {
+            let (verb, key) = act(rest)?;
+            Some(Statement::Ask(Ask::Act(verb, key)))
+        }
         "request" => Some(Statement::Ask(Ask::Request(care(rest)?))),
         _ => None,
     }
@@ -80,7 +52,6 @@ fn bad<T>(line: u32, why: &'static str) -> Result<T, ScriptFault> {
 }
 
 impl<'a> Script<'a> {
-    /// Returns the request to which a line belongs.
     fn above(&mut self, line: u32) -> Result<&mut Step<'a>, ScriptFault> {
         let step = match self.stories.last_mut() {
             Some(story) => story.steps.last_mut(),
@@ -95,7 +66,6 @@ impl<'a> Script<'a> {
         }
     }
 
-    /// Adds bytes of a request that are needed for its answer.
     fn add_needed(&mut self, line: u32, rest: &str) -> Result<(), ScriptFault> {
         let alloc = self.alloc;
         let step = self.above(line)?;
@@ -107,7 +77,6 @@ impl<'a> Script<'a> {
         Ok(())
     }
 
-    /// Adds bytes after a request.
     fn add_behind(&mut self, line: u32, rest: &str) -> Result<(), ScriptFault> {
         let alloc = self.alloc;
         let step = self.above(line)?;
@@ -129,10 +98,6 @@ impl<'a> Script<'a> {
             return Err(ScriptFault::Memory);
         }
         Ok(())
-    }
-
-    fn set_moment(&mut self, at: Moment) {
-        self.at = Some(at);
     }
 
     fn add_ask(&mut self, line: u32, ask: Ask, body: &'a str) -> Result<(), ScriptFault> {
@@ -157,7 +122,6 @@ impl<'a> Script<'a> {
         Ok(())
     }
 
-    /// Adds a statement, with its body if it is a command.
     fn add_statement(
         &mut self,
         line: u32,
@@ -167,7 +131,7 @@ impl<'a> Script<'a> {
         match statement {
             Statement::Station(here) => self.add_station(here),
             Statement::At(at) => {
-                self.set_moment(at);
+                self.at = Some(at);
                 Ok(())
             }
             Statement::Ask(ask) => self.add_ask(line, ask, body),
@@ -194,7 +158,6 @@ impl<'a> Script<'a> {
     }
 }
 
-/// Reads a script.
 pub fn read_script(alloc: Global, text: &str) -> Result<Vec<Story<'_>>, ScriptFault> {
     let mut script = Script {
         alloc,

@@ -1,17 +1,17 @@
-//! The service on a port of this machine, with its clients, in one process and one thread.
-//!
-//! A case is printed with its name, with the lines of each answer after `|`, and with the end of
-//! the service. The connections of a case wait in the listener's queue until they are served.
+//! The service on a port of this machine, with its clients, in one thread: the connections of a
+//! case wait in the listener's queue.
 mod clock;
 mod failing;
 
+use crate::desk::taken;
+use crate::ends::Taken;
 use clock::Stepped;
 use desk_clock::Zone;
 use desk_server::{ServerFault, Setting, listen, serve};
 use failing::Failing;
 use imp_fields::Airport;
 use plain_station::PlainStation;
-use station_core::Keeper;
+use station_core::{Counted, Keeper};
 use std::cell::Cell;
 use std::io;
 use std::io::{ErrorKind, Write};
@@ -21,20 +21,38 @@ use std::time::{Duration, Instant};
 /// 2026-01-12 10:30, in seconds since 1970-01-01.
 const MORNING: u64 = 1_768_213_800;
 
-/// A request that takes in ten numbers.
 const TAKE_IN: &str =
     "POST /v1/act/take-in HTTP/1.1\r\nHost: desk\r\nRequest-Key: k1\r\nContent-Length: 48\r\n\r\n\
 {\"count\":10,\"prefix\":\"020\",\"serial\":\"1234567\"}  ";
 
-/// A request that issues three of them to an agent.
 const ISSUE: &str =
     "POST /v1/act/issue HTTP/1.1\r\nHost: desk\r\nRequest-Key: k2\r\nContent-Length: 62\r\n\r\n\
 {\"agent\":\"ACME\",\"count\":3,\"prefix\":\"020\",\"serial\":\"1234570\"}  ";
 
-/// A request for the holder of one of them.
 const HOLDER: &str = "GET /v1/stock/020-12345675 HTTP/1.1\r\nHost: desk\r\n\r\n";
 
 const STOCK: &str = "GET /v1/reports/stock HTTP/1.1\r\nHost: desk\r\n\r\n";
+
+/// A command without one of its fields; in the name of another, a byte that isn't printable.
+const BAD_BODY: &str =
+    "POST /v1/act/issue HTTP/1.1\r\nRequest-Key: k3\r\nContent-Length: 16\r\n\r\n{\"a\u{7f}gnt\":\"ACME\"}";
+
+/// The same without a key: its body isn't read.
+const BAD_KEY: &str =
+    "POST /v1/act/issue HTTP/1.1\r\nContent-Length: 16\r\n\r\n{\"a\u{7f}gnt\":\"ACME\"}";
+
+/// A waybill with a wrong check digit.
+const BAD_TELEGRAM: &str =
+    "POST /v1/telegrams HTTP/1.1\r\nContent-Length: 34\r\n\r\nFWB/16\n020-12345674FRAJFK/T10K100\n";
+
+/// A manifest of a day that no year has, which only the station refuses.
+const BAD_DATE: &str =
+    "POST /v1/telegrams HTTP/1.1\r\nContent-Length: 68\r\n\r\nFFM/8\n1/BA902/31FEB/LHR\nFRA\n\
+020-12345675LHRFRA/T10K100.0/CARGO\nLAST\n";
+
+/// The check of the same body: its answer has the reason.
+const CHECK: &str =
+    "POST /v1/check/issue HTTP/1.1\r\nContent-Length: 16\r\n\r\n{\"a\u{7f}gnt\":\"ACME\"}";
 
 /// Returns a clock that never advances.
 fn still(shown: u64) -> Stepped {
@@ -53,7 +71,6 @@ fn ask(rt: &HostRuntime, address: SocketAddr, request: &str) -> io::Result<TcpSt
     Ok(client)
 }
 
-/// Prints the answer, up to the connection's end.
 fn tell(rt: &HostRuntime, client: TcpStream) -> io::Result<()> {
     let text = match io::read_to_string(rt.alloc(), client) {
         Ok(text) => text,
@@ -68,11 +85,21 @@ fn tell(rt: &HostRuntime, client: TcpStream) -> io::Result<()> {
     Ok(())
 }
 
-/// Serves a number of connections to a station, and closes the listener.
+/// Prints what was written to standard error.
+fn tell_errors(rt: &HostRuntime, errors: Counted<Taken>) -> io::Result<()> {
+    let Taken { bytes, .. } = errors.into_inner();
+    for line in std::str::from_utf8(&bytes).unwrap_or("no text").lines() {
+        println!(rt; "! {line}")?;
+    }
+    Ok(())
+}
+
+/// Serves a number of connections, and closes the listener.
 fn serve_all<K: Keeper>(
     rt: &HostRuntime,
     clock: &Stepped,
     station: &mut K,
+    errors: &mut Counted<Taken>,
     listener: TcpListener,
     count: usize,
 ) -> io::Result<Result<(), ServerFault>> {
@@ -85,7 +112,7 @@ fn serve_all<K: Keeper>(
         clock,
         zone: &zone,
     };
-    Ok(serve(rt, &setting, station, &listener, count))
+    Ok(serve(rt, &setting, station, errors, &listener, count))
 }
 
 fn play<K: Keeper>(
@@ -95,21 +122,34 @@ fn play<K: Keeper>(
     station: &mut K,
     requests: &[&str],
 ) -> io::Result<()> {
+    let errors = taken(rt.alloc(), usize::MAX);
+    play_over(rt, name, clock, station, errors, requests)
+}
+
+fn play_over<K: Keeper>(
+    rt: &HostRuntime,
+    name: &str,
+    clock: &Stepped,
+    station: &mut K,
+    errors: Taken,
+    requests: &[&str],
+) -> io::Result<()> {
     println!(rt; "{name}")?;
+    let mut errors = Counted::new(errors);
     let listener = listen(rt, 0)?;
     let address = listener.local_addr()?;
     let mut clients = Vec::new(rt.alloc());
     for request in requests {
         clients.push(ask(rt, address, request)?)?;
     }
-    let ended = serve_all(rt, clock, station, listener, requests.len())?;
+    let ended = serve_all(rt, clock, station, &mut errors, listener, requests.len())?;
     for client in clients {
         tell(rt, client)?;
     }
+    tell_errors(rt, errors)?;
     println!(rt; "{ended:?}")
 }
 
-/// Returns a request with tens of bytes after its head, all of which are sent.
 fn long_request(rt: &HostRuntime, tens: u32) -> io::Result<String> {
     let mut request = format!(in rt.alloc();
         "POST /v1/telegrams HTTP/1.1\r\nContent-Length: {tens}0\r\n\r\n"
@@ -120,8 +160,8 @@ fn long_request(rt: &HostRuntime, tens: u32) -> io::Result<String> {
     Ok(request)
 }
 
-/// Plays eight connections that send nothing before one that does. They are given up together, so
-/// the service ends within eight seconds.
+/// Plays eight silent connections before one that asks. They are given up together, so the service
+/// ends within eight seconds.
 fn play_silent(rt: &HostRuntime, station: &mut PlainStation) -> io::Result<()> {
     println!(rt; "eight connections that send nothing")?;
     let listener = listen(rt, 0)?;
@@ -132,7 +172,9 @@ fn play_silent(rt: &HostRuntime, station: &mut PlainStation) -> io::Result<()> {
     }
     clients.push(ask(rt, address, HOLDER)?)?;
     let begun = Instant::now(rt)?;
-    let ended = serve_all(rt, &still(MORNING), station, listener, clients.len())?;
+    let mut errors = Counted::new(taken(rt.alloc(), 0));
+    let count = clients.len();
+    let ended = serve_all(rt, &still(MORNING), station, &mut errors, listener, count)?;
     let is_soon = begun.elapsed(rt)? < Duration::from_secs(8);
     for client in clients {
         tell(rt, client)?;
@@ -169,7 +211,20 @@ fn play_slow(rt: &HostRuntime, station: &mut PlainStation) -> io::Result<()> {
     )
 }
 
-/// Plays a store that fails at its second input: that is answered 503, and the service ends.
+/// Plays bodies that are refused, once with a standard error that fails.
+fn play_refused(rt: &HostRuntime, station: &mut PlainStation) -> io::Result<()> {
+    let clock = still(MORNING);
+    let bad = [BAD_BODY, BAD_KEY, BAD_TELEGRAM, BAD_DATE, CHECK];
+    play(rt, "bodies that are refused", &clock, station, &bad)?;
+    let full = Taken {
+        room: 0,
+        ..taken(rt.alloc(), usize::MAX)
+    };
+    let name = "the same, with a standard error that fails";
+    play_over(rt, name, &clock, station, full, &bad)
+}
+
+/// Plays a store that fails at its second input: 503, and the service ends.
 fn play_failing(rt: &HostRuntime, here: Airport) -> io::Result<()> {
     let mut station = Failing::new(PlainStation::new(rt.alloc(), here), 1);
     let day = [TAKE_IN, ISSUE, HOLDER];
@@ -182,7 +237,6 @@ fn play_failing(rt: &HostRuntime, here: Airport) -> io::Result<()> {
     )
 }
 
-/// Plays the cases of a store that doesn't fail.
 fn play_all(rt: &HostRuntime, here: Airport) -> io::Result<()> {
     let mut station = PlainStation::new(rt.alloc(), here);
     let clock = still(MORNING);
@@ -193,6 +247,7 @@ fn play_all(rt: &HostRuntime, here: Airport) -> io::Result<()> {
     let long = long_request(rt, 7000)?;
     let longs = [long.as_str(), HOLDER];
     play(rt, "a body that is too long", &clock, &mut station, &longs)?;
+    play_refused(rt, &mut station)?;
     play_slow(rt, &mut station)?;
     play_silent(rt, &mut station)?;
     let early = still(0);
@@ -205,9 +260,8 @@ fn play_all(rt: &HostRuntime, here: Airport) -> io::Result<()> {
     )
 }
 
-/// Serves stations over loopback, sends them requests, and prints each answer. The output is
-/// compared with the `stdout` of the program that calls this. It fails if a socket or printing
-/// fails, or memory runs out.
+/// Plays the service over loopback, and prints each answer and each end. It fails if a socket or
+/// printing fails, or memory runs out.
 pub fn run_service(rt: &HostRuntime) -> io::Result<()> {
     let Some(here) = Airport::read(b"FRA") else {
         return Err(io::Error::from(ErrorKind::InvalidInput));

@@ -1,10 +1,12 @@
 //! Why a body says no command of its verb.
-ghost use Rattle.std.specs.Prelude.{IfOk, codes, string_bytes};
+ghost use Rattle.std.specs.Prelude.{IfOk, IsTrue, codes, string_bytes};
+ghost use Rattle.std.specs.List.{list_all};
+ghost use Rattle.imp_fields.specs.Characters.{is_printable};
 ghost use Rattle.input_reasons.specs.Reason.{IsReason};
 
 use crate::field::fields_words;
 use crate::member::{kind_words, member_words};
-use crate::shown::{quoted, reason_line};
+use crate::shown::{printable, quoted, reason_line};
 use desk_commands::{Field, Verb};
 use imp_fields::MOST_BYTES;
 use serde_json::{Error, Value};
@@ -115,4 +117,14 @@ pub fn body_reason(alloc: Global, verb: Verb, bytes: &[u8]) -> Result<String, Al
 {
     let words = body_words(alloc, verb, bytes)?;
     reason_line(alloc, "body: ", words.as_str())
+}
+
+/// Returns the words of that reason alone.
+///
+/// Returns [`AllocError`] when out of memory.
+pub fn body_fault(alloc: Global, verb: Verb, bytes: &[u8]) -> Result<String, AllocError>
+    ensures { IfOk result (λ words. IsTrue (list_all is_printable (string_bytes words))) }
+{
+    let words = body_words(alloc, verb, bytes)?;
+    printable(alloc, words.as_bytes())
 }

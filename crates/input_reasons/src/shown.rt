@@ -44,7 +44,7 @@ fn push_shown(text: &mut String, byte: u8) -> Result<(), AllocError>
 }
 
 /// Bytes as printable ASCII: each that isn't is written as `\x..`.
-fn printable(alloc: Global, bytes: &[u8]) -> Result<String, AllocError>
+pub(crate) fn printable(alloc: Global, bytes: &[u8]) -> Result<String, AllocError>
     ensures { IfOk result (λ text. IsTrue (list_all is_printable (string_bytes text))) }
 {
     let mut text = String::new(alloc);

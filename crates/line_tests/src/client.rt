@@ -14,22 +14,16 @@ use std::io;
 use std::io::{ErrorKind, Read, Write};
 use test_kit::{Narrow, shown};
 
-/// The separator before each connection of a script.
 const NEXT: &str = "\n==\n";
 
-/// The end of a connection after its bytes.
 #[derive(Clone, Copy, Drop)]
 enum End {
-    /// The connection ends.
     Closed,
-    /// A read fails.
     Broken,
-    /// A read times out.
     Late,
 }
 
-/// A connection: the bytes left to read, the largest number in one read, its end, and the number of
-/// bytes of a request that it takes before a write fails.
+/// A connection: the bytes left to read, at most `step` in one read, and the bytes that it takes.
 #[derive(Clone, Copy, Drop)]
 struct Play<'a> {
     left: &'a [u8],
@@ -38,7 +32,6 @@ struct Play<'a> {
     room: usize,
 }
 
-/// Returns the connection in a part of a script, or `None` if it is refused.
 fn played(part: &str) -> Option<Play<'_>> {
     let (words, bytes) = part.split_once(':')?;
     let whole = usize::MAX;
@@ -63,10 +56,9 @@ fn played(part: &str) -> Option<Play<'_>> {
     })
 }
 
-/// The outcome of a try: the bytes sent, or that it was refused.
+/// The bytes sent at a try, unless it was refused.
 type Try = Option<Vec<u8>>;
 
-/// The open connection, and the tries so far.
 #[derive(Drop)]
 struct Wire<'a> {
     alloc: Global,
@@ -89,7 +81,6 @@ impl<'a> Wire<'a> {
         }
     }
 
-    /// Opens a connection, and records the try.
     fn open_next(&self, next: Option<Play<'a>>) -> Option<()> {
         let sent = next.map(|_| Vec::new(self.alloc));
         self.tries.try_borrow_mut().ok()?.push(sent).ok()?;
@@ -117,7 +108,6 @@ impl<'a> Wire<'a> {
         }
     }
 
-    /// Returns how many bytes the open connection takes.
     fn take(&self, len: usize) -> Option<usize>
         ensures { IfSome result (λ count. count ≤ len) }
     {
@@ -132,7 +122,6 @@ impl<'a> Wire<'a> {
         }
     }
 
-    /// Records bytes that were sent.
     fn note(&self, bytes: &[u8]) -> Option<()> {
         let mut tries = self.tries.try_borrow_mut().ok()?;
         let sent = tries.last_mut()?.as_mut()?;
@@ -148,7 +137,6 @@ impl<'a> Wire<'a> {
     }
 }
 
-/// The connections of a script, one after another. After the last one each is refused.
 #[derive(Drop)]
 struct Scripted<'w, 'a> {
     wire: &'w Wire<'a>,
@@ -157,7 +145,6 @@ struct Scripted<'w, 'a> {
     opened: u64,
 }
 
-/// Returns the next connection of a script, and advances the script.
 fn next_play<'a>(script: &mut Option<&'a str>) -> Option<Play<'a>> {
     let left = (*script)?;
     match left.split_once(NEXT) {
@@ -195,7 +182,6 @@ impl Connect for Scripted<'_, '_> {
     }
 }
 
-/// One end of the open connection.
 #[derive(Drop)]
 struct PlayedEnd<'w, 'a> {
     wire: &'w Wire<'a>,
@@ -220,7 +206,6 @@ impl Write for PlayedEnd<'_, '_> {
     }
 }
 
-/// Runs one case and returns its result as text.
 pub fn answer(alloc: Global, asked: &str, text: &[u8]) -> Option<String> {
     match asked {
         "ask" => ask(alloc, shown(text), usize::MAX),
@@ -231,8 +216,7 @@ pub fn answer(alloc: Global, asked: &str, text: &[u8]) -> Option<String> {
     }
 }
 
-/// Runs a call: its words are on the first line, its input after that, and then its connections.
-/// Its output takes `room` bytes.
+/// Runs a call: its words are on the first line, then its input and its connections.
 fn ask(alloc: Global, text: &str, room: usize) -> Option<String> {
     let (call, script) = match text.split_once(NEXT) {
         Some((call, script)) => (call, Some(script)),
@@ -246,7 +230,6 @@ fn ask(alloc: Global, text: &str, room: usize) -> Option<String> {
     }
 }
 
-/// Runs a command line with the service of a script.
 fn run(
     alloc: Global,
     line: &Line<'_>,
@@ -287,8 +270,7 @@ fn run(
     with_tries(said, tries.as_slice())
 }
 
-/// Returns the end of a call, and the bytes sent at each try, or that they are those of the try
-/// before.
+/// Appends the bytes sent at each try, or that they are those of the try before.
 fn with_tries(mut said: String, tries: &[Try]) -> Option<String> {
     let mut before: Option<&[u8]> = None;
     for one in tries {
@@ -303,7 +285,6 @@ fn with_tries(mut said: String, tries: &[Try]) -> Option<String> {
     Some(said)
 }
 
-/// Appends the bytes sent at a try.
 fn push_sent(said: &mut String, sent: &[u8], before: Option<&[u8]>) -> Option<()> {
     if before == Some(sent) {
         return said.push_str(" again").ok();

@@ -12,14 +12,12 @@ use station_files::{OLD_TREES, OwnTrees, open_beside, open_listed, open_new, sta
 use std::alloc::Global;
 use test_kit::{Narrow, say, shown};
 
-/// A log and a database file.
 #[derive(Drop)]
 pub struct FileBytes {
     log: Vec<u8>,
     db: Vec<u8>,
 }
 
-/// A connection to the files, by how they were opened.
 #[derive(Drop)]
 enum Opened {
     Whole(Connection<FileStore<Memory>>, &'static str),
@@ -34,7 +32,6 @@ fn file_of(alloc: Global, bytes: &[u8]) -> Option<Memory> {
 }
 
 impl FileBytes {
-    /// Returns empty files.
     pub fn new(alloc: Global) -> FileBytes {
         FileBytes {
             log: Vec::new(alloc),
@@ -42,7 +39,6 @@ impl FileBytes {
         }
     }
 
-    /// Returns the files, opened for one call.
     fn files(&self, alloc: Global) -> Option<Files<Memory>> {
         Some(Files {
             log: file_of(alloc, self.log.as_slice())?,
@@ -50,14 +46,12 @@ impl FileBytes {
         })
     }
 
-    /// Keeps the bytes of the files after a call.
     fn take(&mut self, alloc: Global, files: &Files<Memory>) -> Option<()> {
         self.log = files.log.bytes().to_vec(alloc).ok()?;
         self.db = files.db.bytes().to_vec(alloc).ok()?;
         Some(())
     }
 
-    /// Opens the files like the library does.
     fn open_any(&self, alloc: Global) -> Option<Connection<FileStore<Memory>>> {
         let files = self.files(alloc)?;
         if !files.may_be_used() {
@@ -66,7 +60,7 @@ impl FileBytes {
         Connection::open_files(alloc, files, Options::new(7)).ok()
     }
 
-    /// Opens the files by the first `made` trees of a station, in any order, with others.
+    /// Opens the files by the first `made` trees of a station, in any order.
     fn open_beside(&self, alloc: Global, made: usize) -> Option<Opened> {
         let files = self.files(alloc)?;
         if !files.may_be_used() {
@@ -78,7 +72,6 @@ impl FileBytes {
         }
     }
 
-    /// Opens the files by the trees of a station, in order.
     fn open_in_order(&self, alloc: Global) -> Option<Opened> {
         let files = self.files(alloc)?;
         if !files.may_be_used() {
@@ -90,7 +83,6 @@ impl FileBytes {
         }
     }
 
-    /// Opens the files for a new station.
     fn begin(&self, alloc: Global) -> Option<Opened> {
         let files = self.files(alloc)?;
         if !files.may_be_used() {
@@ -118,7 +110,6 @@ impl FileBytes {
         }
     }
 
-    /// Opens the files for a command line, by a list of their trees or like the library does.
     fn open(&self, alloc: Global, line: &Line<'_>) -> Option<Opened> {
         let opened = if is_opening(line) {
             self.begin(alloc)
@@ -132,7 +123,6 @@ impl FileBytes {
     }
 }
 
-/// Runs one case and returns its result as text.
 pub fn answer(alloc: Global, bytes: &mut FileBytes, asked: &str, text: &[u8]) -> Option<String> {
     match asked {
         "new-files" => {
@@ -145,8 +135,7 @@ pub fn answer(alloc: Global, bytes: &mut FileBytes, asked: &str, text: &[u8]) ->
     }
 }
 
-/// Runs SQL statements in the files, like another program. Returns the number of rows that the last
-/// one wrote.
+/// Runs SQL statements like another program. Returns the number of rows that the last one wrote.
 fn statements(alloc: Global, bytes: &mut FileBytes, text: &str) -> Option<String> {
     let mut conn = bytes.open_any(alloc)?;
     let mut rows = 0;
@@ -158,8 +147,7 @@ fn statements(alloc: Global, bytes: &mut FileBytes, text: &str) -> Option<String
     format!(in alloc; "{rows}").ok()
 }
 
-/// Runs a call over the files: its words are on the first line, its input after that. Returns how
-/// the files were opened, the status, the output, and standard error.
+/// Runs a call, and returns how the files were opened, and its end.
 fn call(alloc: Global, bytes: &mut FileBytes, text: &str) -> Option<String> {
     let (first, input) = text.split_once('\n').unwrap_or((text, ""));
     let words = words_of(alloc, first)?;
@@ -169,7 +157,6 @@ fn call(alloc: Global, bytes: &mut FileBytes, text: &str) -> Option<String> {
     }
 }
 
-/// Runs a command line over the files.
 fn run(alloc: Global, bytes: &mut FileBytes, line: &Line<'_>, input: &str) -> Option<String> {
     let opened = bytes.open(alloc, line)?;
     let turns = Turns::new();

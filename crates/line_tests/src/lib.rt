@@ -1,8 +1,5 @@
-//! Calls of the program: the meaning of their words, their output, and their end, each as in a file
-//! of cases.
-//!
-//! The station of `--db` is in memory, or in two files in memory, and is shared by all calls of a
-//! file of cases. The service of `--at` is a script of connections.
+//! Calls of the program: the meaning of their words, their output, and their end. All calls of a
+//! file share the station of `--db`.
 #![tactic(auto)]
 
 mod calls;
@@ -19,7 +16,7 @@ use std::alloc::Global;
 use std::io;
 use test_kit::{Answers, go_through_file};
 
-/// The files of cases, in the order in which they run.
+/// The files of cases, in the order of their runs.
 pub const FILES: &[&str] = &[
     "words",
     "clock",
@@ -32,7 +29,6 @@ pub const FILES: &[&str] = &[
     "client",
 ];
 
-/// The answers to the cases of a file.
 #[derive(Drop)]
 struct FileAnswers<'a> {
     alloc: Global,
@@ -59,8 +55,7 @@ impl Answers for FileAnswers<'_> {
     }
 }
 
-/// Runs a file of cases, and prints the failed ones, or the number of cases. Returns whether all
-/// passed. It fails if printing fails or memory runs out.
+/// Runs a file of cases like `go_through_file`.
 pub fn run_file(rt: &HostRuntime, file: &str) -> Result<bool, io::Error> {
     let mut answers = FileAnswers {
         alloc: rt.alloc(),

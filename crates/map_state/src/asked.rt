@@ -92,17 +92,17 @@ fn put_message(
     Ok(())
 }
 
-/// Returns the messages after the last confirmed one, with their numbers.
+/// Returns the messages with a greater number.
 pub(crate) fn messages(
     alloc: Global,
     outbox: &[Vec<u8>],
-    confirmed: u32,
+    after: u32,
 ) -> Result<Vec<Message>, StoreFault>
     ensures { IfOk result (λ rows. rows.items
-        ≡ numbered message (confirmed + 1) (drop confirmed (texts_in outbox.now))) }
+        ≡ numbered message (after + 1) (drop after (texts_in outbox.now))) }
 {
     let mut rows = Vec::new(alloc);
-    for at in (confirmed as usize).min(outbox.len())..outbox.len() {
+    for at in (after as usize).min(outbox.len())..outbox.len() {
         let Ok(number) = u32::try_from(at + 1) else {
             return Err(StoreFault);
         };

@@ -15,8 +15,8 @@ use shipment_machine::{
 };
 use state_store::{FlightKey, StateStore, StoreFault, WaybillQuery};
 use station_core::{
-    BookQuery, BookRow, Expectation, ExpectedQuery, KeptReply, Key, Load, Message, NotedFlight,
-    Sink, Sizes, TrailQuery, TrailRow, WaybillBalances, expectations_for, hand_out,
+    BookQuery, BookRow, Expectation, ExpectedQuery, KeptReply, Key, Load, Message, MessageQuery,
+    NotedFlight, Sink, Sizes, TrailQuery, TrailRow, WaybillBalances, expectations_for, hand_out,
 };
 
 /// Returns the length of a list, if its rows can be numbered.
@@ -183,8 +183,13 @@ impl StateStore for MapState {
         Ok(())
     }
 
-    fn pending<K: Sink<Message>>(&mut self, sink: &mut K) -> Result<(), StoreFault> {
-        let rows = messages(self.alloc, &self.outbox, self.confirmed)?;
+    fn messages_by<K: Sink<Message>>(
+        &mut self,
+        query: &MessageQuery,
+        sink: &mut K,
+    ) -> Result<(), StoreFault> {
+        let after = query.begins_after(self.confirmed);
+        let rows = messages(self.alloc, &self.outbox, after)?;
         hand_out(sink, rows);
         Ok(())
     }

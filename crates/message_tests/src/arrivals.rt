@@ -1,33 +1,25 @@
 //! Telegrams that arrive.
-use crate::said::{Runs, told};
-use shipment_machine::{CargoLine, Refusal};
-use station_core::refusal_text;
+use crate::said::{Runs, refusal_said, told};
+use shipment_machine::CargoLine;
 use std::alloc::Global;
 use telegrams::{Content, PartContent, StatusContent, TelegramFault, read_telegram};
 use test_kit::{say, shown};
 
-/// Runs one case and returns its result as text.
 pub fn answer(alloc: Global, asked: &str, text: &[u8]) -> Option<String> {
     match asked {
-        "text" => normal(alloc, text),
+        "text" => {
+            let telegram = read_telegram(alloc, text).ok()?;
+            say(alloc, shown(telegram.text().as_bytes()))
+        }
         "content" => content(alloc, text),
-        "fault" => fault(alloc, text),
+        "fault" => refusal_said(alloc, read_telegram(alloc, text)),
         "beginnings" => beginnings(alloc, text),
         _ => None,
     }
 }
 
-fn normal(alloc: Global, text: &[u8]) -> Option<String> {
-    let Ok(telegram) = read_telegram(alloc, text) else {
-        return None;
-    };
-    say(alloc, shown(telegram.text().as_bytes()))
-}
-
 fn content(alloc: Global, text: &[u8]) -> Option<String> {
-    let Ok(telegram) = read_telegram(alloc, text) else {
-        return None;
-    };
+    let telegram = read_telegram(alloc, text).ok()?;
     match telegram.content() {
         Content::Fwb(line) => {
             let line = cargo(alloc, line)?;
@@ -38,7 +30,7 @@ fn content(alloc: Global, text: &[u8]) -> Option<String> {
     }
 }
 
-/// Returns a consignment line: its number, route, pieces, tenths, total and goods.
+/// Returns the number, route, pieces, tenths, total and goods.
 fn cargo(alloc: Global, line: &CargoLine) -> Option<String> {
     let (origin, destination) = (line.origin.letters(), line.destination.letters());
     let (origin, destination) = (shown(&origin), shown(&destination));
@@ -49,8 +41,7 @@ fn cargo(alloc: Global, line: &CargoLine) -> Option<String> {
     format!(in alloc; "{number} {origin} {destination} {pieces} {tenths} {total} [{goods}]").ok()
 }
 
-/// Returns a manifest: the part's number, the flight, its date and airport of loading, and each
-/// line with its airport of unloading.
+/// Returns the part's number, the flight, its date and airport of loading, and each line.
 fn manifest(alloc: Global, part: &PartContent) -> Option<String> {
     let mut flight = [0; 7];
     let end = part.flight.write(&mut flight);
@@ -67,7 +58,6 @@ fn manifest(alloc: Global, part: &PartContent) -> Option<String> {
     Some(said)
 }
 
-/// Returns the number of a status message, and its lines.
 fn trail(alloc: Global, status: &StatusContent<'_>) -> Option<String> {
     let mut said = format!(in alloc; "FSU {}", status.awb).ok()?;
     for line in status.lines.as_slice() {
@@ -77,34 +67,16 @@ fn trail(alloc: Global, status: &StatusContent<'_>) -> Option<String> {
     Some(said)
 }
 
-/// Returns a telegram's refusal, or `none`.
-fn fault(alloc: Global, text: &[u8]) -> Option<String> {
-    let Err(fault) = read_telegram(alloc, text) else {
-        return say(alloc, "none");
-    };
-    match fault {
-        TelegramFault::Memory => None,
-        TelegramFault::Refused(refusal) => refusal_text(alloc, &refusal).ok(),
-    }
-}
-
-fn number_said(alloc: Global, refusal: &Refusal) -> Option<String> {
-    let number = refusal.number;
-    format!(in alloc; "{number}").ok()
-}
-
-/// Returns the number of a telegram's refusal, or `none`.
 fn refused(alloc: Global, text: &[u8]) -> Option<String> {
-    let Err(fault) = read_telegram(alloc, text) else {
-        return say(alloc, "none");
-    };
-    match fault {
-        TelegramFault::Memory => None,
-        TelegramFault::Refused(refusal) => number_said(alloc, &refusal),
+    let read = read_telegram(alloc, text);
+    match &read {
+        Ok(_) => say(alloc, "none"),
+        Err(TelegramFault::Memory) => None,
+        Err(TelegramFault::Refused(refusal)) => format!(in alloc; "{}", refusal.number).ok(),
     }
 }
 
-/// Returns the numbers of the refusals of each prefix of a text, from the empty one on.
+/// Returns the numbers of the refusals of each prefix of a text.
 fn beginnings(alloc: Global, text: &[u8]) -> Option<String> {
     let mut runs = Runs::new(alloc, 0);
     for len in 0..text.len() {

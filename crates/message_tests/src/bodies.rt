@@ -4,7 +4,7 @@ use serde_json::Value;
 use std::alloc::Global;
 use test_kit::{say, shown};
 
-/// Returns the text of the verb's command with this body, from which it is read back, or `none`.
+/// Returns the command's text, from which it is read back, or `none`.
 pub fn answer(alloc: Global, asked: &str, body: &[u8]) -> Option<String> {
     let verb = Verb::read(asked.as_bytes())?;
     let value = Value::from_str(alloc, shown(body)).ok()?;

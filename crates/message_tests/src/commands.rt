@@ -1,40 +1,28 @@
 //! Commands made from their fields, and their texts.
-use crate::said::{next_number, next_small_number};
-use agent_stock::{AgentCode, Order, Run, RunCount};
-use awb_number::Awb;
+use crate::given::{airport, flight_date, next_number, number, order, pieces};
 use desk_commands::{Command, Verb, command_text, read_command_text};
-use imp_fields::{Airport, Flight, Goods, Name, Pieces, Tenths};
-use shipment_machine::{Airline, DeskCommand, FlightDate, PieceCount};
-use station_days::LocalDay;
+use imp_fields::{Goods, Name, Tenths};
+use shipment_machine::{Airline, DeskCommand, PieceCount};
 use std::alloc::Global;
 use std::str::SplitWhitespace;
 use test_kit::{say, shown};
 
-/// Runs one case and returns its result as text: whether a word is a verb, whether a text is a
-/// command's, or the text of the command with these fields. A day is given by its number.
+/// Answers a verb, whether a text is a command's, or the text of the command with these fields.
 pub fn answer(alloc: Global, asked: &str, text: &[u8]) -> Option<String> {
     match asked {
-        "verb" => verb(alloc, text),
+        "verb" => match Verb::read(text) {
+            Some(verb) => format!(in alloc; "{verb:?} {}", verb.word()).ok(),
+            None => say(alloc, "none"),
+        },
         "text" => is_text(alloc, text),
         "take-in" | "issue" | "return" | "void" => {
-            let mut words = shown(text).split_whitespace();
-            let order = order(asked, &mut words)?;
+            let order = order(asked, &mut shown(text).split_whitespace())?;
             command_text(alloc, &Command::Stock(order)).ok()
         }
         _ => {
-            // The last field may have a space.
-            let (fields, last) = shown(text).split_once('|').unwrap_or((shown(text), ""));
-            let mut words = fields.split_whitespace();
-            let command = command(asked, &mut words, last)?;
+            let command = command(asked, shown(text))?;
             command_text(alloc, &Command::Cargo(command)).ok()
         }
-    }
-}
-
-fn verb(alloc: Global, word: &[u8]) -> Option<String> {
-    match Verb::read(word) {
-        Some(verb) => format!(in alloc; "{verb:?} {}", verb.word()).ok(),
-        None => say(alloc, "none"),
     }
 }
 
@@ -43,57 +31,24 @@ fn is_text(alloc: Global, text: &[u8]) -> Option<String> {
     say(alloc, if is_read { "read" } else { "none" })
 }
 
-fn order(asked: &str, words: &mut SplitWhitespace<'_>) -> Option<Order> {
-    let prefix = next_small_number(words)?;
-    let serial = next_number(words)?;
-    let first = Awb::new(prefix, serial)?;
-    let count = RunCount::new(next_number(words)?)?;
-    let run = Run { first, count };
-    match asked {
-        "take-in" => Some(Order::TakeIn(run)),
-        "void" => Some(Order::Void(run)),
-        "issue" => Some(Order::Issue(run, agent(words)?)),
-        "return" => Some(Order::GiveBack(run, agent(words)?)),
-        _ => None,
-    }
-}
-
-fn agent(words: &mut SplitWhitespace<'_>) -> Option<AgentCode> {
-    AgentCode::read(words.next()?.as_bytes())
-}
-
-fn number(words: &mut SplitWhitespace<'_>) -> Option<Awb> {
-    Awb::read(words.next()?.as_bytes().first_chunk()?).ok()
-}
-
-fn airport(words: &mut SplitWhitespace<'_>) -> Option<Airport> {
-    Airport::read(words.next()?.as_bytes())
-}
-
-fn flight(words: &mut SplitWhitespace<'_>) -> Option<FlightDate> {
-    Some(FlightDate {
-        flight: Flight::read(words.next()?.as_bytes())?,
-        day: LocalDay::new(next_number(words)?)?,
-    })
-}
-
-fn pieces(words: &mut SplitWhitespace<'_>) -> Option<Pieces> {
-    Pieces::new(next_number(words)?)
-}
-
 fn tenths(words: &mut SplitWhitespace<'_>) -> Option<Tenths> {
     Tenths::new(next_number(words)?)
 }
 
-fn command(asked: &str, words: &mut SplitWhitespace<'_>, last: &str) -> Option<DeskCommand> {
+/// Returns the command with these fields. A bar precedes a last field that may have a space.
+fn command(asked: &str, text: &str) -> Option<DeskCommand> {
+    let (fields, last) = text.split_once('|').unwrap_or((text, ""));
+    let mut words = fields.split_whitespace();
     match asked {
-        "book" | "amend" | "receive" | "withdraw" | "notify" | "deliver" | "transfer" =>
-            at_the_desk(asked, words, last.as_bytes()),
-        "missing" | "found" => irregular(asked, words),
-        "confirm" => Some(DeskCommand::Confirm {
-            upto: next_number(words)?,
-        }),
-        _ => with_flight(asked, words),
+        "book" | "amend" | "receive" | "withdraw" | "notify" | "deliver" | "transfer" => {
+            at_the_desk(asked, &mut words, last.as_bytes())
+        }
+        "missing" | "found" => irregular(asked, &mut words),
+        "confirm" => {
+            let upto = next_number(&mut words)?;
+            Some(DeskCommand::Confirm { upto })
+        }
+        _ => with_flight(asked, &mut words),
     }
 }
 
@@ -146,17 +101,19 @@ fn at_the_desk(asked: &str, words: &mut SplitWhitespace<'_>, last: &[u8]) -> Opt
 }
 
 fn with_flight(asked: &str, words: &mut SplitWhitespace<'_>) -> Option<DeskCommand> {
-    if asked == "depart" {
-        let flight = flight(words)?;
-        return Some(DeskCommand::Depart { flight });
-    }
-    if asked == "reroute" {
-        let flight = flight(words)?;
-        let unload = airport(words)?;
-        return Some(DeskCommand::Reroute { flight, unload });
+    match asked {
+        "depart" => {
+            let flight = flight_date(words)?;
+            return Some(DeskCommand::Depart { flight });
+        }
+        "reroute" => {
+            let (flight, unload) = (flight_date(words)?, airport(words)?);
+            return Some(DeskCommand::Reroute { flight, unload });
+        }
+        _ => {}
     }
     let awb = number(words)?;
-    let flight = flight(words)?;
+    let flight = flight_date(words)?;
     match asked {
         "manifest" => Some(DeskCommand::Manifest {
             awb,
@@ -183,24 +140,20 @@ fn with_flight(asked: &str, words: &mut SplitWhitespace<'_>) -> Option<DeskComma
     }
 }
 
-/// Returns a command about missing or found pieces, optionally of a flight.
 fn irregular(asked: &str, words: &mut SplitWhitespace<'_>) -> Option<DeskCommand> {
     let awb = number(words)?;
     let pieces = pieces(words)?;
-    if asked == "missing" {
-        let flight = flight(words);
-        return Some(DeskCommand::Missing {
+    match asked {
+        "missing" => Some(DeskCommand::Missing {
             awb,
             pieces,
-            flight,
-        });
+            flight: flight_date(words),
+        }),
+        _ => Some(DeskCommand::Found {
+            awb,
+            pieces,
+            tenths: tenths(words)?,
+            flight: flight_date(words),
+        }),
     }
-    let tenths = tenths(words)?;
-    let flight = flight(words);
-    Some(DeskCommand::Found {
-        awb,
-        pieces,
-        tenths,
-        flight,
-    })
 }

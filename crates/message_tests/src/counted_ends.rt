@@ -1,11 +1,10 @@
-//! Readers and writers that count their calls. Some of them fail.
+//! Readers and writers that count their calls.
 use station_core::{ByteIn, ByteOut, Counted, ReadFault, WriteFault, send};
 use std::alloc::Global;
 use std::io;
 use std::io::Read;
 use test_kit::{Narrow, say, shown};
 
-/// Runs one case and returns its result as text.
 pub fn answer(alloc: Global, asked: &str, text: &[u8]) -> Option<String> {
     match asked {
         "sent" => sent(alloc, shown(text)),
@@ -16,7 +15,7 @@ pub fn answer(alloc: Global, asked: &str, text: &[u8]) -> Option<String> {
     }
 }
 
-/// Returns the contents of a buffer after each line of a text was sent, followed by an empty text.
+/// Sends each line of a text, and an empty text after it.
 fn sent(alloc: Global, text: &str) -> Option<String> {
     let mut writer = Counted::new(Vec::new(alloc));
     for line in text.split_inclusive('\n') {
@@ -39,7 +38,7 @@ fn sent_to_four_bytes(alloc: Global, text: &[u8]) -> Option<String> {
     sent_said(alloc, send(&mut writer, text))
 }
 
-/// A reader that is interrupted, then returns its bytes, and then fails.
+/// Is interrupted, then returns its bytes, and then fails.
 #[derive(Drop)]
 struct Halting<'a> {
     calls: u8,
@@ -65,7 +64,6 @@ fn read_said(alloc: Global, read: Result<usize, ReadFault>) -> Option<String> {
     }
 }
 
-/// Returns the results of three reads into eight bytes, and the bytes.
 fn read_haltingly(alloc: Global, bytes: &[u8]) -> Option<String> {
     let mut reader = Counted::new(Halting { calls: 0, bytes });
     let mut buf = [b'-'; 8];

@@ -1,30 +1,23 @@
 //! Status update messages.
 use crate::said::{fault_said, readable, token_said};
 use fsu_text::{Fsu, read};
-use imp_fields::{Lines, TextFault, normal_text};
+use imp_fields::{TextFault, normal_text};
 use std::alloc::Global;
 
-/// Runs one case and returns its result as text.
 pub fn answer(alloc: Global, asked: &str, text: &[u8]) -> Option<String> {
     match asked {
-        "trail" => trail(alloc, &message(alloc, text)?),
-        "fault" => fault_said(alloc, fault(alloc, text)),
+        "trail" => trail(alloc, &message(alloc, text).ok()?),
+        "fault" => fault_said(alloc, message(alloc, text)),
         "status" => status(alloc, text),
         _ => None,
     }
 }
 
-fn message<'a>(alloc: Global, text: &'a [u8]) -> Option<Fsu<'a>> {
-    let Ok(lines) = normal_text(alloc, text) else {
-        return None;
-    };
-    match read(alloc, &lines) {
-        Ok(read) => Some(read),
-        Err(_) => None,
-    }
+pub fn message<'a>(alloc: Global, text: &'a [u8]) -> Result<Fsu<'a>, TextFault> {
+    read(alloc, &normal_text(alloc, text)?)
 }
 
-/// Returns the number of a message, and each line of its trail, with whether its layout is known.
+/// Returns each line of the trail, with whether its layout is known.
 fn trail(alloc: Global, message: &Fsu<'_>) -> Option<String> {
     let mut said = format!(in alloc; "{}", message.consignment.awb).ok()?;
     for line in &message.trail {
@@ -40,24 +33,13 @@ fn trail(alloc: Global, message: &Fsu<'_>) -> Option<String> {
     Some(said)
 }
 
-fn fault(alloc: Global, text: &[u8]) -> Option<TextFault> {
-    let lines: Lines<'_> = match normal_text(alloc, text) {
-        Ok(lines) => lines,
-        Err(fault) => return Some(fault),
-    };
-    match read(alloc, &lines) {
-        Ok(_) => None,
-        Err(fault) => Some(fault),
-    }
-}
-
-/// Returns the values of a status line after a consignment line, or `None` if it is stored unread.
+/// Returns the values of a status line, or `None` if it is stored unread.
 fn status(alloc: Global, line: &[u8]) -> Option<String> {
     let mut text = b"FSU/12\r\n020-12345675FRAJFK/T10K100.0\r\n"
         .to_vec(alloc)
         .ok()?;
     text.extend_from_slice(line).ok()?;
-    let message = message(alloc, &text)?;
+    let message = message(alloc, &text).ok()?;
     let line = message.trail.first()?;
     readable(alloc, format!(in alloc; "{:?}", line.status).ok()?.as_str())
 }

@@ -1,12 +1,5 @@
-//! Numbers, fields, messages, commands, orders and replies, each read or written as in a file of
-//! cases.
-//!
-//! A line of `messages/NAME.cases` is a case: the call, the text given, and the expected result,
-//! such as `airport 'FRA' = FRA`. The same holds for `station/counted-ends.cases`, about readers
-//! and writers that count their calls.
-//!
-//! `run_memory` writes and reads messages. Run it with each allocation failing in turn: each
-//! failure must be reported, and leave the buffer unchanged.
+//! Fields, messages, commands, orders and replies, each read or written as a line of `NAME.cases`
+//! says, such as `airport 'FRA' = FRA`. Run `run_memory` with each allocation failing in turn.
 #![tactic(auto)]
 
 mod arrivals;
@@ -18,6 +11,7 @@ mod ffm;
 mod fields;
 mod fsu;
 mod fwb;
+mod given;
 mod lines;
 mod look;
 mod memory;
@@ -36,7 +30,7 @@ use std::io;
 use std::time::Instant;
 use test_kit::{Answers, go_through_file, print_told};
 
-/// The files of the folder `messages`, in the order in which they run.
+/// The files of the folder `messages`, in the order of their runs.
 pub const FILES: &[&str] = &[
     "numbers",
     "fields",
@@ -56,7 +50,6 @@ pub const FILES: &[&str] = &[
     "replies",
 ];
 
-/// The answers to the cases of a file. Orders act on its stock.
 #[derive(Drop)]
 struct FileAnswers<'a> {
     alloc: Global,
@@ -90,8 +83,7 @@ impl Answers for FileAnswers<'_> {
     }
 }
 
-/// Runs the cases of a file in a folder, and prints the failed ones, or the number of cases.
-/// Returns whether all passed. It fails if printing fails or memory runs out.
+/// Runs a file of cases like `go_through_file`.
 pub fn run_file(rt: &HostRuntime, folder: &str, file: &str) -> Result<bool, io::Error> {
     let mut answers = FileAnswers {
         alloc: rt.alloc(),
@@ -101,8 +93,7 @@ pub fn run_file(rt: &HostRuntime, folder: &str, file: &str) -> Result<bool, io::
     go_through_file(rt, folder, file, &mut answers)
 }
 
-/// Writes and reads messages, and prints the outcomes. Returns whether all are as expected. It
-/// fails if printing fails.
+/// Prints the outcome for each message. Returns whether all are as expected.
 pub fn run_memory(rt: &HostRuntime) -> Result<bool, io::Error> {
     let mut all = true;
     for message in Message::ALL {
@@ -111,17 +102,18 @@ pub fn run_memory(rt: &HostRuntime) -> Result<bool, io::Error> {
     Ok(all)
 }
 
-/// The number of times that each message is written and read in a measurement.
 const TIMES: u64 = 100_000;
 
-/// Prints how often a second each message of `run_memory` is written and read. Returns whether each
-/// was, every time. It fails if printing fails or the clock can't be read.
+/// Prints how often a second each message is written and read. Returns whether each was. It fails
+/// if printing fails or the clock can't be read.
 pub fn run_bench(rt: &HostRuntime) -> Result<bool, io::Error> {
     println!(rt; "  a second    ns each  message")?;
     let mut all = true;
     for message in Message::ALL {
         let start = Instant::now(rt)?;
-        all &= message.is_told_often(rt.alloc(), TIMES);
+        for _ in 0..TIMES {
+            all &= message.is_told(rt.alloc());
+        }
         let spent = start.elapsed(rt)?.as_nanos();
         let nanos = u64::try_from(spent).unwrap_or(u64::MAX).max(1);
         let rate = TIMES.saturating_mul(1_000_000_000) / nanos;

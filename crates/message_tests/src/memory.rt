@@ -1,18 +1,29 @@
-//! Writing and reading messages while memory runs out: that is reported, and leaves the buffer
-//! unchanged.
+//! Messages for which memory may run out: that is reported, and leaves the buffer unchanged.
+use crate::ffm::part;
+use crate::fsu::message;
 use crate::notices::{consigned, manifest};
 use ffm_text::{Load, write_ffm};
 use fsu_text::{Handling, SentStatus, SentUpdate, write_fsu};
 use imp_fields::{
-    Airport, BookTenths, Flight, Goods, Name, Pieces, TextFault, WaybillSummary, Why, normal_text,
+    Airport, BookTenths, Flight, Goods, Name, Pieces, TextFault, WaybillSummary, Why,
 };
 use shipment_machine::{Event, Notice};
 use station_days::{DayMonth, DayTime, Moment};
 use std::alloc::Global;
 use telegrams::{TelegramFault, notice_text, read_telegram};
 
-/// A message that is written, read, or both.
-#[derive(Clone, Copy, Debug, PartialEq, Eq)]
+const WAYBILL: &[u8] =
+    b"QK FRACGXX\r\nFWB/16\r\n020-12345675FRAJFK/T10K100MC0.5\r\nSHP\r\n/ACME TOOLS\r\n";
+
+const ARRIVAL: &[u8] =
+    b"FFM/8\r\n1/LH0400/12JAN1030/FRA\r\nJFK\r\n020-12345675FRAJFK/T10K100.0/CARGO\r\nLAST\r\n";
+
+const MEMORY: TextFault = TextFault {
+    line: 0,
+    why: Why::Memory,
+};
+
+#[derive(Clone, Copy)]
 pub enum Message {
     Manifest,
     Update,
@@ -23,7 +34,6 @@ pub enum Message {
 }
 
 impl Message {
-    /// All messages, in the order in which they run.
     pub const ALL: [Message; 6] = [
         Message::Manifest,
         Message::Update,
@@ -33,7 +43,6 @@ impl Message {
         Message::ReceiptNotice,
     ];
 
-    /// Returns its name.
     pub fn name(self) -> &'static str {
         match self {
             Message::Manifest => "a manifest",
@@ -50,39 +59,24 @@ impl Message {
         match self {
             Message::Manifest => is_manifest_told(alloc),
             Message::Update => is_update_told(alloc),
-            Message::Waybill => is_waybill_told(alloc),
-            Message::Arrival => is_arrival_told(alloc),
-            Message::ManifestNotice => is_manifest_notice_told(alloc),
-            Message::ReceiptNotice => is_receipt_notice_told(alloc),
+            Message::Waybill => is_telegram_told(alloc, WAYBILL),
+            Message::Arrival => is_telegram_told(alloc, ARRIVAL),
+            Message::ManifestNotice => is_notice_told(alloc, &manifest_of_four(alloc), 74),
+            Message::ReceiptNotice => is_notice_told(alloc, &receipt_notice(), 72),
         }
-    }
-
-    /// Returns the same for many times.
-    pub fn is_told_often(self, alloc: Global, times: u64) -> bool {
-        for _ in 0..times {
-            if !self.is_told(alloc) {
-                return false;
-            }
-        }
-        true
     }
 }
 
-fn fault(line: u32, why: Why) -> TextFault {
-    TextFault { line, why }
-}
-
-/// Appends the manifest of a flight from FRA to JFK on 12 January. Returns whether memory sufficed.
-fn is_written(out: &mut Vec<u8>, flight: &[u8], loads: &[Load]) -> Option<bool> {
+/// Appends a manifest. Returns whether memory sufficed.
+fn is_written(out: &mut Vec<u8>, loads: &[Load]) -> Option<bool> {
     let (here, unload) = (Airport::read(b"FRA")?, Airport::read(b"JFK")?);
     if loads.len() > 500 {
         return None;
     }
     let date = DayMonth::read(b"12JAN")?;
-    Some(write_ffm(out, Flight::read(flight)?, date, here, unload, loads).is_ok())
+    Some(write_ffm(out, Flight::read(b"LH400")?, date, here, unload, loads).is_ok())
 }
 
-/// Returns three loads of four of the ten pieces.
 fn three_loads() -> Option<[Load; 3]> {
     let WaybillSummary {
         awb,
@@ -103,32 +97,21 @@ fn three_loads() -> Option<[Load; 3]> {
     Some([load; 3])
 }
 
-/// Returns whether three loads are written and read, or running out of memory is reported.
 fn is_manifest_told(alloc: Global) -> bool {
     let Some(loads) = three_loads() else {
         return false;
     };
     let mut text = Vec::new(alloc);
-    match is_written(&mut text, b"LH400", &loads) {
+    match is_written(&mut text, &loads) {
         None => false,
         Some(false) => text.is_empty(),
-        Some(true) => is_manifest_read(alloc, &text),
+        Some(true) => match part(alloc, &text) {
+            Ok(part) => part.cargo.len() == 3,
+            Err(fault) => fault == MEMORY,
+        },
     }
 }
 
-/// Returns whether the three loads are read back, or running out of memory is reported.
-fn is_manifest_read(alloc: Global, text: &[u8]) -> bool {
-    let lines = match normal_text(alloc, text) {
-        Ok(lines) => lines,
-        Err(told) => return told == fault(0, Why::Memory),
-    };
-    match ffm_text::read(alloc, &lines) {
-        Ok(part) => part.cargo.len() == 3,
-        Err(told) => told == fault(0, Why::Memory),
-    }
-}
-
-/// Returns a receipt of the ten pieces from a shipper.
 fn receipt() -> Option<SentUpdate> {
     let status = SentStatus::Handled {
         event: Handling::ReceivedFromShipper,
@@ -144,7 +127,6 @@ fn receipt() -> Option<SentUpdate> {
     })
 }
 
-/// Returns whether a receipt is written and read, or running out of memory is reported.
 fn is_update_told(alloc: Global) -> bool {
     let Some(update) = receipt() else {
         return false;
@@ -153,41 +135,13 @@ fn is_update_told(alloc: Global) -> bool {
     if write_fsu(&mut text, &update).is_err() {
         return text.is_empty();
     }
-    let lines = match normal_text(alloc, &text) {
-        Ok(lines) => lines,
-        Err(told) => return told == fault(0, Why::Memory),
-    };
-    match fsu_text::read(alloc, &lines) {
+    match message(alloc, &text) {
         Ok(message) => message.trail.len() == 1,
-        Err(told) => told == fault(0, Why::Memory),
+        Err(fault) => fault == MEMORY,
     }
 }
 
-/// Returns the text of a manifest of four of the ten pieces.
-fn manifest_text(alloc: Global) -> Option<Vec<u8>> {
-    let here = Airport::read(b"FRA")?;
-    let notice = manifest(alloc, here, Pieces::new(4)?, BookTenths::new(400)?)?;
-    notice_text(alloc, &notice).ok()
-}
-
-/// Returns the text of a receipt of the ten pieces.
-fn receipt_text(alloc: Global) -> Option<Vec<u8>> {
-    let event = Event::ReceivedFromShipper {
-        name: Name::read(b"ACME")?,
-        at: Moment::new(20465, 630)?,
-    };
-    let notice = Notice::Status {
-        here: Airport::read(b"FRA")?,
-        consigned: consigned()?,
-        event,
-        pieces: Pieces::new(10)?,
-        tenths: BookTenths::new(1000)?,
-    };
-    notice_text(alloc, &notice).ok()
-}
-
-/// Returns whether a telegram is read, or running out of memory is reported.
-fn is_read_or_unheard(alloc: Global, text: &[u8]) -> bool {
+fn is_telegram_told(alloc: Global, text: &[u8]) -> bool {
     let read = read_telegram(alloc, text);
     match &read {
         Ok(_) => true,
@@ -195,33 +149,31 @@ fn is_read_or_unheard(alloc: Global, text: &[u8]) -> bool {
     }
 }
 
-/// Returns the same for a waybill's data.
-fn is_waybill_told(alloc: Global) -> bool {
-    is_read_or_unheard(
-        alloc,
-        b"QK FRACGXX\r\nFWB/16\r\n020-12345675FRAJFK/T10K100MC0.5\r\nSHP\r\n/ACME TOOLS\r\n",
-    )
+fn manifest_of_four(alloc: Global) -> Option<Notice> {
+    let here = Airport::read(b"FRA")?;
+    manifest(alloc, here, Pieces::new(4)?, BookTenths::new(400)?)
 }
 
-/// Returns the same for a manifest.
-fn is_arrival_told(alloc: Global) -> bool {
-    is_read_or_unheard(
-        alloc,
-        b"FFM/8\r\n1/LH0400/12JAN1030/FRA\r\nJFK\r\n020-12345675FRAJFK/T10K100.0/CARGO\r\nLAST\r\n",
-    )
+fn receipt_notice() -> Option<Notice> {
+    Some(Notice::Status {
+        here: Airport::read(b"FRA")?,
+        consigned: consigned()?,
+        event: Event::ReceivedFromShipper {
+            name: Name::read(b"ACME")?,
+            at: Moment::new(20465, 630)?,
+        },
+        pieces: Pieces::new(10)?,
+        tenths: BookTenths::new(1000)?,
+    })
 }
 
-/// Returns whether the notice of a manifest has its length, or memory ran out for it.
-fn is_manifest_notice_told(alloc: Global) -> bool {
-    match manifest_text(alloc) {
-        Some(text) => text.len() == 74,
-        None => true,
-    }
-}
-
-fn is_receipt_notice_told(alloc: Global) -> bool {
-    match receipt_text(alloc) {
-        Some(text) => text.len() == 72,
-        None => true,
+/// Returns whether a notice has this length, or memory ran out for it.
+fn is_notice_told(alloc: Global, notice: &Option<Notice>, len: usize) -> bool {
+    let Some(notice) = notice else {
+        return true;
+    };
+    match notice_text(alloc, notice) {
+        Ok(text) => text.len() == len,
+        Err(_) => true,
     }
 }

@@ -1,21 +1,21 @@
 //! The texts of notices.
-use crate::said::{next_number, next_small_number, words};
+use crate::given::{airport, discrepancy, next_number, next_small_number, pieces};
 use awb_number::Awb;
-use imp_fields::{Airport, BookTenths, Discrepancy, Flight, Goods, Name, Pieces, WaybillSummary};
+use imp_fields::{Airport, BookTenths, Flight, Goods, Name, Pieces, WaybillSummary};
 use shipment_machine::{Event, FlightDate, ManifestLine, ManifestLines, Notice};
 use station_days::{LocalDay, Moment};
 use std::alloc::Global;
 use std::slice;
 use std::str::SplitWhitespace;
 use telegrams::notice_text;
+use test_kit::shown;
 
-/// Returns the text of a notice about ten pieces of 100 kilograms from FRA to JFK. It is given by
-/// this airport, its pieces, their tenths and the event. A flight is LH400 on 2026-01-12, day
-/// number 20465.
+/// Returns the text of a notice about ten pieces. The words give this airport, its pieces, their
+/// tenths and the event. A flight is LH400 on 2026-01-12, day number 20465.
 pub fn answer(alloc: Global, asked: &str, text: &[u8]) -> Option<String> {
-    let mut words = words(text)?;
-    let here = Airport::read(words.next()?.as_bytes())?;
-    let pieces = Pieces::new(next_number(&mut words)?)?;
+    let mut words = shown(text).split_whitespace();
+    let here = airport(&mut words)?;
+    let pieces = pieces(&mut words)?;
     let tenths = BookTenths::new(next_number(&mut words)?)?;
     let notice = if asked == "FFM" {
         manifest(alloc, here, pieces, tenths)?
@@ -49,10 +49,13 @@ fn lh400() -> Option<FlightDate> {
     })
 }
 
-/// Reads an event at a moment, given by its day and its minute, with an optional name.
+/// Reads an event, by its moment and an optional name. LH400 leaves for JFK.
 fn event(asked: &str, words: &mut SplitWhitespace<'_>) -> Option<Event> {
-    if asked == "MAN" || asked == "DEP" {
-        return carried(asked == "MAN");
+    let (flight, unload) = (lh400()?, Airport::read(b"JFK")?);
+    match asked {
+        "MAN" => return Some(Event::Manifested { flight, unload }),
+        "DEP" => return Some(Event::Departed { flight, unload }),
+        _ => {}
     }
     let at = Moment::new(next_number(words)?, next_small_number(words)?)?;
     let name = Name::read(words.next().unwrap_or("").as_bytes())?;
@@ -60,38 +63,15 @@ fn event(asked: &str, words: &mut SplitWhitespace<'_>) -> Option<Event> {
         "RCS" => Some(Event::ReceivedFromShipper { name, at }),
         "NFD" => Some(Event::Notified { name, at }),
         "DLV" => Some(Event::Delivered { name, at }),
-        "RCF" => Some(Event::ReceivedFromFlight {
-            flight: lh400()?,
-            at,
-        }),
+        "RCF" => Some(Event::ReceivedFromFlight { flight, at }),
         _ => Some(Event::Differs {
-            flight: lh400()?,
+            flight,
             at,
             discrepancy: discrepancy(asked)?,
         }),
     }
 }
 
-/// Returns the event of LH400 leaving for JFK.
-fn carried(is_manifested: bool) -> Option<Event> {
-    let (flight, unload) = (lh400()?, Airport::read(b"JFK")?);
-    Some(if is_manifested {
-        Event::Manifested { flight, unload }
-    } else {
-        Event::Departed { flight, unload }
-    })
-}
-
-fn discrepancy(word: &str) -> Option<Discrepancy> {
-    match word {
-        "OFLD" => Some(Discrepancy::Offloaded),
-        "MSCA" => Some(Discrepancy::Missing),
-        "FDCA" => Some(Discrepancy::Found),
-        _ => None,
-    }
-}
-
-/// Returns the manifest of LH400 leaving for JFK with pieces of the waybill.
 pub fn manifest(
     alloc: Global,
     here: Airport,

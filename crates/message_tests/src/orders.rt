@@ -1,15 +1,15 @@
 //! Orders on a stock in memory.
-use crate::said::{next_number, yes_or_no};
+use crate::given::{agent, number, run};
+use crate::said::yes_or_no;
 use agent_stock::{
-    AgentCode, Held, Holder, Order, PlainRows, Run, RunCount, StockFault, StockRows, StockRun,
-    carry_out, give_back, issue, runs_of, take_in, void_run,
+    AgentCode, Held, Holder, Order, PlainRows, StockFault, StockRows, StockRun, carry_out,
+    give_back, issue, runs_of, take_in, void_run,
 };
 use awb_number::Awb;
 use std::alloc::{AllocError, Global};
 use std::str::SplitWhitespace;
 use test_kit::{say, shown};
 
-/// Runs one case on the stock of a file, and returns its result as text.
 pub fn answer(alloc: Global, stock: &mut PlainRows, asked: &str, text: &[u8]) -> Option<String> {
     let mut words = shown(text).split_whitespace();
     match asked {
@@ -21,7 +21,10 @@ pub fn answer(alloc: Global, stock: &mut PlainRows, asked: &str, text: &[u8]) ->
             *stock = stock.try_clone().ok()?;
             say(alloc, "ok")
         }
-        "holder" => holder(alloc, stock, &mut words),
+        "holder" => match stock.holder(&number(&mut words)?).ok()? {
+            Some(holder) => format!(in alloc; "{holder}").ok(),
+            None => say(alloc, "nobody"),
+        },
         "runs" => runs_said(alloc, stock.runs(alloc).ok()?.as_slice()),
         "runs-of" => runs_said(
             alloc,
@@ -34,13 +37,6 @@ pub fn answer(alloc: Global, stock: &mut PlainRows, asked: &str, text: &[u8]) ->
     }
 }
 
-fn run(words: &mut SplitWhitespace<'_>) -> Option<Run> {
-    let first = Awb::read(words.next()?.as_bytes().first_chunk()?).ok()?;
-    let count = RunCount::new(next_number(words)?)?;
-    Some(Run { first, count })
-}
-
-/// Runs an order on a run, with an optional agent.
 fn order(
     stock: &mut PlainRows,
     asked: &str,
@@ -57,10 +53,6 @@ fn order(
     }
 }
 
-fn agent(words: &mut SplitWhitespace<'_>) -> Option<AgentCode> {
-    AgentCode::read(words.next()?.as_bytes())
-}
-
 fn ordered(alloc: Global, done: Result<(), StockFault<AllocError>>) -> Option<String> {
     match done {
         Ok(()) => say(alloc, "ok"),
@@ -72,15 +64,6 @@ fn ordered(alloc: Global, done: Result<(), StockFault<AllocError>>) -> Option<St
     }
 }
 
-fn holder(alloc: Global, stock: &mut PlainRows, words: &mut SplitWhitespace<'_>) -> Option<String> {
-    let number = Awb::read(words.next()?.as_bytes().first_chunk()?).ok()?;
-    match stock.holder(&number).ok()? {
-        Some(holder) => format!(in alloc; "{holder}").ok(),
-        None => say(alloc, "nobody"),
-    }
-}
-
-/// Returns the number of runs, and for each its first number, its count and its holder.
 fn runs_said(alloc: Global, runs: &[StockRun]) -> Option<String> {
     let mut said = format!(in alloc; "{}", runs.len()).ok()?;
     for run in runs {

@@ -1,19 +1,28 @@
 //! Parts of answers.
 use imp_fields::{Quantity, TextFault, Token};
+use station_core::refusal_text;
 use std::alloc::Global;
 use std::fmt;
-use std::str::SplitWhitespace;
+use telegrams::TelegramFault;
 use test_kit::{say, shown};
 
-/// Returns `yes` or `no`.
 pub fn yes_or_no(alloc: Global, is_so: bool) -> Option<String> {
     say(alloc, if is_so { "yes" } else { "no" })
 }
 
-/// Returns a value as it is printed, or `none`.
 pub fn printed_or_none<T: fmt::Display + Drop>(alloc: Global, value: Option<T>) -> Option<String> {
     match value {
         Some(value) => format!(in alloc; "{value}").ok(),
+        None => say(alloc, "none"),
+    }
+}
+
+pub fn bracketed_or_none<T: fmt::Display + Drop>(
+    alloc: Global,
+    value: Option<T>,
+) -> Option<String> {
+    match value {
+        Some(value) => format!(in alloc; "[{value}]").ok(),
         None => say(alloc, "none"),
     }
 }
@@ -26,7 +35,6 @@ pub fn told(alloc: Global, number: Option<u32>) -> Option<String> {
     }
 }
 
-/// Returns a quantity: its pieces, its tenths and its total.
 pub fn quantity_said(alloc: Global, quantity: &Quantity) -> Option<String> {
     let pieces = quantity.pieces.number();
     let tenths = told(alloc, quantity.weight.map(|tenths| tenths.number()))?;
@@ -34,13 +42,12 @@ pub fn quantity_said(alloc: Global, quantity: &Quantity) -> Option<String> {
     format!(in alloc; "{pieces} {tenths} {total}").ok()
 }
 
-/// Returns a token: its position and its bytes.
 pub fn token_said(alloc: Global, token: &Token<'_>) -> Option<String> {
     let (start, end, text) = (token.start, token.end, shown(token.text));
     format!(in alloc; "{start}-{end} [{text}]").ok()
 }
 
-/// Returns a list of numbers as text, without trailing zeros, if they are the bytes of one.
+/// Returns the text whose bytes a list of numbers has, without trailing zeros.
 fn text_of(alloc: Global, list: &str) -> Option<String> {
     let mut bytes = Vec::new(alloc);
     for number in list.split(", ") {
@@ -49,7 +56,6 @@ fn text_of(alloc: Global, list: &str) -> Option<String> {
     say(alloc, shown(&bytes).trim_end_matches('\0'))
 }
 
-/// Appends a list, as text if it is one, and the rest.
 fn push_list(alloc: Global, said: &mut String, list: &str, rest: &str) -> Option<()> {
     match text_of(alloc, list) {
         Some(text) => said.push_str(text.as_str()).ok()?,
@@ -59,8 +65,7 @@ fn push_list(alloc: Global, said: &mut String, list: &str, rest: &str) -> Option
     said.push_str(rest).ok()
 }
 
-/// Returns the debug form of a value, with its lists of bytes as texts: `letters: [70, 82, 65]` as
-/// `letters: [FRA]`.
+/// Returns a debug form with its lists of bytes as texts: `[70, 82, 65]` as `[FRA]`.
 pub fn readable(alloc: Global, written: &str) -> Option<String> {
     let mut said = String::new(alloc);
     let mut parts = written.split('[');
@@ -75,30 +80,22 @@ pub fn readable(alloc: Global, written: &str) -> Option<String> {
     Some(said)
 }
 
-/// Returns the fault of a text, or `none`.
-pub fn fault_said(alloc: Global, fault: Option<TextFault>) -> Option<String> {
-    match fault {
-        Some(TextFault { line, why }) => format!(in alloc; "{line} {why:?}").ok(),
-        None => say(alloc, "none"),
+pub fn fault_said<T: Drop>(alloc: Global, read: Result<T, TextFault>) -> Option<String> {
+    match read {
+        Ok(_) => say(alloc, "none"),
+        Err(TextFault { line, why }) => format!(in alloc; "{line} {why:?}").ok(),
     }
 }
 
-/// Returns the words of a text.
-pub fn words(text: &[u8]) -> Option<SplitWhitespace<'_>> {
-    Some(std::str::from_utf8(text).ok()?.split_whitespace())
+pub fn refusal_said<T: Drop>(alloc: Global, read: Result<T, TelegramFault>) -> Option<String> {
+    match &read {
+        Ok(_) => say(alloc, "none"),
+        Err(TelegramFault::Memory) => None,
+        Err(TelegramFault::Refused(refusal)) => refusal_text(alloc, refusal).ok(),
+    }
 }
 
-/// Reads the next word as a number.
-pub fn next_number(words: &mut SplitWhitespace<'_>) -> Option<u32> {
-    words.next()?.parse::<u32>().ok()
-}
-
-/// Reads the next word as a small number.
-pub fn next_small_number(words: &mut SplitWhitespace<'_>) -> Option<u16> {
-    words.next()?.parse::<u16>().ok()
-}
-
-/// A sequence of answers, with equal neighbours combined: `6 Byte, 7-29 Long`.
+/// Answers with equal neighbours combined: `6-6 Byte, 7-29 Long`.
 #[derive(Drop)]
 pub struct Runs {
     alloc: Global,
@@ -109,7 +106,6 @@ pub struct Runs {
 }
 
 impl Runs {
-    /// Starts without answers.
     pub fn new(alloc: Global, first: usize) -> Runs {
         Runs {
             alloc,
@@ -130,7 +126,6 @@ impl Runs {
         self.said.push_str(said.as_str()).ok()
     }
 
-    /// Adds the next answer.
     pub fn push(&mut self, came: &str) -> Option<()> {
         if self.last.as_str() != came {
             self.close()?;
@@ -141,7 +136,6 @@ impl Runs {
         Some(())
     }
 
-    /// Returns all runs.
     pub fn said(mut self) -> Option<String> {
         self.close()?;
         Some(self.said)

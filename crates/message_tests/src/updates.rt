@@ -1,25 +1,23 @@
 //! Sent status updates.
+use crate::fsu::message;
+use crate::given::{airport, discrepancy, next_number};
 use crate::notices::consigned;
-use crate::said::words;
-use fsu_text::{Handling, SentCarriage, SentStatus, SentUpdate, read, write_fsu};
-use imp_fields::{Airport, BookTenths, Discrepancy, Flight, Name, Pieces, normal_text};
+use fsu_text::{Handling, SentCarriage, SentStatus, SentUpdate, write_fsu};
+use imp_fields::{BookTenths, Flight, Name, Pieces};
 use station_days::{DayMonth, DayTime};
 use std::alloc::Global;
 use std::str::SplitWhitespace;
+use test_kit::shown;
 
-/// Returns the text of an update about ten pieces of 100 kilograms from FRA to JFK, written after a
-/// letter X and read back. It is given by the airport, its pieces, their tenths and the event.
+/// Returns the text of an update about ten pieces, written after a letter X and read back.
 pub fn answer(alloc: Global, asked: &str, text: &[u8]) -> Option<String> {
-    let mut words = words(text)?;
-    let here = Airport::read(words.next()?.as_bytes())?;
-    let pieces = Pieces::read(words.next()?.as_bytes())?;
-    let tenths = BookTenths::new(words.next()?.parse::<u32>().ok()?)?;
+    let mut words = shown(text).split_whitespace();
     let update = SentUpdate {
+        here: airport(&mut words)?,
+        pieces: Pieces::read(words.next()?.as_bytes())?,
+        tenths: BookTenths::new(next_number(&mut words)?)?,
         of: consigned()?,
         status: status(asked, &mut words)?,
-        here,
-        pieces,
-        tenths,
     };
     let mut out = b"X".to_vec(alloc).ok()?;
     write_fsu(&mut out, &update).ok()?;
@@ -29,15 +27,11 @@ pub fn answer(alloc: Global, asked: &str, text: &[u8]) -> Option<String> {
     String::from_utf8(out).ok()
 }
 
-/// Returns whether the text after the first letter is read.
 fn is_read(alloc: Global, text: &[u8]) -> bool {
     let [_, text @ ..] = text else {
         return false;
     };
-    let Ok(lines) = normal_text(alloc, text) else {
-        return false;
-    };
-    match read(alloc, &lines) {
+    match message(alloc, text) {
         Ok(message) => !message.trail.is_empty(),
         Err(_) => false,
     }
@@ -54,10 +48,11 @@ fn status(asked: &str, words: &mut SplitWhitespace<'_>) -> Option<SentStatus> {
             flight: Flight::read(words.next()?.as_bytes())?,
             at: DayTime::read(words.next()?.as_bytes())?,
         }),
-        "MSCA" => differs(Discrepancy::Missing, words),
-        "FDCA" => differs(Discrepancy::Found, words),
-        "OFLD" => differs(Discrepancy::Offloaded, words),
-        _ => None,
+        _ => Some(SentStatus::Differs {
+            discrepancy: discrepancy(asked)?,
+            flight: Flight::read(words.next()?.as_bytes())?,
+            at: DayTime::read(words.next()?.as_bytes())?,
+        }),
     }
 }
 
@@ -74,14 +69,6 @@ fn carried(event: SentCarriage, words: &mut SplitWhitespace<'_>) -> Option<SentS
         event,
         flight: Flight::read(words.next()?.as_bytes())?,
         date: DayMonth::read(words.next()?.as_bytes())?,
-        to: Airport::read(words.next()?.as_bytes())?,
-    })
-}
-
-fn differs(discrepancy: Discrepancy, words: &mut SplitWhitespace<'_>) -> Option<SentStatus> {
-    Some(SentStatus::Differs {
-        discrepancy,
-        flight: Flight::read(words.next()?.as_bytes())?,
-        at: DayTime::read(words.next()?.as_bytes())?,
+        to: airport(words)?,
     })
 }

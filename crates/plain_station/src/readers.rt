@@ -5,7 +5,8 @@ ghost use Rattle.agent_stock.specs.Runs.{AreStockRuns};
 ghost use Rattle.agent_stock.specs.declared.runs.StockRun.{StockRun};
 ghost use Rattle.shipment_machine.specs.Amount.{less};
 ghost use Rattle.shipment_machine.specs.Book.{store};
-ghost use Rattle.station_core.specs.Readers.{told_of, waybill_of, is_irregular, irregular_row, irregular_rows, book_by, is_in_shed, shed_row, shed_rows, book_rows, message, pending_messages, trail_row, trail_rows, trail_by};
+ghost use Rattle.station_core.specs.Readers.{told_of, waybill_of, is_irregular, irregular_row, irregular_rows, book_by, is_in_shed, shed_row, shed_rows, book_rows, message, messages_after, messages_by, trail_row, trail_rows, trail_by};
+ghost use Rattle.station_core.specs.Told.{summary_of};
 ghost use Rattle.plain_station.specs.Handing.{HandsRows};
 ghost use Rattle.plain_station.specs.Lists.{cargo_of, trail_row as kept_line, texts_in};
 
@@ -17,8 +18,8 @@ use agent_stock::{Holder, StockRun};
 use awb_number::Awb;
 use shipment_machine::{Amount, Balances, Declared, waybills_of};
 use station_core::{
-    ActFault, BookQuery, BookRow, IrregularRow, Message, RowText, ShedRow, Sink, TrailQuery,
-    TrailRow, Waybill, hand_out,
+    ActFault, BookQuery, BookRow, IrregularRow, Message, MessageQuery, RowText, ShedRow, Sink,
+    Sizes, Summary, TrailQuery, TrailRow, Waybill, hand_out,
 };
 use std::alloc::AllocError;
 
@@ -54,6 +55,20 @@ impl PlainCargo {
             delivered: balances.delivered,
             missing: balances.missing,
             transferred: balances.transferred,
+        }
+    }
+
+    pub(crate) fn summary(&self) -> Summary
+        ensures { result ≡ summary_of (cargo_of self.now.lists) }
+    {
+        Summary {
+            here: self.lists.here,
+            sizes: Sizes {
+                moves: self.lists.book.len() as u32,
+                lines: self.lists.trail.len() as u32,
+                messages: self.lists.outbox.len() as u32,
+            },
+            confirmed: self.lists.confirmed,
         }
     }
 
@@ -239,22 +254,29 @@ impl PlainCargo {
         })
     }
 
-    fn pending_rows(&self) -> Result<Vec<Message>, AllocError>
-        ensures { IfOk result (λ rows. rows.items ≡ pending_messages (cargo_of self.now.lists)) }
+    /// Returns the messages with a greater number.
+    fn messages_after(&self, number: u32) -> Result<Vec<Message>, AllocError>
+        ensures { IfOk result (λ rows. rows.items
+            ≡ messages_after number (cargo_of self.now.lists)) }
     {
         let mut rows = Vec::new(self.lists.alloc);
-        for at in self.lists.confirmed as usize..self.lists.outbox.len() {
+        for at in (number as usize).min(self.lists.outbox.len())..self.lists.outbox.len() {
             rows.push(self.message_at(at)?)?;
         }
         Ok(rows)
     }
 
-    /// Hands out the unconfirmed messages, with their numbers from 1.
-    pub(crate) fn pending<S: Sink<Message>>(&self, sink: &mut S) -> Result<(), ActFault>
-        ensures { HandsRows S.takes (λ rows. rows ≡ pending_messages (cargo_of self.now.lists))
+    /// Hands out the queried messages, with their numbers from 1.
+    pub(crate) fn messages_by<S: Sink<Message>>(
+        &self,
+        query: &MessageQuery,
+        sink: &mut S,
+    ) -> Result<(), ActFault>
+        ensures { HandsRows S.takes (λ rows. rows ≡ messages_by query.now (cargo_of self.now.lists))
             sink.old sink.new result }
     {
-        let Ok(messages) = self.pending_rows() else {
+        let after = query.begins_after(self.lists.confirmed);
+        let Ok(messages) = self.messages_after(after) else {
             return Err(ActFault::Memory);
         };
         hand_out(sink, messages);

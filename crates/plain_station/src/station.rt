@@ -4,7 +4,8 @@ ghost use Rattle.desk_commands.specs.Command.{command_text};
 ghost use Rattle.plain_station.specs.Handing.{HandsRows};
 ghost use Rattle.plain_station.specs.State.{in_memory, state_of};
 ghost use Rattle.station_core.specs.Keeping.{Acts, Breaks};
-ghost use Rattle.station_core.specs.Readers.{waybill_of, shed_rows, AreFlightRows, AreExpectedBy, irregular_rows, book_by, pending_messages, trail_by};
+ghost use Rattle.station_core.specs.Told.{summary_of};
+ghost use Rattle.station_core.specs.Readers.{waybill_of, shed_rows, AreFlightRows, AreExpectedBy, irregular_rows, book_by, messages_by, trail_by};
 ghost use Rattle.station_core.specs.Step.{opening};
 ghost use Rattle.station_core.specs.declared.input.Input.TheVariants.{Keyed, Wire};
 
@@ -16,7 +17,8 @@ use desk_commands::{Command, command_text};
 use imp_fields::Airport;
 use station_core::{
     ActFault, Answer, BookQuery, BookRow, ExpectedQuery, ExpectedRow, FlightRow, Input,
-    IrregularRow, Keeper, Key, Message, Reply, ShedRow, Sink, TrailQuery, TrailRow, Waybill,
+    IrregularRow, Keeper, Key, Message, MessageQuery, Reply, ShedRow, Sink, Summary, TrailQuery,
+    TrailRow, Waybill,
 };
 use station_days::Moment;
 use std::alloc::Global;
@@ -166,6 +168,14 @@ impl Keeper for PlainStation {
         Ok(self.cargo.waybill(number))
     }
 
+    // It allocates nothing, and never fails.
+    fn summary(&mut self) -> Result<Summary, ActFault>
+        ensures answer { result ≡ Ok (summary_of (state_of self.old).cargo) }
+        ensures as_before { self.new ≡ self.old }
+    {
+        Ok(self.cargo.summary())
+    }
+
     fn stock<S: Sink<StockRun>>(&mut self, sink: &mut S) -> Result<(), ActFault>
         ensures hands { HandsRows S.takes (AreStockRuns (state_of self.old).cargo.holders) sink.old
             sink.new result }
@@ -218,12 +228,17 @@ impl Keeper for PlainStation {
         self.cargo.book_by(query, sink)
     }
 
-    fn pending<S: Sink<Message>>(&mut self, sink: &mut S) -> Result<(), ActFault>
+    fn messages_by<S: Sink<Message>>(
+        &mut self,
+        query: &MessageQuery,
+        sink: &mut S,
+    ) -> Result<(), ActFault>
         ensures hands { HandsRows S.takes
-            (λ rows. rows ≡ pending_messages (state_of self.old).cargo) sink.old sink.new result }
+            (λ rows. rows ≡ messages_by query.now (state_of self.old).cargo) sink.old sink.new
+            result }
         ensures as_before { self.new ≡ self.old }
     {
-        self.cargo.pending(sink)
+        self.cargo.messages_by(query, sink)
     }
 
     fn trail_by<S: Sink<TrailRow>>(

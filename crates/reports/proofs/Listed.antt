@@ -1,16 +1,17 @@
 -- The worked listings, computed.
 use Rattle.std.proofs.Common.{◌≡◌, true, [], ◌∷◌, refl}
-use Rattle.std.specs.Prelude.{codes, filter}
+use Rattle.std.specs.Prelude.{codes, filter, map}
 use Rattle.std.specs.Fmt.{digits}
 use Rattle.serde_json.proofs.OnLiterals.{serde_json_on_literals}
 use Rattle.jiff_core.specs.Calendar.{days_of_years, days_of_months, day_count, days_from_civil}
 use Rattle.desk_commands.specs.Day.{day_line}
-use Rattle.station_core.specs.Readers.{shed_rows, irregular_rows, book_by, book_rows, pending_messages, trail_by}
+use Rattle.station_core.specs.Readers.{shed_rows, irregular_rows, book_by, book_rows, messages_after, messages_by, pending_messages, trail_by}
 use Rattle.station_core.specs.declared.rows.BookQuery.TheVariants.{After, Last, Of}
+use Rattle.station_core.specs.declared.rows.MessageQuery.TheVariants as messages
 use Rattle.station_core.specs.declared.rows.TrailQuery.TheVariants as trail
 use Rattle.station_core.specs.declared.rows.FlightRow.{FlightRow}
 use Rattle.reports.specs.Lines.{stock_line, shed_line, flight_line, expected_line, irregular_line, book_line, message_lines, trail_line}
-use Rattle.reports.specs.Listings.{rows_text, is_open, is_awaited, is_held_by, is_behind}
+use Rattle.reports.specs.Listings.{rows_text, is_open, is_awaited, is_held_by, is_about}
 use Rattle.reports.specs.Objects.{stock_data, shed_data, flight_data, expected_data, irregular_data, book_data, message_data, trail_data}
 use Rattle.reports.specs.declared.form.Form.TheVariants.{Text, Json}
 use Rattle.reports.proofs.Examples.{printed, stock_runs, received, departed, told, short, flight_row, checked_row, jfk, on_the_day}
@@ -113,14 +114,27 @@ example_shed_object : rows_text Json shed_line shed_data (shed_rows received.car
 unfolding digits day_line serde_json_on_literals
 example_shed_object = refl
 
--- nothing stands behind the last message, and it behind any other number
-example_pending_after : rows_text Text message_lines message_data (filter (is_behind 4) (pending_messages departed.cargo)) ≡ printed (codes "END 0" ∷ [])
+-- no message is after the last one, and all unconfirmed ones are after any confirmed one
+example_pending_after : rows_text Text message_lines message_data (messages_by (messages.PendingAfter 4) departed.cargo) ≡ printed (codes "END 0" ∷ [])
 unfolding digits day_line
 example_pending_after = refl
 
-example_pending_before : filter (is_behind 3) (pending_messages departed.cargo) ≡ pending_messages departed.cargo
+example_pending_before : messages_by (messages.PendingAfter 2) departed.cargo ≡ pending_messages departed.cargo
 unfolding digits day_line
 example_pending_before = refl
+
+-- the confirmed messages are sent again; three of them tell the waybill's status, none another's
+example_sent_after : map (λ m. m.number) (messages_after 1 departed.cargo) ≡ 2 ∷ 3 ∷ 4 ∷ []
+unfolding digits day_line
+example_sent_after = refl
+
+example_sent : map (λ m. m.number) (filter (is_about 201234567) (messages_after 0 departed.cargo)) ≡ 1 ∷ 2 ∷ 3 ∷ []
+unfolding digits day_line
+example_sent = refl
+
+example_sent_of_another : filter (is_about 201234568) (messages_after 0 departed.cargo) ≡ []
+unfolding digits day_line
+example_sent_of_another = refl
 
 example_pending_object : rows_text Json message_lines message_data (pending_messages departed.cargo)
     ≡ printed (codes "{\"rows\":[{\"number\":4,\"text\":\"FFM/8\\r\\n1/LH400/12JAN/FRA\\r\\nJFK\\r\\n020-12345675FRAJFK/P4K40.0T10/CARGO\\r\\nLAST\\r\\n\"}],\"count\":1}" ∷ [])

@@ -19,11 +19,12 @@ use Rattle.station_core.specs.declared.rows.ShedRow.{ShedRow}
 use Rattle.station_core.specs.declared.rows.FlightRow.{FlightRow}
 use Rattle.station_core.specs.declared.rows.ExpectedRow.{ExpectedRow}
 use Rattle.station_core.specs.declared.rows.BookRow.{BookRow}
+use Rattle.station_core.specs.declared.stored.Summary.{Summary}
 use Rattle.reports.specs.Layout.{clock_text}
 use Rattle.reports.specs.Lines.{place_text}
-use Rattle.reports.specs.Members.{amount_members, flight_members, holder_members, moment_members, numbered_members, place_members, route_members, serial_members}
+use Rattle.reports.specs.Members.{amount_members, flight_members, holder_members, moment_members, numbered_members, place_members, route_members, serial_members, sizes_members}
 use Rattle.reports.specs.declared.manifest.ManifestRow.{ManifestRow}
-use Rattle.reports.specs.Objects.{amount_data, book_data, expected_data, flight_data, flight_or_null, holder_word, holder_name, irregular_data, manifest_data, message_data, trail_data, shed_data, stock_data}
+use Rattle.reports.specs.Objects.{amount_data, book_data, expected_data, flight_data, flight_or_null, holder_word, holder_name, irregular_data, manifest_data, message_data, trail_data, shed_data, stock_data, summary_data}
 
 two : (k a l b x : List ℕ) → (k ++ (a ++ (l ++ b))) ++ x ≡ k ++ (a ++ (l ++ (b ++ x)))
 two k a l b x = simp append_assoc
@@ -56,6 +57,13 @@ pub manifest_whole : (row : ManifestRow) → codes "{\"awb\":" ++ (compact_text 
     ++ (codes ",\"departed\":" ++ (compact_text (amount_data row.departed) ++ codes "}"))))) ≡ compact_text (manifest_data row)
 unfolding serde_json_on_literals
 manifest_whole row = refl
+
+pub summary_whole : (row : Summary) → codes "{\"airport\":" ++ (compact_text (string row.here) ++ (codes "," ++ (sizes_members row.sizes ++ (codes ",\"confirmed\":" ++ (decimal row.confirmed ++ codes "}")))))
+    ≡ compact_text (summary_data row)
+unfolding serde_json_on_literals
+summary_whole row =
+    ap (λ t. codes "{\"airport\":" ++ (compact_text (string row.here) ++ (codes "," ++ t)))
+    (three (codes "\"moves\":") (decimal row.sizes.moves) (codes ",\"trail\":") (decimal row.sizes.lines) (codes ",\"messages\":") (decimal row.sizes.messages) _)
 
 serial_more : (run : StockRun) (x : List ℕ) → serial_members run ++ x
     ≡ codes "\"prefix\":" ++ (compact_text (string (padded 3 (prefix_of run.first))) ++ (codes ",\"first\":" ++ (compact_text (string (padded 7 (serial_of run.first)))

@@ -1,6 +1,7 @@
 -- Listings of a station's rows: a report, or some rows of one, in lines or in JSON.
-use Rattle.std.specs.Prelude.{◌≡◌, ℕ, nat_lt, Bool, false, not, if◌then◌else◌, Option, Some, List, [], ◌∷◌, ◌++◌, length, filter, codes, option_map}
+use Rattle.std.specs.Prelude.{◌≡◌, ℕ, ◌&&◌, nat_le, Bool, false, not, if◌then◌else◌, Option, Some, List, [], ◌∷◌, ◌++◌, length, take, slice_range, filter, codes, option_map}
 use Rattle.std.specs.Str.{bytes_eq}
+use Rattle.awb_number.specs.Number.{number_text}
 use Rattle.serde_json.specs.Data.{Data, array, Items, item, no_items}
 use Rattle.serde_json.specs.Written.{compact_text}
 use Rattle.agent_stock.specs.Runs.{AreStockRuns}
@@ -13,14 +14,17 @@ use Rattle.station_core.specs.declared.rows.ExpectedRow.{ExpectedRow}
 use Rattle.station_core.specs.declared.rows.ExpectedQuery.{ExpectedQuery}
 use Rattle.station_core.specs.declared.rows.ExpectedQuery.TheVariants as expected
 use Rattle.station_core.specs.declared.rows.Message.{Message}
+use Rattle.station_core.specs.declared.rows.MessageQuery.{MessageQuery}
+use Rattle.station_core.specs.declared.rows.MessageQuery.TheVariants as messages
 use Rattle.station_core.specs.declared.rows.BookQuery.{BookQuery}
 use Rattle.station_core.specs.declared.rows.BookQuery.TheVariants as book
 use Rattle.station_core.specs.declared.rows.TrailQuery.{TrailQuery}
 use Rattle.station_core.specs.declared.rows.TrailQuery.TheVariants as trail
-use Rattle.station_core.specs.Readers.{shed_rows, AreFlightRows, AreExpectedBy, irregular_rows, book_by, pending_messages, trail_by}
+use Rattle.station_core.specs.Readers.{shed_rows, AreFlightRows, AreExpectedBy, irregular_rows, book_by, messages_after, messages_by, trail_by}
 use Rattle.station_core.specs.Step.{State}
-use Rattle.reports.specs.Lines.{stock_line, shed_line, flight_line, expected_line, irregular_line, manifest_line, book_line, message_lines, trail_line, report_text}
-use Rattle.reports.specs.Objects.{object_of, count_data, stock_data, shed_data, flight_data, expected_data, irregular_data, manifest_data, book_data, message_data, trail_data}
+use Rattle.station_core.specs.Told.{summary_of}
+use Rattle.reports.specs.Lines.{stock_line, shed_line, flight_line, expected_line, irregular_line, manifest_line, book_line, message_lines, summary_line, trail_line, report_text}
+use Rattle.reports.specs.Objects.{object_of, count_data, stock_data, shed_data, flight_data, expected_data, irregular_data, manifest_data, book_data, message_data, summary_data, trail_data}
 use Rattle.reports.specs.Manifest.{manifest_rows}
 use Rattle.reports.specs.Reports.{report_called}
 use Rattle.reports.specs.declared.form.Form.{Form}
@@ -65,8 +69,10 @@ is_agent code _ = false
 abbrev pub is_held_by : List ℕ → StockRun → Bool
 is_held_by code run = is_agent code run.holder
 
-abbrev pub is_behind : ℕ → Message → Bool
-is_behind n message = nat_lt n message.number
+-- a status message of a waybill: its second line begins with the number
+abbrev pub is_about : ℕ → Message → Bool
+is_about w message =
+    nat_le 20 (length message.text) && bytes_eq (take 8 message.text) (codes "FSU/12\r\n") && bytes_eq (slice_range message.text 8 20) (number_text w)
 
 -- The listings.
 
@@ -77,9 +83,12 @@ IsMovements f s query text = text ≡ rows_text f book_line book_data (book_by q
 abbrev pub IsTrail : Form → State → TrailQuery → List ℕ → Type 0
 IsTrail f s query text = text ≡ rows_text f trail_line trail_data (trail_by query s.cargo)
 
--- the unconfirmed messages with a greater number
-abbrev pub IsPendingAfter : Form → State → ℕ → List ℕ → Type 0
-IsPendingAfter f s n text = text ≡ rows_text f message_lines message_data (filter (is_behind n) (pending_messages s.cargo))
+-- the queried messages, and the status messages of a waybill
+abbrev pub IsMessages : Form → State → MessageQuery → List ℕ → Type 0
+IsMessages f s query text = text ≡ rows_text f message_lines message_data (messages_by query s.cargo)
+
+abbrev pub IsSent : Form → State → ℕ → List ℕ → Type 0
+IsSent f s w text = text ≡ rows_text f message_lines message_data (filter (is_about w) (messages_after 0 s.cargo))
 
 abbrev pub IsManifest : Form → State → FlightDate → List ℕ → Type 0
 IsManifest f s flight text = text ≡ rows_text f manifest_line manifest_data (manifest_rows s.cargo flight)
@@ -96,7 +105,9 @@ IsWhole f s report.Expected text = IsExpected f s expected.All text
 IsWhole f s report.Irregularities text = text ≡ rows_text f irregular_line irregular_data (irregular_rows s.cargo)
 IsWhole f s report.Movements text = IsMovements f s book.All text
 IsWhole f s report.Trail text = IsTrail f s trail.All text
-IsWhole f s report.Pending text = text ≡ rows_text f message_lines message_data (pending_messages s.cargo)
+IsWhole f s report.Pending text = IsMessages f s messages.Pending text
+IsWhole f s report.Sent text = IsMessages f s (messages.After 0) text
+IsWhole f s report.Station text = text ≡ rows_text f summary_line summary_data (summary_of s.cargo ∷ [])
 
 -- the text is that listing of the state in that form
 abbrev pub IsListing : Form → State → Listing → List ℕ → Type 0
@@ -112,7 +123,9 @@ IsListing f s (listing.MovementsLast n) text = IsMovements f s (book.Last n) tex
 IsListing f s (listing.Trail w) text = IsTrail f s (trail.Of w) text
 IsListing f s (listing.TrailAfter n) text = IsTrail f s (trail.After n) text
 IsListing f s (listing.TrailLast n) text = IsTrail f s (trail.Last n) text
-IsListing f s (listing.PendingAfter n) text = IsPendingAfter f s n text
+IsListing f s (listing.PendingAfter n) text = IsMessages f s (messages.PendingAfter n) text
+IsListing f s (listing.SentAfter n) text = IsMessages f s (messages.After n) text
+IsListing f s (listing.Sent w) text = IsSent f s w text
 IsListing f s (listing.Manifest flight) text = IsManifest f s flight text
 
 -- the listing with a name: a report, or open rows

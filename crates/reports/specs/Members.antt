@@ -12,6 +12,7 @@ use Rattle.agent_stock.specs.declared.stock.Holder.{Holder}
 use Rattle.shipment_machine.specs.declared.flight.FlightDate.{FlightDate}
 use Rattle.shipment_machine.specs.declared.moves.Place.{Place}
 use Rattle.station_core.specs.declared.rows.BookRow.{BookRow}
+use Rattle.station_core.specs.declared.stored.Sizes.{Sizes}
 use Rattle.reports.specs.Layout.{clock_text}
 use Rattle.reports.specs.Lines.{place_text}
 use Rattle.reports.specs.Objects.{holder_word, holder_name}
@@ -32,6 +33,10 @@ place_members from to = codes "\"from\":" ++ (compact_text (string (place_text f
 
 abbrev pub amount_members : ℕ → ℕ → List ℕ
 amount_members pieces tenths = codes "\"pieces\":" ++ (decimal pieces ++ (codes ",\"tenths\":" ++ decimal tenths))
+
+abbrev pub sizes_members : Sizes → List ℕ
+sizes_members sizes =
+    codes "\"moves\":" ++ (decimal sizes.moves ++ (codes ",\"trail\":" ++ (decimal sizes.lines ++ (codes ",\"messages\":" ++ decimal sizes.messages))))
 
 abbrev pub serial_members : StockRun → List ℕ
 serial_members run =

@@ -19,6 +19,7 @@ use Rattle.station_core.specs.declared.rows.ExpectedRow.{ExpectedRow}
 use Rattle.station_core.specs.declared.rows.BookRow.{BookRow}
 use Rattle.station_core.specs.declared.rows.Message.{Message}
 use Rattle.station_core.specs.declared.rows.TrailRow.{TrailRow}
+use Rattle.station_core.specs.declared.stored.Summary.{Summary}
 use Rattle.reports.specs.Layout.{clock_text}
 use Rattle.reports.specs.Lines.{place_text}
 use Rattle.reports.specs.declared.manifest.ManifestRow.{ManifestRow}
@@ -109,6 +110,12 @@ book_data row =
 -- Pending messages: the number and the text.
 abbrev pub message_data : Message → Data
 message_data row = object_of ((codes "number", count_data row.number) ∷ (codes "text", string row.text) ∷ [])
+
+-- The station at a glance.
+abbrev pub summary_data : Summary → Data
+summary_data row =
+    object_of ((codes "airport", string row.here) ∷ (codes "moves", count_data row.sizes.moves) ∷ (codes "trail", count_data row.sizes.lines)
+    ∷ (codes "messages", count_data row.sizes.messages) ∷ (codes "confirmed", count_data row.confirmed) ∷ [])
 
 -- The trail: the number, the waybill and the line that arrived.
 abbrev pub trail_data : TrailRow → Data

@@ -32,6 +32,10 @@ pub enum Listing {
     TrailLast(u32),
     /// The unconfirmed messages with a greater number.
     PendingAfter(u32),
+    /// The messages with a greater number, confirmed or not.
+    SentAfter(u32),
+    /// The status messages of a waybill, confirmed or not.
+    Sent(Awb),
     /// The manifest of a flight, ascending by waybill: the pieces built for it now, and those that
     /// departed with it.
     Manifest(FlightDate),

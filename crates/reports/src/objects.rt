@@ -9,8 +9,8 @@ ghost use Rattle.imp_fields.specs.Flight.{flight_text};
 ghost use Rattle.desk_commands.specs.Day.{day_line};
 ghost use Rattle.reports.specs.Layout.{clock_text};
 ghost use Rattle.reports.specs.Lines.{place_text};
-ghost use Rattle.reports.specs.Members.{amount_members, flight_members, holder_members, moment_members, numbered_members, place_members, route_members, serial_members};
-ghost use Rattle.reports.specs.Objects.{amount_data, book_data, expected_data, flight_data, flight_or_null, holder_name, holder_word, irregular_data, manifest_data, shed_data, stock_data};
+ghost use Rattle.reports.specs.Members.{amount_members, flight_members, holder_members, moment_members, numbered_members, place_members, route_members, serial_members, sizes_members};
+ghost use Rattle.reports.specs.Objects.{amount_data, book_data, expected_data, flight_data, flight_or_null, holder_name, holder_word, irregular_data, manifest_data, shed_data, stock_data, summary_data};
 
 use crate::layout::{clock, seven_digits};
 use crate::manifest::ManifestRow;
@@ -20,7 +20,9 @@ use agent_stock::{Holder, StockRun};
 use awb_number::{Awb, ascii_text};
 use imp_fields::{Airport, BookTenths, Flight, Pieces};
 use shipment_machine::{Amount, FlightDate, Place};
-use station_core::{BookRow, Expectation, ExpectedRow, FlightRow, IrregularRow, ShedRow};
+use station_core::{
+    BookRow, Expectation, ExpectedRow, FlightRow, IrregularRow, ShedRow, Sizes, Summary,
+};
 use station_days::{LocalDay, Moment};
 use std::alloc::{AllocError, Global};
 
@@ -234,6 +236,23 @@ pub(crate) fn irregular_object(alloc: Global, row: &IrregularRow) -> Result<Stri
     let missing = amount_object(alloc, &row.missing)?;
     let found = amount_object(alloc, &row.found)?;
     format!(in alloc; "{{{route},\"missing\":{missing},\"found\":{found}}}")
+}
+
+/// Returns the members of the numbers of the last move, trail line and message.
+fn sizes_members(alloc: Global, sizes: &Sizes) -> Result<String, AllocError>
+    ensures { IfOk result (λ text. string_bytes text ≡ sizes_members sizes.now) }
+{
+    let (moves, lines, messages) = (sizes.moves, sizes.lines, sizes.messages);
+    format!(in alloc; "\"moves\":{moves},\"trail\":{lines},\"messages\":{messages}")
+}
+
+pub(crate) fn summary_object(alloc: Global, row: &Summary) -> Result<String, AllocError>
+    ensures { IfOk result (λ text. string_bytes text ≡ compact_text (summary_data row.now)) }
+{
+    let here = airport_text(alloc, &row.here)?;
+    let sizes = sizes_members(alloc, &row.sizes)?;
+    let confirmed = row.confirmed;
+    format!(in alloc; "{{\"airport\":{here},{sizes},\"confirmed\":{confirmed}}}")
 }
 
 pub(crate) fn manifest_object(alloc: Global, row: &ManifestRow) -> Result<String, AllocError>

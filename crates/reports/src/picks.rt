@@ -1,8 +1,9 @@
 //! Rows selected from those of a report.
 ghost use Rattle.std.specs.Prelude.{◌≡◌, true, not};
-ghost use Rattle.reports.specs.Listings.{is_open, is_held_by, is_behind};
+ghost use Rattle.reports.specs.Listings.{is_about, is_open, is_held_by};
 
 use agent_stock::{AgentCode, Holder, StockRun};
+use awb_number::Awb;
 use station_core::{FlightRow, Message};
 
 /// A selection of rows.
@@ -55,16 +56,20 @@ impl Pick<StockRun> for OfAgent {
     }
 }
 
-/// The messages with a greater number.
+/// The status messages of a waybill.
 #[derive(Drop)]
-pub(crate) struct Behind {
-    pub(crate) number: u32,
+pub(crate) struct OfWaybill {
+    pub(crate) awb: Awb,
 }
 
-impl Pick<Message> for Behind {
-    ghost wanted = { λ pick message. is_behind pick.number message };
+impl Pick<Message> for OfWaybill {
+    ghost wanted = { λ pick message. is_about pick.awb message };
 
     fn wants(&self, message: &Message) -> bool {
-        self.number < message.number
+        let text = message.text.as_bytes();
+        let number = self.awb.write();
+        text.len() >= 20
+            && &text[..8] == b"FSU/12\r\n".as_slice()
+            && &text[8..20] == number.as_slice()
     }
 }

@@ -1,13 +1,33 @@
 //! Readers of a keeper, for each report.
-ghost use Rattle.std.specs.Prelude.{◌≡◌};
+ghost use Rattle.std.specs.Prelude.{◌≡◌, ◌∷◌, [], false, IfErr, IfOk};
+ghost use Rattle.station_core.specs.Keeping.{IfSound, IsReadersFault, OnlyReads, Reopens};
+ghost use Rattle.station_core.specs.Told.{summary_of};
 ghost use Rattle.agent_stock.specs.Runs.{AreStockRuns};
-ghost use Rattle.station_core.specs.Readers.{shed_rows, AreFlightRows, AreExpectedBy, irregular_rows, book_by, pending_messages, trail_by};
+ghost use Rattle.station_core.specs.Readers.{shed_rows, AreFlightRows, AreExpectedBy, irregular_rows, book_by, messages_by, trail_by};
 
 use agent_stock::StockRun;
 use station_core::{
     ActFault, BookQuery, BookRow, ExpectedQuery, ExpectedRow, FlightRow, IrregularRow, Keeper,
-    Message, ShedRow, Sink, TrailQuery, TrailRow,
+    Message, MessageQuery, ShedRow, Sink, Summary, TrailQuery, TrailRow, hand_out,
 };
+use std::alloc::Global;
+
+/// Returns the station at a glance, as a list of one row.
+fn summary_row<K: Keeper>(alloc: Global, keeper: &mut K) -> Result<Vec<Summary>, ActFault>
+    ensures reopen { Reopens K.keeping keeper.old keeper.new result }
+    ensures fault { K.keeping.is_broken keeper.old ≡ false → IfErr result
+        (IsReadersFault K.keeping.may_fail) }
+    ensures reads { OnlyReads K.keeping keeper.old keeper.new }
+    ensures rows { IfSound K.keeping keeper.old keeper.new
+        (λ s. IfOk result (λ rows. rows.items ≡ summary_of s.cargo ∷ [])) }
+{
+    let summary = keeper.summary()?;
+    let mut rows = Vec::new(alloc);
+    match rows.push(summary) {
+        Ok(()) => Ok(rows),
+        Err(_) => Err(ActFault::Memory),
+    }
+}
 
 /// A reader of rows.
 pub(crate) trait Reading<Row> {
@@ -124,17 +144,43 @@ impl Reading<BookRow> for BookReading {
 }
 
 #[derive(Drop)]
-pub(crate) struct PendingReading;
+pub(crate) struct MessageReading {
+    pub(crate) query: MessageQuery,
+}
 
-impl Reading<Message> for PendingReading {
-    ghost rows = { λ reading s rows. rows ≡ pending_messages s };
+impl Reading<Message> for MessageReading {
+    ghost rows = { λ reading s rows. rows ≡ messages_by reading.query s };
 
     fn hand_out<K: Keeper, S: Sink<Message>>(
         &self,
         keeper: &mut K,
         sink: &mut S,
     ) -> Result<(), ActFault> {
-        keeper.pending(sink)
+        keeper.messages_by(&self.query, sink)
+    }
+}
+
+/// The station at a glance, as the only row.
+#[derive(Drop)]
+pub(crate) struct SummaryReading {
+    pub(crate) alloc: Global,
+}
+
+impl Reading<Summary> for SummaryReading {
+    ghost rows = { λ reading s rows. rows ≡ summary_of s ∷ [] };
+
+    fn hand_out<K: Keeper, S: Sink<Summary>>(
+        &self,
+        keeper: &mut K,
+        sink: &mut S,
+    ) -> Result<(), ActFault> {
+        match summary_row(self.alloc, keeper) {
+            Ok(rows) => {
+                hand_out(sink, rows);
+                Ok(())
+            }
+            Err(fault) => Err(fault),
+        }
     }
 }
 

@@ -24,10 +24,14 @@ pub enum Report {
     Trail,
     /// The unconfirmed messages, each after a line with its number and its length.
     Pending,
+    /// All messages, confirmed or not, in the same form.
+    Sent,
+    /// The station at a glance: `FRA moves 3 trail 0 messages 4 confirmed 3`.
+    Station,
 }
 
 impl Report {
-    /// Returns the report with a name. The pending messages have none.
+    /// Returns the report with a name. `Pending` has none.
     pub fn read(name: &[u8]) -> Option<Report>
         ensures { result ≡ report_called name.now }
     {
@@ -45,6 +49,10 @@ impl Report {
             Some(Report::Movements)
         } else if name == b"trail".as_slice() {
             Some(Report::Trail)
+        } else if name == b"sent".as_slice() {
+            Some(Report::Sent)
+        } else if name == b"station".as_slice() {
+            Some(Report::Station)
         } else {
             None
         }

@@ -7,7 +7,7 @@ use Rattle.std.proofs.lemmas.Int.{ints}
 use Rattle.std.proofs.lemmas.List.{drop-map}
 use Rattle.imp_fields.specs.Flight.{flight_text}
 use Rattle.shipment_machine.specs.declared.flight.FlightDate.{FlightDate}
-use Rattle.station_core.specs.Readers.{numbered, book_row, book_rows, last_of, is_of_flight, message, pending_messages, trail_row, trail_rows}
+use Rattle.station_core.specs.Readers.{numbered, book_row, book_rows, last_of, is_of_flight, message, messages_after, trail_row, trail_rows}
 use Rattle.station_core.specs.Step.{State}
 use Rattle.station_rows.specs.Meant.{is_move_after, is_flown, is_of, is_message_after, is_line_after, is_line_of}
 use Rattle.station_core.specs.declared.rows.Message as reader
@@ -168,9 +168,8 @@ module _ (t : Tables) (s : State) (means : Means t (Some s)) where
       ∙ ap (filter (λ row. row.awb == w)) trail_handed
 
   -- the messages behind the mark
-  pub pending_handed : map message_of (filter (is_message_after (pos s.cargo.confirmed)) t.outbox) ≡ pending_messages s.cargo
-  pending_handed =
-      let mark : ℕ = s.cargo.confirmed in
+  pub messages_handed : (mark : ℕ) → map message_of (filter (is_message_after (pos mark)) t.outbox) ≡ messages_after mark s.cargo
+  messages_handed mark =
       let one : mark + 1 - 1 ≡ mark = omega arith in
       let after : 1 + mark ≡ mark + 1 = omega arith in
       ap (map message_of) (behind_mark message_id mark t.outbox 1 means.0.outbox ∙ ap (λ n. drop n t.outbox) one)

@@ -17,6 +17,7 @@ at_rest s = record { now = s; committed = s; in_transaction = false }
 abbrev pub inside : State → State → Seen
 inside before s = record { now = s; committed = before; in_transaction = true }
 
+-- what contracts say of a store
 pub record Storing (K : Type 0) : Type 1 where
   -- the store shows this, as long as the disk is clean
   pub shows : K → Seen → Type 0

@@ -7,8 +7,8 @@ use shipment_machine::{
     Amount, Balances, Change, Declared, Expected, FlightDate, Move, Outbound, Part,
 };
 use station_core::{
-    BookQuery, BookRow, Expectation, ExpectedQuery, KeptReply, Key, Load, Message, NotedFlight,
-    Sink, Sizes, TrailQuery, TrailRow, WaybillBalances,
+    BookQuery, BookRow, Expectation, ExpectedQuery, KeptReply, Key, Load, Message, MessageQuery,
+    NotedFlight, Sink, Sizes, TrailQuery, TrailRow, WaybillBalances,
 };
 
 /// The state of a station in a store, with short calls that read and change it.
@@ -23,7 +23,7 @@ pub trait StateStore {
     ghost use Rattle.agent_stock.specs.Stock.{order_refusal};
     ghost use Rattle.shipment_machine.specs.Book.{balances_of, built, has_moves as is_moved, waybills_on};
     ghost use Rattle.shipment_machine.specs.Cargo.{written};
-    ghost use Rattle.station_core.specs.Readers.{AreNoted, AreExpectations, expected_for, book_by, pending_messages, trail_by};
+    ghost use Rattle.station_core.specs.Readers.{AreNoted, AreExpectations, expected_for, book_by, messages_by, trail_by};
     ghost use Rattle.station_core.specs.Step.{State, has_room};
     ghost use Rattle.state_store.specs.Store.{Changes, Commits, HandsOut, Reads, ReadsAtRest, Says, Seen, Storing, Survives, at_rest, inside};
     ghost use Rattle.state_store.specs.Waybills.{waybills_for};
@@ -184,10 +184,14 @@ pub trait StateStore {
         ensures { HandsOut storing self.old self.new result K.takes
             (λ s. book_by query.now s.cargo) sink.old sink.new };
 
-    /// Hands out the unconfirmed messages, in order, as they are read, until the sink stops.
-    fn pending<K: Sink<Message>>(&mut self, sink: &mut K) -> Result<(), StoreFault>
+    /// Hands out the queried messages, in order, as they are read, until the sink stops.
+    fn messages_by<K: Sink<Message>>(
+        &mut self,
+        query: &MessageQuery,
+        sink: &mut K,
+    ) -> Result<(), StoreFault>
         ensures { HandsOut storing self.old self.new result K.takes
-            (λ s. pending_messages s.cargo) sink.old sink.new };
+            (λ s. messages_by query.now s.cargo) sink.old sink.new };
 
     /// Hands out the queried lines of the trail, in order, as they are read, until the sink stops.
     fn trail_by<K: Sink<TrailRow>>(

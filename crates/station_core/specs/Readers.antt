@@ -1,5 +1,5 @@
 -- The rows that a station's readers hand out.
-use Rattle.std.specs.Prelude.{◌≡◌, ℕ, ◌+◌, ◌-◌, Bool, ◌||◌, ◌&&◌, ◌==◌, not, nat_lt, if◌then◌else◌, IsTrue, Option, Some, None, List, [], ◌∷◌, length, map, drop, filter, true, false}
+use Rattle.std.specs.Prelude.{◌≡◌, max, ℕ, ◌+◌, ◌-◌, Bool, ◌||◌, ◌&&◌, ◌==◌, not, nat_lt, if◌then◌else◌, IsTrue, Option, Some, None, List, [], ◌∷◌, length, map, drop, filter, true, false}
 use Rattle.std.specs.List.{find, flat_map, sum_by}
 use Rattle.std.specs.FinMap.{is_sorted}
 use Rattle.std.specs.Ordering.{nat_cmp, ordering_then}
@@ -30,6 +30,8 @@ use Rattle.station_core.specs.declared.rows.BookRow.{BookRow}
 use Rattle.station_core.specs.declared.rows.BookQuery.{BookQuery}
 use Rattle.station_core.specs.declared.rows.BookQuery.TheVariants as book
 use Rattle.station_core.specs.declared.rows.Message.{Message}
+use Rattle.station_core.specs.declared.rows.MessageQuery.{MessageQuery}
+use Rattle.station_core.specs.declared.rows.MessageQuery.TheVariants as messages
 use Rattle.station_core.specs.declared.rows.TrailRow.{TrailRow}
 use Rattle.station_core.specs.declared.rows.TrailQuery.{TrailQuery}
 use Rattle.station_core.specs.declared.rows.TrailQuery.TheVariants as trail
@@ -179,12 +181,25 @@ movements_for (book.On f) rows = filter (λ row. is_of_flight f row.movement) ro
 abbrev pub book_by : BookQuery → Cargo → List BookRow
 book_by query s = movements_for query (book_rows s)
 
--- the messages after the last confirmed one
 abbrev pub message : ℕ → List ℕ → Message
 message n text = record { number = n; text = text }
 
+-- the messages with a greater number
+abbrev pub messages_after : ℕ → Cargo → List Message
+messages_after n s = numbered message (n + 1) (drop n s.outbox)
+
+-- the unconfirmed messages: those after the last confirmed one
 abbrev pub pending_messages : Cargo → List Message
-pending_messages s = numbered message (s.confirmed + 1) (drop s.confirmed s.outbox)
+pending_messages s = messages_after s.confirmed s
+
+-- the number after which the queried messages begin, by that of the last confirmed one
+abbrev pub begins_after : MessageQuery → ℕ → ℕ
+begins_after messages.Pending confirmed = confirmed
+begins_after (messages.PendingAfter n) confirmed = max confirmed n
+begins_after (messages.After n) confirmed = n
+
+abbrev pub messages_by : MessageQuery → Cargo → List Message
+messages_by query s = messages_after (begins_after query s.confirmed) s
 
 -- the trail, in order
 abbrev pub trail_row : ℕ → ℕ × List ℕ → TrailRow

@@ -22,6 +22,7 @@ use Rattle.station_core.specs.Step.{State, Kept, keeping, keeping_text, sent}
 use Rattle.station_core.specs.declared.stored.KeptReply.{KeptReply}
 use Rattle.station_core.specs.declared.stored.Load.{Load}
 use Rattle.station_core.specs.declared.stored.Sizes.{Sizes}
+use Rattle.station_core.specs.declared.stored.Summary.{Summary}
 use Rattle.station_core.specs.declared.stored.WaybillBalances.{WaybillBalances}
 
 abbrev pub kept_of : KeptReply → Kept
@@ -35,6 +36,10 @@ pub record IsRequest (text : List ℕ) : Type 0 where
 
 abbrev pub sizes_of : Cargo → Sizes
 sizes_of c = record { moves = length c.book; lines = length c.trail; messages = length c.outbox }
+
+-- the airport, the numbers of rows, and that of the last confirmed message
+abbrev pub summary_of : Cargo → Summary
+summary_of c = record { here = c.here; sizes = sizes_of c; confirmed = c.confirmed }
 
 -- the amounts built on a flight, ascending
 abbrev pub load_on : List Move → FlightDate → ℕ → Load

@@ -3,9 +3,10 @@ ghost use Rattle.std.specs.Prelude.{◌≡◌, false, Option, Some};
 use crate::answer::{ActFault, Reply};
 use crate::input::Input;
 use crate::rows::{
-    BookQuery, BookRow, ExpectedQuery, ExpectedRow, FlightRow, IrregularRow, Message, ShedRow,
-    TrailQuery, TrailRow, Waybill,
+    BookQuery, BookRow, ExpectedQuery, ExpectedRow, FlightRow, IrregularRow, Message, MessageQuery,
+    ShedRow, TrailQuery, TrailRow, Waybill,
 };
+use crate::stored::Summary;
 use agent_stock::{Holder, StockRun};
 use awb_number::Awb;
 use row_sinks::Sink;
@@ -19,10 +20,11 @@ pub trait Keeper {
     ghost use Rattle.agent_stock.specs.Runs.{AreStockRuns};
     ghost use Rattle.station_core.specs.Step.{State, IsLawfulState};
     ghost use Rattle.station_core.specs.Keeping.{Acts, Breaks, FindsOnly, HandsOut, IfWorks, Keeping, KeepsSound, Leaves, Reads, Reopens};
-    ghost use Rattle.station_core.specs.Readers.{waybill_of, shed_rows, AreFlightRows, AreExpectedBy, AreExpectedRows, irregular_rows, book_rows, book_by, pending_messages, trail_rows, trail_by};
+    ghost use Rattle.station_core.specs.Told.{summary_of};
+    ghost use Rattle.station_core.specs.Readers.{waybill_of, shed_rows, AreFlightRows, AreExpectedBy, AreExpectedRows, irregular_rows, book_rows, book_by, messages_by, pending_messages, trail_rows, trail_by};
 
-    /// What a contract sees of the keeper: the state that it keeps, whether its disk and its storage
-    /// hold what they confirmed, whether it is broken, and what reopening may find.
+    /// The keeper as contracts see it: the state that it keeps, whether its disk and its storage
+    /// hold what they confirmed, whether it is broken, and the states that reopening may find.
     ghost keeping: { Keeping Self };
 
     /// Acts on one input at a moment.
@@ -48,6 +50,11 @@ pub trait Keeper {
     fn waybill(&mut self, number: &Awb) -> Result<Option<Waybill>, ActFault>
         ensures { Reads keeping self.old self.new result
             (λ s waybill. waybill ≡ waybill_of s.cargo number.now) };
+
+    /// Returns the station at a glance.
+    fn summary(&mut self) -> Result<Summary, ActFault>
+        ensures { Reads keeping self.old self.new result
+            (λ s summary. summary ≡ summary_of s.cargo) };
 
     /// Hands out the stock as maximal runs of one holder, ascending.
     fn stock<S: Sink<StockRun>>(&mut self, sink: &mut S) -> Result<(), ActFault>
@@ -102,7 +109,19 @@ pub trait Keeper {
     /// Hands out the unconfirmed messages, in order.
     fn pending<S: Sink<Message>>(&mut self, sink: &mut S) -> Result<(), ActFault>
         ensures { HandsOut keeping self.old self.new result S.takes
-            (λ s rows. rows ≡ pending_messages s) sink.old sink.new };
+            (λ s rows. rows ≡ pending_messages s) sink.old sink.new }
+    {
+        self.messages_by(&MessageQuery::Pending, sink)
+    }
+
+    /// Hands out the queried messages, in order.
+    fn messages_by<S: Sink<Message>>(
+        &mut self,
+        query: &MessageQuery,
+        sink: &mut S,
+    ) -> Result<(), ActFault>
+        ensures { HandsOut keeping self.old self.new result S.takes
+            (λ s rows. rows ≡ messages_by query.now s) sink.old sink.new };
 
     /// Hands out the trail, in order.
     fn trail<S: Sink<TrailRow>>(&mut self, sink: &mut S) -> Result<(), ActFault>

@@ -32,9 +32,9 @@ pub use repeat::repeated_key;
 pub use row_sinks::{Sink, hand_out};
 pub use rows::{
     BookQuery, BookRow, Expectation, ExpectedQuery, ExpectedRow, FlightRow, IrregularRow, Message,
-    NotedFlight, RowText, ShedRow, TrailQuery, TrailRow, Waybill,
+    MessageQuery, NotedFlight, RowText, ShedRow, TrailQuery, TrailRow, Waybill,
 };
 pub use shipment::shipment_of;
 pub use stock::{count_of_order, refusal_of_order};
-pub use stored::{KeptReply, Load, Sizes, WaybillBalances};
+pub use stored::{KeptReply, Load, Sizes, Summary, WaybillBalances};
 pub use texts::{detail_text, refusal_text, reply_text};

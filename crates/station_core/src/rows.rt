@@ -1,5 +1,6 @@
 //! The rows that a station's readers hand out.
 ghost use Rattle.std.specs.Prelude.{◌≡◌};
+ghost use Rattle.station_core.specs.Readers.{begins_after};
 
 use awb_number::Awb;
 use imp_fields::Airport;
@@ -144,7 +145,31 @@ pub enum BookQuery {
     On(FlightDate),
 }
 
-/// An unconfirmed message.
+/// A query of the outbox.
+#[derive(Clone, Copy, Debug, PartialEq, Eq)]
+pub enum MessageQuery {
+    /// The unconfirmed messages.
+    Pending,
+    /// The unconfirmed messages with a greater number.
+    PendingAfter(u32),
+    /// The messages with a greater number, confirmed or not.
+    After(u32),
+}
+
+impl MessageQuery {
+    /// Returns the number after which the queried messages begin.
+    pub fn begins_after(&self, confirmed: u32) -> u32
+        ensures { result ≡ begins_after self.now confirmed }
+    {
+        match self {
+            MessageQuery::Pending => confirmed,
+            MessageQuery::PendingAfter(number) => confirmed.max(*number),
+            MessageQuery::After(number) => *number,
+        }
+    }
+}
+
+/// A message of the outbox.
 #[derive(Drop)]
 pub struct Message {
     /// The position in the outbox, from 1.

@@ -1,5 +1,6 @@
 //! Values that a store returns from a station's state.
 use awb_number::Awb;
+use imp_fields::Airport;
 use shipment_machine::{Amount, Balances};
 
 /// The reply stored under a key.
@@ -31,4 +32,13 @@ pub struct Sizes {
     pub moves: u32,
     pub lines: u32,
     pub messages: u32,
+}
+
+/// A station at a glance.
+#[derive(Clone, Copy, Debug, PartialEq, Eq)]
+pub struct Summary {
+    pub here: Airport,
+    pub sizes: Sizes,
+    /// The number of the last confirmed message.
+    pub confirmed: u32,
 }

@@ -13,7 +13,8 @@ use awb_number::Awb;
 use state_store::{StateStore, expected_rows, flight_rows, irregular_rows, shed_rows, waybill_in};
 use station_core::{
     ActFault, Answer, BookQuery, BookRow, ExpectedQuery, ExpectedRow, FlightRow, Input,
-    IrregularRow, Keeper, Message, Reply, ShedRow, Sink, TrailQuery, TrailRow, Waybill, hand_out,
+    IrregularRow, Keeper, Message, MessageQuery, Reply, ShedRow, Sink, Summary, TrailQuery,
+    TrailRow, Waybill, hand_out,
 };
 use station_days::Moment;
 use std::alloc::Global;
@@ -215,6 +216,17 @@ impl<S: StateStore> Keeper for StoredStation<S> {
         }
     }
 
+    fn summary(&mut self) -> Result<Summary, ActFault> {
+        if self.broken {
+            return Err(ActFault::Reopen);
+        }
+        Ok(Summary {
+            here: self.store.here(),
+            sizes: self.store.sizes(),
+            confirmed: self.store.confirmed(),
+        })
+    }
+
     fn stock<K: Sink<StockRun>>(&mut self, sink: &mut K) -> Result<(), ActFault> {
         let rows = self.runs()?;
         hand_out(sink, rows);
@@ -265,11 +277,15 @@ impl<S: StateStore> Keeper for StoredStation<S> {
     }
 
     #[tactic(auto, using(crate::proofs::Reading::hands_out))]
-    fn pending<K: Sink<Message>>(&mut self, sink: &mut K) -> Result<(), ActFault> {
+    fn messages_by<K: Sink<Message>>(
+        &mut self,
+        query: &MessageQuery,
+        sink: &mut K,
+    ) -> Result<(), ActFault> {
         if self.broken {
             return Err(ActFault::Reopen);
         }
-        match self.store.pending(sink) {
+        match self.store.messages_by(query, sink) {
             Err(_) => Err(ActFault::Store),
             Ok(()) => Ok(()),
         }

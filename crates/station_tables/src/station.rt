@@ -19,7 +19,7 @@ use awb_number::Awb;
 use sqlite::{Alter, Connection};
 use station_core::{
     ActFault, BookQuery, BookRow, ExpectedQuery, ExpectedRow, FlightRow, Input, IrregularRow,
-    Keeper, Message, Reply, ShedRow, Sink, TrailQuery, TrailRow, Waybill,
+    Keeper, Message, MessageQuery, Reply, ShedRow, Sink, Summary, TrailQuery, TrailRow, Waybill,
 };
 use station_days::Moment;
 use station_engine::StoredStation;
@@ -128,6 +128,10 @@ impl<S: Alter> Keeper for Station<S> {
         self.stored.waybill(number)
     }
 
+    fn summary(&mut self) -> Result<Summary, ActFault> {
+        self.stored.summary()
+    }
+
     fn stock<K: Sink<StockRun>>(&mut self, sink: &mut K) -> Result<(), ActFault> {
         self.stored.stock(sink)
     }
@@ -160,8 +164,12 @@ impl<S: Alter> Keeper for Station<S> {
         self.stored.book_by(query, sink)
     }
 
-    fn pending<K: Sink<Message>>(&mut self, sink: &mut K) -> Result<(), ActFault> {
-        self.stored.pending(sink)
+    fn messages_by<K: Sink<Message>>(
+        &mut self,
+        query: &MessageQuery,
+        sink: &mut K,
+    ) -> Result<(), ActFault> {
+        self.stored.messages_by(query, sink)
     }
 
     fn trail_by<K: Sink<TrailRow>>(

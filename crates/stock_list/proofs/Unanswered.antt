@@ -1,6 +1,5 @@
 -- A row that the keeper didn't answer.
-use Rattle.std.specs.Result.{IsErrAnd}
-use Rattle.std.proofs.Common.{◌≡◌, ℕ, Bool, false, List, Option, Some, Result, Ok, Err, IfErr, subst, sym, ◌∙◌, ap, ◌⊎◌, inl, inr, ⊎_elim}
+use Rattle.std.proofs.Common.{◌≡◌, ℕ, Bool, List, Option, Some, Err, subst, sym, ◌∙◌, ap, ◌⊎◌, inl, inr, ⊎_elim}
 use Rattle.station_days.specs.Date.{LocalMinute}
 use Rattle.agent_stock.specs.declared.stock.Order.{Order}
 use Rattle.station_core.specs.declared.answer.ActFault.{ActFault}
@@ -30,11 +29,6 @@ found_row s row at asked e found asks left =
     let after : asked_after s (Some asked) at ≡ row_after s row at = ap (λ request. asked_after s request at) (sym asks) in
     ⊎_elim (λ before. inl before) (λ store. inr (store.0, store.1 ∙ ap Some after)) (found_then s (input_of asked) at e found left)
 
--- an error that is passed on
-pub passed_on : {T E : Type 0} (r : Result T E) (e : E) (P : E → Type 0) → IsErrAnd r (λ x. x ≡ e) → P e → IfErr r P
-passed_on (Ok x) e P same told = tt
-passed_on (Err x) e P same told = subst P (sym same) told
-
 -- a keeper's fault is out of memory, or the store's
 pub keeper_cause : (f : ActFault) (e : RunFault) → e ≡ run_fault f → (e ≡ fault.Memory) ⊎ (e ≡ fault.Store)
 keeper_cause act.Memory e is = inl is
@@ -51,8 +45,3 @@ shut_as (act.Refused refusal) broken one after = absurd one
 
 pub shut_after : (f : ActFault) (e : RunFault) (broken : Bool) → e ≡ run_fault f → IsMemoryOrStore f → IsBrokenAfter f broken → IsShutAfter e broken
 shut_after f e broken is one after = subst (λ (told : RunFault). IsShutAfter told broken) (sym is) (shut_as f broken one after)
-
--- a writer's fault that is passed on leaves a station that works
-pub still_works : (r : Result Bool RunFault) (e : RunFault) (broken : Bool) → IsErrAnd r (λ x. x ≡ e) → e ≡ fault.Write → broken ≡ false → IfErr r (λ x. IsShutAfter x broken)
-still_works (Ok x) e broken same write works = tt
-still_works (Err x) e broken same write works = subst (λ (told : RunFault). IsShutAfter told broken) (sym (same ∙ write)) works

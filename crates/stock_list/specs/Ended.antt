@@ -1,16 +1,17 @@
 -- The outcome of a row, whether it was answered or not.
-use Rattle.std.specs.Prelude.{◌≡◌, ◌⊎◌, ℕ, ◌+◌, Bool, true, false, if◌then◌else◌, Result, Ok, Err, Option, Some, None, List, [], ◌∷◌, ◌++◌, length, take, OnOk, IfErr}
+use Rattle.std.specs.Prelude.{◌≡◌, ◌<◌, ◌⊎◌, ℕ, ◌+◌, Bool, true, false, if◌then◌else◌, Result, Ok, Err, Option, Some, None, List, ◌++◌, length, take, OnOk, IfErr}
 use Rattle.csv.specs.declared.error.ErrorKind.{ErrorKind}
 use Rattle.csv.specs.declared.error.ErrorKind.TheVariants as kind
 use Rattle.station_days.specs.Date.{LocalMinute}
 use Rattle.station_core.specs.Given.{Given}
 use Rattle.station_core.specs.Ends.{HasCause}
+use Rattle.station_core.specs.Keeping.{Keeping}
 use Rattle.station_core.specs.declared.answer.ActFault.{ActFault}
 use Rattle.station_core.specs.declared.answer.ActFault.TheVariants as act
 use Rattle.station_core.specs.Step.{State}
 use Rattle.stock_list.specs.declared.answer.RunFault.{RunFault}
 use Rattle.stock_list.specs.declared.answer.RunFault.TheVariants as fault
-use Rattle.stock_list.specs.Lines.{Row, row_line, row_good, row_after, lines_from, rows_good, rows_after, stock_rows}
+use Rattle.stock_list.specs.Lines.{Row, row_line, row_good, row_after, lines_from, rows_good, rows_after}
 
 -- a keeper that returns Reopen has a store that failed
 abbrev pub run_fault : ActFault → RunFault
@@ -46,8 +47,9 @@ pub record Kept : Type 1 where
   pub keeps : State → Type 0
   pub may_find : Option State → Type 0
 
-abbrev pub kept : (State → Type 0) → (Option State → Type 0) → Kept
-kept keeps may_find = record { keeps = keeps; may_find = may_find }
+-- the same of a keeper
+abbrev pub kept_by : {K : Type 0} → Keeping K → K → Kept
+kept_by k keeper = record { keeps = k.keeps keeper; may_find = k.may_find keeper }
 
 -- the line was written, and the state is the one after the row, at this moment
 pub record IsAnswered (number : ℕ) (s : State) (row : Row) (at : LocalMinute) (good : Bool) (before after : List ℕ) (keeps : State → Type 0) : Type 0 where
@@ -93,6 +95,12 @@ told_by (Err e) failed = Err e
 abbrev pub IsReadersFault : RunFault → Type 0
 IsReadersFault e = (e ≡ fault.Read) ⊎ (e ≡ fault.Memory)
 
+-- `Read` is returned only if the reader failed, and the end of the input is reached only if it
+-- didn't.
+pub record IsReadToEnd (read_new : Given) (result : Result Bool RunFault) : Type 0 where
+  pub read_cause : result ≡ Err fault.Read → 0 < read_new.failures
+  pub no_failure : OnOk result (read_new.failures ≡ 0)
+
 -- every row has its line, and the state is the one after them all
 pub record HasRun (s : State) (rows : List Row) (at : LocalMinute) (good : Bool) (before after : List ℕ) (keeps : State → Type 0) : Type 0 where
   pub lines : after ≡ before ++ lines_from 1 s rows at
@@ -106,10 +114,3 @@ HasStopped s rows None at e before after left =
     IsReadersFault e × (after ≡ before ++ lines_from 1 s rows at) × left.keeps (rows_after s rows at)
 HasStopped s rows (Some row) at e before after left =
     IsStopped (length rows + 1) (rows_after s rows at) row at e (before ++ lines_from 1 s rows at) after left
-
-abbrev pub rows_read : List Row → Option Row → List Row
-rows_read rows None = rows
-rows_read rows (Some row) = rows ++ row ∷ []
-
-abbrev pub AreFirst : List Row → List ℕ → Type 0
-AreFirst rows bytes = (more : List Row) × (stock_rows bytes ≡ rows ++ more)

@@ -5,7 +5,7 @@ use Rattle.agent_stock.specs.declared.stock.Order.{Order}
 use Rattle.station_core.specs.Given.{Given}
 use Rattle.input_reasons.specs.Reason.{HasReason}
 use Rattle.stock_list.specs.declared.answer.RunFault.{RunFault}
-use Rattle.stock_list.specs.Ended.{AreFirst}
+use Rattle.stock_list.specs.InTurn.{AreFirst}
 use Rattle.stock_list.specs.Lines.{Row, stock_rows}
 use Rattle.stock_list.specs.Row.{row_asks}
 
@@ -40,4 +40,4 @@ HasToldRows left before after (Ok good) =
     (rows : List Row) × IfSome left (λ bytes. rows ≡ stock_rows bytes)
     × AreToldRows rows before after
 HasToldRows left before after (Err e) =
-    (rows : List Row) × IfSome left (AreFirst rows) × AreToldRows rows before after
+    (rows : List Row) × IfSome left (AreFirst stock_rows rows) × AreToldRows rows before after

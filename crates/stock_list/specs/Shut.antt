@@ -5,7 +5,8 @@ use Rattle.agent_stock.specs.declared.stock.Order.{Order}
 use Rattle.station_core.specs.Given.{Given}
 use Rattle.stock_list.specs.declared.answer.RunFault.{RunFault}
 use Rattle.stock_list.specs.declared.answer.RunFault.TheVariants as fault
-use Rattle.stock_list.specs.Ended.{IsReadersFault, rows_read, AreFirst}
+use Rattle.stock_list.specs.Ended.{IsReadersFault}
+use Rattle.stock_list.specs.InTurn.{items_read, AreFirst}
 use Rattle.stock_list.specs.Lines.{Row, bad_line, stock_rows}
 use Rattle.stock_list.specs.Row.{row_asks}
 
@@ -57,4 +58,4 @@ abbrev pub HasRunShut : Option (List ℕ) → List ℕ → List ℕ → Result B
 HasRunShut left before after (Ok good) =
     (rows : List Row) × (IfSome left (λ bytes. rows ≡ stock_rows bytes) × ((good ≡ are_none rows) × HaveBadLines rows before after))
 HasRunShut left before after (Err e) =
-    (rows : List Row) × ((next : Option Row) × (IfSome left (AreFirst (rows_read rows next)) × (AskNothing rows × HasStoppedShut rows next e before after)))
+    (rows : List Row) × ((next : Option Row) × (IfSome left (AreFirst stock_rows (items_read rows next)) × (AskNothing rows × HasStoppedShut rows next e before after)))

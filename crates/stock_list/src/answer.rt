@@ -1,14 +1,12 @@
-ghost use Rattle.std.specs.Prelude.{◌≡◌, ℕ, true, false, Err, None, ◌++◌, ◌⊎◌, IfOk, IfErr, OnErr, OnOk, take, string_bytes};
+ghost use Rattle.std.specs.Prelude.{◌≡◌, ℕ, false, None, ◌++◌, ◌⊎◌, IfOk, IfErr, OnErr, OnOk, take, string_bytes};
 ghost use Rattle.csv.specs.Records.{fields_of};
-ghost use Rattle.station_core.specs.Keeping.{IfWorks, StaysIfBroken, StaysInService};
 ghost use Rattle.station_core.specs.Ends.{HasCause};
-ghost use Rattle.station_core.specs.Step.{State};
-ghost use Rattle.stock_list.specs.Ended.{IsAnswered, IsShutAfter, IsStopped, IsUntroubled, TellsWriting, kept, run_fault};
+ghost use Rattle.stock_list.specs.Answered.{HasAnsweredRow};
+ghost use Rattle.stock_list.specs.Come.{come};
+ghost use Rattle.stock_list.specs.Ended.{IsUntroubled, TellsWriting, run_fault};
 ghost use Rattle.input_reasons.specs.Reason.{HasReason};
 ghost use Rattle.stock_list.specs.Lines.{answer_text, answer_line, bad_line};
 ghost use Rattle.stock_list.specs.Reasons.{row_head, HasToldRow};
-ghost use Rattle.stock_list.specs.Row.{row_asks};
-ghost use Rattle.stock_list.specs.Shut.{IsAnsweredShut};
 
 use crate::row::read_row;
 use csv::ByteRecord;
@@ -143,25 +141,9 @@ pub fn answer_row<K: Keeper, W: ByteOut, E: ByteOut>(
     row: &ByteRecord,
     at: Moment,
 ) -> Result<bool, RunFault>
-    ensures service { StaysInService K.keeping keeper.old keeper.new result }
-    ensures breaks { K.keeping.is_broken keeper.old ≡ false → IfErr result
-        (λ e. IsShutAfter e (K.keeping.is_broken keeper.new)) }
-    ensures answered { IfWorks K.keeping keeper.old keeper.new (λ s. IfOk result (λ good. IsAnswered
-        place.number s (fields_of row.now) at good (W.taken writer.old).bytes
-        (W.taken writer.new).bytes (K.keeping.keeps keeper.new))) }
-    ensures stopped { IfWorks K.keeping keeper.old keeper.new (λ s. IfErr result (λ e. IsStopped
-        place.number s (fields_of row.now) at e (W.taken writer.old).bytes
-        (W.taken writer.new).bytes
-        (kept (K.keeping.keeps keeper.new) (K.keeping.may_find keeper.new)))) }
-    ensures writing { TellsWriting (W.taken writer.old) (W.taken writer.new) result }
-    ensures unread { result ≡ Err RunFault.Read → ⊥ }
-    ensures reasons { HasToldRow E.taken result (row_asks (fields_of row.now)) errors.old
-        errors.new }
-
-    // A broken station stays as it is, and isn't called.
-    ensures same { StaysIfBroken K.keeping keeper.old keeper.new }
-    ensures reopen { K.keeping.is_broken keeper.old ≡ true → IsAnsweredShut place.number
-        (row_asks (fields_of row.now)) (W.taken writer.old) (W.taken writer.new) result }
+    ensures { HasAnsweredRow K.keeping at E.taken place.number (fields_of row.now)
+        (come keeper.old (W.taken writer.old) errors.old)
+        (come keeper.new (W.taken writer.new) errors.new) result }
 {
     let Some(asked) = read_row(row) else {
         return answer_bad_row(alloc, writer, errors, place, row);

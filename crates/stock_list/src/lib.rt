@@ -14,5 +14,5 @@ pub use answer::{
 pub use law::list_law;
 pub use lines::{LineByLine, LineCount, line_by_line};
 pub use row::read_row;
-pub use run::{list_fault, run_stock, told_by};
+pub use run::{list_fault, told_by};
 pub use watched::Watched;

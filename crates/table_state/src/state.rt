@@ -29,8 +29,8 @@ use shipment_machine::{
 };
 use state_store::{StateStore, StoreFault, WaybillQuery};
 use station_core::{
-    BookQuery, BookRow, Expectation, ExpectedQuery, KeptReply, Key, Load, Message, NotedFlight,
-    Sink, Sizes, TrailQuery, TrailRow, WaybillBalances,
+    BookQuery, BookRow, Expectation, ExpectedQuery, KeptReply, Key, Load, Message, MessageQuery,
+    NotedFlight, Sink, Sizes, TrailQuery, TrailRow, WaybillBalances,
 };
 use station_rows::{
     AllFlights, ExpectedOn, FlightOn, InsertKept, InsertKeptText, InsertMessage, KeptTextCount,
@@ -355,12 +355,14 @@ impl<S: TableStore> StateStore for TableState<S> {
         ended(read, telling.is_stuck())
     }
 
-    fn pending<K: Sink<Message>>(&mut self, sink: &mut K) -> Result<(), StoreFault> {
+    fn messages_by<K: Sink<Message>>(
+        &mut self,
+        query: &MessageQuery,
+        sink: &mut K,
+    ) -> Result<(), StoreFault> {
+        let number = i64::from(query.begins_after(self.confirmed));
         let mut telling = Telling::new(sink);
-        let sent = MessagesAfter {
-            number: i64::from(self.confirmed),
-        };
-        let read = self.store.hand_out(sent, &mut telling);
+        let read = self.store.hand_out(MessagesAfter { number }, &mut telling);
         ended(read, telling.is_stuck())
     }
 

@@ -1,24 +1,28 @@
 -- Doubtful lines.
-use Rattle.std.specs.Prelude.{ℕ, Bool, ◌&&◌, ◌||◌, ◌==◌, not, nat_eq, nat_le, List, length, take, filter, slice_index, slice_range, codes}
+use Rattle.std.specs.Prelude.{ℕ, Bool, ◌&&◌, ◌||◌, ◌==◌, not, nat_eq, nat_le, List, length, take, filter, slice_range, codes}
 use Rattle.std.specs.List.{list_all, starts_with}
 use Rattle.awb_number.specs.Digits.{is_digit, is_letter}
 use Rattle.imp_fields.specs.NormalText.{is_message_line}
 
--- a space or a hyphen
+-- a space, a hyphen or a slash
 abbrev pub is_gap : ℕ → Bool
-is_gap b = (b == 32) || (b == 45)
+is_gap b = (b == 32) || (b == 45) || (b == 47)
 
--- a line without its spaces and hyphens
+-- a line without its spaces, hyphens and slashes
 abbrev pub without_gaps : List ℕ → List ℕ
 without_gaps line = filter (λ b. not (is_gap b)) line
 
--- eleven digits, six letters, a slash
+-- a digit, or the letter O, which is mistaken for 0
+abbrev pub is_digit_or_o : ℕ → Bool
+is_digit_or_o b = is_digit b || (b == 79)
+
+-- eleven digits, and the origin and the destination, of which two letters may be missing
 abbrev pub begins_consignment : List ℕ → Bool
 begins_consignment bare =
-    nat_le 18 (length bare) && list_all is_digit (take 11 bare) && list_all is_letter (slice_range bare 11 17) && (slice_index bare 17 == 47)
+    nat_le 15 (length bare) && list_all is_digit_or_o (take 11 bare) && list_all is_letter (slice_range bare 11 15)
 
--- apart from spaces and hyphens the line begins like a consignment line; its check digit isn't
--- tested
+-- apart from spaces, hyphens and slashes the line begins like a consignment line; its check digit
+-- isn't tested
 abbrev pub resembles_consignment : List ℕ → Bool
 resembles_consignment line = begins_consignment (without_gaps line)
 

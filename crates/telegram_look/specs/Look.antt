@@ -1,14 +1,19 @@
 -- Dry runs of telegrams: how each line is read.
-use Rattle.std.specs.Prelude.{◌≡◌, ℕ, ◌+◌, Bool, true, false, ◌&&◌, ◌||◌, ◌==◌, not, is_some, if◌then◌else◌, List, [], ◌∷◌, ◌++◌, length, map, take_while, drop, Option, Some, None, Ok}
+use Rattle.std.specs.Prelude.{◌≡◌, ◌⊎◌, ℕ, ◌+◌, Bool, true, false, ◌&&◌, ◌||◌, ◌==◌, not, is_some, if◌then◌else◌, List, [], ◌∷◌, ◌++◌, length, map, take_while, drop, Option, Some, None, Ok}
 use Rattle.std.specs.List.{list_any, slice_split}
 use Rattle.imp_fields.specs.Consignment.{Shipment, consignment_of}
-use Rattle.imp_fields.specs.NormalText.{is_newline, line_without_end, lines_of, normal_lines, is_message_line}
+use Rattle.imp_fields.specs.NormalText.{fault_at, is_newline, line_without_end, lines_of, normal_lines, is_message_line}
+use Rattle.imp_fields.specs.declared.fault.TextFault.{TextFault}
+use Rattle.imp_fields.specs.declared.fault.Why.TheVariants as why
 use Rattle.ffm_text.specs.Ffm.{is_cargo_line, unloading_point}
 use Rattle.shipment_machine.specs.declared.command.CargoLine.{CargoLine}
 use Rattle.shipment_machine.specs.declared.command.InboundLine.{InboundLine}
-use Rattle.telegrams.specs.Meaning.{cargo_line, IsTelegram}
+use Rattle.station_days.specs.Date.{day_in_year}
+use Rattle.telegrams.specs.Meaning.{Meant, cargo_line, refusal_of, telegram_fault, IsTelegram}
 use Rattle.telegrams.specs.declared.telegram.Content.{Content}
 use Rattle.telegrams.specs.declared.telegram.Content.TheVariants as content
+use Rattle.telegrams.specs.declared.telegram.TelegramFault.{TelegramFault}
+use Rattle.telegrams.specs.declared.telegram.TelegramFault.TheVariants as fault
 use Rattle.telegram_look.specs.Doubt.{is_doubtful, begins_answer}
 use Rattle.telegram_look.specs.declared.line.DroppedLine.{DroppedLine}
 use Rattle.telegram_look.specs.declared.line.LinePart.{LinePart}
@@ -79,9 +84,28 @@ seen_lines says (head ∷ []) = seen_line 1 Head head ∷ []
 seen_lines says (head ∷ second ∷ lower) =
     seen_line 1 Head head ∷ seen_line 2 (second_part says) second ∷ lower_lines says 3 (cargo_of says) lower
 
+-- the flight's day isn't even a day of a leap year, 2000
+abbrev pub has_no_day : Content → Bool
+has_no_day (content.Fwb cargo) = false
+has_no_day (content.Ffm part) = not (is_some (day_in_year part.date 2000))
+has_no_day (content.Fsu status) = false
+
+-- the fault of bytes that aren't a telegram, or of a manifest whose flight's day no year has
+abbrev pub IsLookFault : List ℕ → TextFault → Type 0
+IsLookFault bytes told =
+    (telegram_fault bytes ≡ Some told)
+    ⊎ ((t : Meant) × IsTelegram bytes t × (has_no_day t.content ≡ true) × (told ≡ fault_at 2 why.Date))
+
+-- a refusal is that of the fault; if memory runs out there is no guarantee
+abbrev pub RefusesLook : List ℕ → TelegramFault → Type 0
+RefusesLook bytes (fault.Refused refusal) =
+    (told : TextFault) × IsLookFault bytes told × (refusal ≡ refusal_of told)
+RefusesLook bytes fault.Memory = Unit {0}
+
 -- the dry run of the telegram in these bytes
 pub record IsLook (bytes : List ℕ) (look : Look) : Type 0 where
   pub telegram : IsTelegram bytes look.telegram
+  pub day : has_no_day look.telegram.content ≡ false
   pub front : List (List ℕ)
   pub lines : List (List ℕ)
   pub normal : normal_lines bytes ≡ Ok lines

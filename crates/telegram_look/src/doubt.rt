@@ -2,16 +2,16 @@
 
 ghost use Rattle.std.specs.Prelude.{◌≡◌, IfOk};
 ghost use Rattle.std.specs.List.{list_all};
-ghost use Rattle.awb_number.specs.Digits.{is_digit, is_letter};
+ghost use Rattle.awb_number.specs.Digits.{is_letter};
 ghost use Rattle.imp_fields.specs.NormalText.{is_message_line};
-ghost use Rattle.telegram_look.specs.Doubt.{begins_answer, begins_consignment, is_doubtful, is_gap, resembles_consignment, without_gaps};
+ghost use Rattle.telegram_look.specs.Doubt.{begins_answer, begins_consignment, is_digit_or_o, is_doubtful, is_gap, resembles_consignment, without_gaps};
 
 use std::alloc::{AllocError, Global};
 
 fn is_gap(b: u8) -> bool
     ensures { result ≡ is_gap b }
 {
-    b == b' ' || b == b'-'
+    b == b' ' || b == b'-' || b == b'/'
 }
 
 fn without_gaps(alloc: Global, line: &[u8]) -> Result<Vec<u8>, AllocError>
@@ -20,10 +20,17 @@ fn without_gaps(alloc: Global, line: &[u8]) -> Result<Vec<u8>, AllocError>
     line.iter().copied().filter(|b| !is_gap(*b)).collect(alloc)
 }
 
-fn is_digits(text: &[u8]) -> bool
-    ensures { result ≡ list_all is_digit text.now }
+/// Returns whether a byte is a digit, or the letter that is mistaken for one.
+fn is_digit_or_o(b: u8) -> bool
+    ensures { result ≡ is_digit_or_o b }
 {
-    text.iter().all(|b| b.is_ascii_digit())
+    b.is_ascii_digit() || b == b'O'
+}
+
+fn is_digits(text: &[u8]) -> bool
+    ensures { result ≡ list_all is_digit_or_o text.now }
+{
+    text.iter().all(|b| is_digit_or_o(*b))
 }
 
 fn is_letters(text: &[u8]) -> bool
@@ -35,7 +42,7 @@ fn is_letters(text: &[u8]) -> bool
 fn begins_consignment(bare: &[u8]) -> bool
     ensures { result ≡ begins_consignment bare.now }
 {
-    bare.len() >= 18 && is_digits(&bare[..11]) && is_letters(&bare[11..17]) && bare[17] == b'/'
+    bare.len() >= 15 && is_digits(&bare[..11]) && is_letters(&bare[11..15])
 }
 
 fn resembles_consignment(alloc: Global, line: &[u8]) -> Result<bool, AllocError>

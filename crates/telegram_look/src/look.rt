@@ -2,13 +2,15 @@
 
 ghost use Rattle.std.specs.Prelude.{◌≡◌, IfOk, IfErr};
 ghost use Rattle.std.specs.List.{list_any};
-ghost use Rattle.telegrams.specs.Meaning.{RefusesText, kind_said};
-ghost use Rattle.telegram_look.specs.Look.{IsLook, has_doubt};
+ghost use Rattle.telegrams.specs.Meaning.{kind_said};
+ghost use Rattle.telegram_look.specs.Look.{IsLook, RefusesLook, has_doubt, has_no_day};
 
 use crate::dropped::dropped_lines;
 use crate::line::{DroppedLine, SeenLine};
 use crate::seen::seen_lines;
-use imp_fields::{MessageKind, normal_text};
+use imp_fields::{MessageKind, Why, normal_text};
+use shipment_machine::{Detail, Refusal};
+use station_days::day_in_year;
 use std::alloc::Global;
 use telegrams::{Content, Telegram, TelegramFault, read_telegram};
 
@@ -56,16 +58,39 @@ impl<'a> Look<'a> {
     }
 }
 
+/// The refusal of a manifest whose flight's day no year has, on its second line.
+const NO_DAY: Refusal = Refusal {
+    number: 301,
+    detail: Detail::Line {
+        line: 2,
+        why: Why::Date,
+    },
+};
+
+/// Returns whether no year has the day of a manifest's flight, as 31FEB. 2000 is a leap year.
+fn has_no_day(content: &Content<'_>) -> bool
+    ensures { result ≡ has_no_day content.now }
+{
+    match content {
+        Content::Ffm(part) => day_in_year(part.date, 2000).is_none(),
+        Content::Fwb(_) | Content::Fsu(_) => false,
+    }
+}
+
 /// Reads bytes as a telegram, and returns how each of its lines is read. The telegram and the
-/// errors are those of `read_telegram`.
+/// errors are those of `read_telegram`; a manifest whose flight's day no year has is refused as the
+/// station refuses it.
 pub fn look_at<'a>(alloc: Global, bytes: &'a [u8]) -> Result<Look<'a>, TelegramFault>
     ensures seen { IfOk result (IsLook bytes.now) }
-    ensures refused { IfErr result (RefusesText bytes.now) }
+    ensures refused { IfErr result (RefusesLook bytes.now) }
 {
     let telegram = match read_telegram(alloc, bytes) {
         Ok(telegram) => telegram,
         Err(fault) => return Err(fault),
     };
+    if has_no_day(telegram.content()) {
+        return Err(TelegramFault::Refused(NO_DAY));
+    }
     let Ok(normal) = normal_text(alloc, bytes) else {
         return Err(TelegramFault::Memory);
     };

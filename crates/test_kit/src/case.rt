@@ -1,7 +1,6 @@
 //! A line in a file of cases.
 use std::alloc::Global;
 
-/// A case: a call, its text, and the expected result.
 #[derive(Drop)]
 pub struct Case<'a> {
     pub asked: &'a str,
@@ -27,7 +26,6 @@ fn push_escaped(bytes: &mut Vec<u8>, escaped: &[u8]) -> Option<()> {
     bytes.extend_from_slice(rest).ok()
 }
 
-/// Returns the bytes of a text with escapes.
 fn unescaped(alloc: Global, text: &str) -> Option<Vec<u8>> {
     let mut bytes = Vec::new(alloc);
     let mut parts = text.split('\\');
@@ -40,7 +38,7 @@ fn unescaped(alloc: Global, text: &str) -> Option<Vec<u8>> {
     Some(bytes)
 }
 
-/// Reads the number of repetitions of the next piece: `12*` is twelve, and an empty text is one.
+/// Reads how often the next piece is repeated: `12*`, or once.
 fn times(word: &str) -> Option<u32> {
     if word.is_empty() {
         return Some(1);
@@ -48,7 +46,7 @@ fn times(word: &str) -> Option<u32> {
     word.strip_suffix('*')?.parse::<u32>().ok()
 }
 
-/// Returns the bytes of a text made of pieces in single quotes, such as `'FWB/16' 3*'\n'`.
+/// Returns the bytes of pieces in single quotes, such as `'FWB/16' 3*'\n'`.
 fn joined(alloc: Global, source: &str) -> Option<Vec<u8>> {
     let mut bytes = Vec::new(alloc);
     let mut count = 1;
@@ -67,7 +65,6 @@ fn joined(alloc: Global, source: &str) -> Option<Vec<u8>> {
     if is_quoted { Some(bytes) } else { None }
 }
 
-/// Reads the case on a line.
 pub fn read_case<'a>(alloc: Global, line: &'a str) -> Option<Case<'a>> {
     let (given, wanted) = line.split_once(" = ")?;
     let (asked, source) = given.split_once(' ')?;

@@ -11,7 +11,6 @@ pub struct Torn<'a> {
 }
 
 impl<'a> Torn<'a> {
-    /// Returns an input with the bytes, which then ends.
     pub fn whole(bytes: &'a [u8]) -> Torn<'a> {
         Torn {
             bytes,
@@ -19,7 +18,6 @@ impl<'a> Torn<'a> {
         }
     }
 
-    /// Returns an input with the bytes, which then fails.
     pub fn torn(bytes: &'a [u8]) -> Torn<'a> {
         Torn {
             bytes,
@@ -45,7 +43,6 @@ pub struct Narrow {
 }
 
 impl Narrow {
-    /// Returns an output with room for this many bytes.
     pub fn new(alloc: Global, room: usize) -> Narrow {
         Narrow {
             taken: Vec::new(alloc),
@@ -53,7 +50,6 @@ impl Narrow {
         }
     }
 
-    /// Returns the bytes taken.
     pub fn into_taken(self) -> Vec<u8> {
         let Narrow { taken, room: _ } = self;
         taken

@@ -4,14 +4,11 @@ use std::alloc::Global;
 use std::io::Print;
 use std::{fs, io};
 
-/// The answers to cases, one after another.
 pub trait Answers {
-    /// Runs one case and returns its result as text; `None` if memory runs out or the case is
-    /// unknown.
+    /// Returns the result of one case as text; `None` if memory runs out or the case is unknown.
     fn answer(&mut self, asked: &str, text: &[u8]) -> Option<String>;
 }
 
-/// Returns the failure of a line, if it has one.
 fn fault_of<A: Answers>(
     alloc: Global,
     answers: &mut A,
@@ -29,8 +26,7 @@ fn fault_of<A: Answers>(
     Ok(Some(format!(in alloc; "came {came:?}")?))
 }
 
-/// Runs the cases of a file, and prints each failed one with its line, or else their number.
-/// Returns whether all passed.
+/// Prints each failed case of a file, or the number of cases. Returns whether all passed.
 pub fn go_through<R: AllocGlobal + Print, A: Answers>(
     rt: &R,
     file: &str,
@@ -56,8 +52,7 @@ pub fn go_through<R: AllocGlobal + Print, A: Answers>(
     Ok(faults == 0)
 }
 
-/// Runs `FOLDER/FILE.cases`, like `go_through`. A file that can't be read is printed, and fails. It
-/// fails if printing fails or memory runs out.
+/// Runs `FOLDER/FILE.cases`, like `go_through`. It fails if printing fails or memory runs out.
 pub fn go_through_file<A: Answers>(
     rt: &HostRuntime,
     folder: &str,
@@ -74,8 +69,7 @@ pub fn go_through_file<A: Answers>(
     }
 }
 
-/// Prints whether running out of memory had the expected outcome, and returns that. It fails if
-/// printing fails.
+/// Prints whether running out of memory had the expected outcome, and returns that.
 pub fn print_told(rt: &HostRuntime, what: &str, is_told: bool) -> Result<bool, io::Error> {
     let word = if is_told { "told" } else { "not told" };
     println!(rt; "memory: {what}: {word}")?;

@@ -4,9 +4,7 @@ use station_core::Keeper;
 /// A job for any keeper. Only one function of a library hands out a station over tables, to a job:
 /// each further one costs the check as much as twenty others.
 pub trait Job {
-    /// The result.
     type Out;
 
-    /// Runs on a keeper.
     fn run<K: Keeper>(self, keeper: &mut K) -> Self::Out;
 }

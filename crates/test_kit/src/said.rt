@@ -7,17 +7,14 @@ use station_days::LocalDay;
 use std::alloc::Global;
 use std::str::SplitWhitespace;
 
-/// Returns a text as an answer.
 pub fn say(alloc: Global, text: &str) -> Option<String> {
     String::from_str(alloc, text).ok()
 }
 
-/// Returns bytes as a text, if they are one.
 pub fn shown(bytes: &[u8]) -> &str {
     std::str::from_utf8(bytes).unwrap_or("?")
 }
 
-/// Reads the next word as a whole number.
 pub fn next_whole(words: &mut SplitWhitespace<'_>) -> Option<i64> {
     words.next()?.parse::<i64>().ok()
 }
@@ -31,7 +28,6 @@ pub fn count_said(alloc: Global, is_given: bool, count: usize) -> Option<String>
     }
 }
 
-/// Returns the holder of a number.
 pub fn holder_said(alloc: Global, holder: &Holder) -> Option<String> {
     match holder {
         Holder::Desk => say(alloc, "the desk"),
@@ -41,7 +37,7 @@ pub fn holder_said(alloc: Global, holder: &Holder) -> Option<String> {
     }
 }
 
-/// Returns the number of runs, and for each its first number, its count and its holder.
+/// Returns the number of runs, and each run's first number, count and holder.
 pub fn runs_said(alloc: Global, runs: &[StockRun]) -> Option<String> {
     let mut said = format!(in alloc; "{}", runs.len()).ok()?;
     for run in runs {
@@ -56,7 +52,6 @@ fn amount_said(alloc: Global, amount: &Amount) -> Option<String> {
     format!(in alloc; "{} at {}", amount.pieces, amount.tenths).ok()
 }
 
-/// Returns the day of a declaration, such as `2026-01-12`, or `none`.
 fn since_said(alloc: Global, since: Option<LocalDay>) -> Option<String> {
     match since {
         Some(day) => say(alloc, shown(&day_text(day))),
@@ -64,8 +59,6 @@ fn since_said(alloc: Global, since: Option<LocalDay>) -> Option<String> {
     }
 }
 
-/// Returns a waybill: the received and found amounts, the amount at each place, and the day of its
-/// declaration.
 fn waybill_said(alloc: Global, waybill: &Waybill) -> Option<String> {
     let taken = amount_said(alloc, &waybill.taken)?;
     let found = amount_said(alloc, &waybill.found)?;
@@ -80,7 +73,6 @@ fn waybill_said(alloc: Global, waybill: &Waybill) -> Option<String> {
     ).ok()
 }
 
-/// Returns the record of a waybill.
 pub fn known_said(alloc: Global, waybill: &Option<Waybill>) -> Option<String> {
     match waybill {
         Some(waybill) => waybill_said(alloc, waybill),

@@ -10,7 +10,6 @@ pub struct Taken<Row> {
 }
 
 impl<Row> Taken<Row> {
-    /// Returns an empty sink with room for this many rows.
     pub fn new(alloc: Global, most: usize) -> Taken<Row> {
         Taken {
             rows: Vec::new(alloc),
@@ -27,7 +26,6 @@ impl<Row: Drop> Sink<Row> for Taken<Row> {
     }
 }
 
-/// A sink that counts its rows.
 #[derive(Clone, Copy)]
 pub struct RowCount {
     pub rows: u64,

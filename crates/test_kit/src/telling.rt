@@ -12,7 +12,6 @@ pub fn noon() -> Option<Moment> {
     Moment::new(20465, 720)
 }
 
-/// Returns the answer to an input.
 pub fn answer_said(alloc: Global, answer: &Answer) -> Option<String> {
     match answer {
         Answer::Done(reply) => reply_text(alloc, reply).ok(),
@@ -31,7 +30,7 @@ pub fn answers_said(alloc: Global, answers: &[Answer]) -> Option<String> {
     say(alloc, said.as_str().trim_end())
 }
 
-/// Returns the answer to an input at noon of 12 January 2026.
+/// Returns the answer to an input at noon.
 pub fn answered(alloc: Global, keeper: &mut impl Keeper, input: &Input<'_>) -> Option<String> {
     answer_said(alloc, &answer_one(keeper, input, noon()?).ok()?)
 }
@@ -41,7 +40,6 @@ pub fn number(text: &[u8]) -> Option<Awb> {
     Awb::read(text.first_chunk()?).ok()
 }
 
-/// Returns the holder of the number at the start of a text.
 pub fn holder(alloc: Global, keeper: &mut impl Keeper, text: &[u8]) -> Option<String> {
     match keeper.holder(&number(text)?).ok()? {
         Some(holder) => holder_said(alloc, &holder),
@@ -49,12 +47,10 @@ pub fn holder(alloc: Global, keeper: &mut impl Keeper, text: &[u8]) -> Option<St
     }
 }
 
-/// Returns the record of the waybill whose number is at the start of a text.
 pub fn waybill(alloc: Global, keeper: &mut impl Keeper, text: &[u8]) -> Option<String> {
     known_said(alloc, &keeper.waybill(&number(text)?).ok()?)
 }
 
-/// Returns the runs of the stock that a sink of this size takes.
 pub fn stock(alloc: Global, keeper: &mut impl Keeper, most: &str) -> Option<String> {
     let mut taken: Taken<StockRun> = Taken::new(alloc, most.parse::<usize>().ok()?);
     keeper.stock(&mut taken).ok()?;

@@ -3,13 +3,10 @@ use std::cell::Cell;
 use std::io;
 use std::time::{Clock, Duration};
 
-/// A clock that shows one date and time. Its other count advances by `step` seconds at each
-/// reading.
+/// A clock that shows one time, and whose count of seconds advances at each reading.
 #[derive(Drop)]
 pub struct Stepped {
-    /// Seconds since 1970-01-01.
     pub shown: u64,
-    /// Seconds since some start.
     pub gone: Cell<u64>,
     pub step: u64,
 }

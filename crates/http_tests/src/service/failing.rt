@@ -4,12 +4,11 @@ use awb_number::Awb;
 use plain_station::PlainStation;
 use station_core::{
     ActFault, BookQuery, BookRow, ExpectedQuery, ExpectedRow, FlightRow, Input, IrregularRow,
-    Keeper, Message, Reply, ShedRow, Sink, TrailQuery, TrailRow, Waybill,
+    Keeper, Message, MessageQuery, Reply, ShedRow, Sink, Summary, TrailQuery, TrailRow, Waybill,
 };
 use station_days::Moment;
 
-/// A station in memory that answers a number of inputs. At the next one it acts like a failed
-/// store, and from then on it must be opened again.
+/// A station that answers a number of inputs, and then has a failed store.
 #[derive(Drop)]
 pub struct Failing {
     station: PlainStation,
@@ -18,7 +17,6 @@ pub struct Failing {
 }
 
 impl Failing {
-    /// Wraps a station that answers this many inputs.
     pub fn new(station: PlainStation, inputs: u32) -> Failing {
         Failing {
             station,
@@ -68,6 +66,13 @@ impl Keeper for Failing {
             return Err(ActFault::Reopen);
         }
         self.station.waybill(number)
+    }
+
+    fn summary(&mut self) -> Result<Summary, ActFault> {
+        if self.is_broken {
+            return Err(ActFault::Reopen);
+        }
+        self.station.summary()
     }
 
     fn stock<S: Sink<StockRun>>(&mut self, sink: &mut S) -> Result<(), ActFault> {
@@ -120,11 +125,15 @@ impl Keeper for Failing {
         self.station.book_by(query, sink)
     }
 
-    fn pending<S: Sink<Message>>(&mut self, sink: &mut S) -> Result<(), ActFault> {
+    fn messages_by<S: Sink<Message>>(
+        &mut self,
+        query: &MessageQuery,
+        sink: &mut S,
+    ) -> Result<(), ActFault> {
         if self.is_broken {
             return Err(ActFault::Reopen);
         }
-        self.station.pending(sink)
+        self.station.messages_by(query, sink)
     }
 
     fn trail_by<S: Sink<TrailRow>>(

@@ -7,4 +7,4 @@ use Rattle.map_state.proofs.asked.messages.Given as goal
 abbrev pub invariant-loop-at : goal.invariant-loop-at
 invariant-loop-at l =
     l.rows.items ++ numbered message (l.at + 1) (drop l.at (texts_in l.outbox))
-    ≡ numbered message (l.confirmed + 1) (drop l.confirmed (texts_in l.outbox))
+    ≡ numbered message (l.after + 1) (drop l.after (texts_in l.outbox))

@@ -40,4 +40,10 @@ pub returns-in-Manifest : goal.returns-in-Manifest
 returns-in-Manifest g c = reported_as _ (λ s. IsListing c.args.form s) _ _ _ _ c.in-Manifest.is c.write_manifest.ensures
 
 pub returns-in-PendingAfter : goal.returns-in-PendingAfter
-returns-in-PendingAfter g c = reported_as _ (λ s. IsListing c.args.form s) _ _ _ _ c.in-PendingAfter.is c.write_pending_after.ensures
+returns-in-PendingAfter g c = reported_as _ (λ s. IsListing c.args.form s) _ _ _ _ c.in-PendingAfter.is c.write_messages.ensures
+
+pub returns-in-SentAfter : goal.returns-in-SentAfter
+returns-in-SentAfter g c = reported_as _ (λ s. IsListing c.args.form s) _ _ _ _ c.in-SentAfter.is c.write_messages-in-SentAfter.ensures
+
+pub returns-in-Sent : goal.returns-in-Sent
+returns-in-Sent g c = reported_as _ (λ s. IsListing c.args.form s) _ _ _ _ c.in-Sent.is c.write_sent.ensures

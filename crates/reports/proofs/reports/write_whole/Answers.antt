@@ -1,9 +1,10 @@
-use Rattle.std.proofs.Common.{arith}
+use Rattle.std.proofs.Common.{arith, ◌∷◌, []}
 use Rattle.std.proofs.lemmas.Grind.{common_steps}
-use Rattle.station_core.specs.Readers.{shed_rows, irregular_rows, pending_messages}
-use Rattle.reports.specs.Lines.{shed_line, irregular_line, message_lines}
+use Rattle.station_core.specs.Readers.{shed_rows, irregular_rows}
+use Rattle.reports.specs.Lines.{shed_line, irregular_line, summary_line}
+use Rattle.station_core.specs.Told.{summary_of}
 use Rattle.reports.specs.Listings.{IsWhole}
-use Rattle.reports.specs.Objects.{shed_data, irregular_data, message_data}
+use Rattle.reports.specs.Objects.{shed_data, irregular_data, summary_data}
 use Rattle.reports.proofs.FlightLists.{one_flights}
 use Rattle.reports.proofs.Handing.{reported_as, reported_rows, reported_these}
 use Rattle.reports.proofs.OneList.{one_list}
@@ -31,4 +32,10 @@ pub returns-in-Trail : goal.returns-in-Trail
 returns-in-Trail g c = reported_as _ (λ s. IsWhole c.args.form s) _ _ _ _ c.in-Trail.is c.write_trail.ensures
 
 pub returns-in-Pending : goal.returns-in-Pending
-returns-in-Pending g c = reported_as _ (λ s. IsWhole c.args.form s) _ _ _ _ c.in-Pending.is (reported_these _ message_lines message_data c.args.form (λ rows. rows) (λ s. pending_messages s.cargo) _ _ _ _ (λ row. grind (arith, common_steps)) c.write_all-in-Pending.ensures)
+returns-in-Pending g c = reported_as _ (λ s. IsWhole c.args.form s) _ _ _ _ c.in-Pending.is c.write_messages.ensures
+
+pub returns-in-Sent : goal.returns-in-Sent
+returns-in-Sent g c = reported_as _ (λ s. IsWhole c.args.form s) _ _ _ _ c.in-Sent.is c.write_messages-in-Sent.ensures
+
+pub returns-in-Station : goal.returns-in-Station
+returns-in-Station g c = reported_as _ (λ s. IsWhole c.args.form s) _ _ _ _ c.in-Station.is (reported_these _ summary_line summary_data c.args.form (λ rows. rows) (λ s. summary_of s.cargo ∷ []) _ _ _ _ (λ row. grind (arith, common_steps)) c.write_all-in-Station.ensures)

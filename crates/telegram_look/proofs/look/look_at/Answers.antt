@@ -1,6 +1,7 @@
-use Rattle.std.proofs.Common.{◌∙◌, ap}
-use Rattle.imp_fields.specs.NormalText.{line_texts}
-use Rattle.telegram_look.specs.Look.{front_lines, seen_lines}
+use Rattle.std.proofs.Common.{◌∙◌, ap, inr, refl, sym}
+use Rattle.imp_fields.specs.NormalText.{fault_at, line_texts}
+use Rattle.imp_fields.specs.declared.fault.Why.TheVariants as why
+use Rattle.telegram_look.specs.Look.{front_lines, has_no_day, seen_lines}
 use Rattle.telegram_look.proofs.Front.{parted}
 use Rattle.telegram_look.proofs.look.look_at.Goals as goal
 
@@ -13,10 +14,15 @@ returns-in-Ok-seen_lines-clause-seen c =
     let lines = line_texts c.in-Ok-normal_text.normal in
     record {
       telegram = c.in-Ok.ensures.read;
+      day = sym (ap has_no_day c.content.ensures.value) ∙ sym c.has_no_day.ensures ∙ c.if-has_no_day.false;
       front = front_lines bytes;
       lines = lines;
       normal = c.in-Ok-normal_text.ensures.lines;
       whole = (parted bytes lines c.in-Ok-normal_text.ensures.lines).whole;
       dropped = c.in-Ok-dropped_lines.ensures;
-      seen = c.in-Ok-seen_lines.ensures ∙ ap (λ says. seen_lines says lines) c.content.ensures.value;
+      seen = c.in-Ok-seen_lines.ensures ∙ ap (λ says. seen_lines says lines) c.content-2.ensures.value;
     }
+
+pub returns-then-has_no_day-clause-refused : goal.returns-then-has_no_day-clause-refused
+returns-then-has_no_day-clause-refused c =
+    (fault_at 2 why.Date, inr (c.in-Ok.telegram, c.in-Ok.ensures.read, sym (ap has_no_day c.content.ensures.value) ∙ sym c.has_no_day.ensures ∙ c.if-has_no_day.true, refl), refl)

@@ -1,6 +1,6 @@
 use Rattle.std.proofs.Common.{◌≡◌}
 use Rattle.agent_stock.specs.Runs.{AreStockRuns}
-use Rattle.station_core.specs.Readers.{AreExpectedBy, AreFlightRows, book_by, irregular_rows, pending_messages, shed_rows, trail_by}
+use Rattle.station_core.specs.Readers.{AreExpectedBy, AreFlightRows, book_by, irregular_rows, messages_by, shed_rows, trail_by}
 use Rattle.plain_station.specs.State.{state_of}
 use Rattle.plain_station.proofs.Handed.{hands_out}
 use Rattle.plain_station.proofs.station.PlainStationKeeper.TheImpl.Goals as goal
@@ -25,9 +25,9 @@ irregular-tells g c =
     hands_out g.S.Sink.takes (λ s rows. rows ≡ irregular_rows s) state_of c.args.self.now c.new.self.now c.result c.args.sink.now c.new.sink.now
     c.ensures.hands c.ensures.as_before
 
-pub pending-tells : goal.pending-tells
-pending-tells g c =
-    hands_out g.S.Sink.takes (λ s rows. rows ≡ pending_messages s) state_of c.args.self.now c.new.self.now c.result c.args.sink.now c.new.sink.now
+pub messages_by-tells : goal.messages_by-tells
+messages_by-tells g c =
+    hands_out g.S.Sink.takes (λ s rows. rows ≡ messages_by c.args.query.now s) state_of c.args.self.now c.new.self.now c.result c.args.sink.now c.new.sink.now
     c.ensures.hands c.ensures.as_before
 
 pub shed-tells : goal.shed-tells

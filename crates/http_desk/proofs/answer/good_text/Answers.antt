@@ -1,0 +1,10 @@
+use Rattle.std.proofs.Common.{◌≡◌, rules}
+use Rattle.serde_json.specs.View.{view}
+use Rattle.serde_json.specs.declared.value.Value.{the_lemmas}
+use Rattle.http_desk.specs.Request.{good_data}
+use Rattle.http_desk.proofs.answer.good_text.Goals as goal
+
+pub returns : goal.returns
+returns c =
+    let built : view c.in_ok-json.field-0 ≡ good_data = search (rules, the_lemmas) in
+    search rules

@@ -1,0 +1,9 @@
+use Rattle.std.proofs.Common.{◌∙◌, ap, string_bytes}
+use Rattle.serde_json.specs.Written.{compact_text}
+use Rattle.http_desk.specs.Request.{bad_data}
+use Rattle.http_desk.proofs.Joining.{ok_more}
+use Rattle.http_desk.proofs.asked.bad_checked.Goals as goal
+
+pub returns : goal.returns
+returns c =
+    ok_more c.bad_text.result _ _ (λ text is. (string_bytes c.in_ok-reason.reason, c.in_ok-reason.ensures, is ∙ ap (λ r. compact_text (bad_data r)) c.as_str.ensures.value)) c.bad_text.ensures

@@ -1,0 +1,7 @@
+use Rattle.std.proofs.Common.{◌≡◌, ◌+◌, ◌-◌, take, drop}
+use Rattle.station_core.specs.Readers.{numbered, message}
+use Rattle.plain_station.specs.Lists.{texts_in}
+use Rattle.plain_station.proofs.cargo.PlainCargo.messages_after.Given as goal
+
+abbrev pub invariant-loop-at : goal.invariant-loop-at
+invariant-loop-at l = l.rows.items ≡ numbered message (l.number + 1) (take (l.at - l.number) (drop l.number (texts_in l.self.lists.outbox.items)))
