@@ -1,5 +1,6 @@
 mod Codes
 pub mod Keyed
-pub mod Maximal
+pub mod JoinedRuns
+pub mod OneMore
 pub mod Serials
 pub mod Examples

@@ -1,9 +1,8 @@
 -- The runs of the stock: consecutive numbers of one holder.
-use Rattle.std.specs.Prelude.{ℕ, ◌≡◌, ◌≢◌, ◌+◌, ◌-◌, ◌≤◌, ◌<◌, ◌⊎◌, ◌==◌, IsTrue, IsSome, if◌then◌else◌, Some, None, List, [], ◌∷◌}
+use Rattle.std.specs.Prelude.{ℕ, ◌≡◌, ◌≢◌, ◌+◌, ◌-◌, ◌≤◌, ◌⊎◌, IsTrue, IsSome, if◌then◌else◌, Some, None, List, [], ◌∷◌}
 use Rattle.std.specs.List.{AllByRecursion, list_any}
 use Rattle.awb_number.specs.Number.{prefix_of, serial_of, serials}
 use Rattle.agent_stock.specs.Stock.{Holders, is_among}
-use Rattle.agent_stock.specs.declared.runs.Held.{Held}
 use Rattle.agent_stock.specs.declared.runs.StockRun.{StockRun}
 
 -- numbers of one prefix and one holder, whose neighbours have other holders
@@ -26,16 +25,38 @@ pub record AreStockRuns (holders : Holders) (rows : List StockRun) : Type 0 wher
   pub rising : AreApart rows
   pub complete : (q : ℕ) → IsSome (holders q) → IsTrue (list_any (λ row. is_among row.first row.count q) rows)
 
-abbrev pub AreRising : List Held → Type 0
-AreRising [] = Unit {0}
-AreRising (held ∷ []) = Unit {0}
-AreRising (held ∷ next ∷ numbers) = (held.number < next.number) × AreRising (next ∷ numbers)
+-- the holder of each number by rows, each the run of one holder
+abbrev pub holders_by : List StockRun → Holders
+holders_by [] q = None
+holders_by (row ∷ rows) q = if is_among row.first row.count q then Some row.holder else holders_by rows q
 
--- the holders in a list; a number that isn't listed has none
-abbrev pub holders_among : List Held → Holders
-holders_among [] q = None
-holders_among (held ∷ numbers) q = if q == held.number then Some held.holder else holders_among numbers q
+-- the number behind a row
+abbrev pub end_of : StockRun → ℕ
+end_of row = row.first + row.count
 
--- the number is the next one of the run, in its prefix and with its holder
-abbrev pub GoesOn : StockRun → Held → Type 0
-GoesOn row held = (prefix_of row.first ≡ prefix_of held.number) × (row.first + row.count ≡ held.number) × (row.holder ≡ held.holder)
+-- a row has a number at least, and stays within its prefix
+pub record IsRunRow (row : StockRun) : Type 0 where
+  pub some : 1 ≤ row.count
+  pub one_prefix : serial_of row.first + row.count ≤ serials
+
+-- each row begins there at least, and behind the one before it
+abbrev pub StandFrom : ℕ → List StockRun → Type 0
+StandFrom low [] = Unit {0}
+StandFrom low (row ∷ rows) = (low ≤ row.first) × StandFrom (end_of row) rows
+
+-- rows that rise, and none has a number of another
+pub record AreRuns (rows : List StockRun) : Type 0 where
+  pub stand : StandFrom 0 rows
+  pub each : AllByRecursion IsRunRow rows
+
+-- the next run begins where this one ends, in its prefix and with its holder
+abbrev pub GoesOn : StockRun → StockRun → Type 0
+GoesOn row next = (prefix_of row.first ≡ prefix_of next.first) × (row.first + row.count ≡ next.first) × (row.holder ≡ next.holder)
+
+-- the stock with a run more
+abbrev pub with_run : Holders → StockRun → Holders
+with_run held row q = if is_among row.first row.count q then Some row.holder else held q
+
+-- nobody holds a number from here on
+abbrev pub IsNoneFrom : ℕ → Holders → Type 0
+IsNoneFrom from held = (q : ℕ) → from ≤ q → held q ≡ None

@@ -11,7 +11,7 @@ use std::marker::Model;
 const LONGEST: usize = 11;
 
 /// An agent, by its code of 1 to 11 upper-case letters or digits. Contracts see it as that text.
-#[derive(Clone, Copy, Debug, PartialEq, Eq)]
+#[derive(Clone, Copy, PartialEq, Eq)]
 pub struct AgentCode {
     // Zeros pad the code.
     bytes: [u8; LONGEST],

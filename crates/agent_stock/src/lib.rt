@@ -13,6 +13,6 @@ pub use agent_code::AgentCode;
 pub use orders::{carry_out, give_back, issue, take_in, void_run};
 pub use plain::PlainRows;
 pub use rows::StockRows;
-pub use runs::{Held, StockRun, runs_of};
+pub use runs::{StockRun, maximal_runs, put_run};
 pub use stock::{Holder, Order, Run, RunCount, StockFault, Test};
 pub use terms::Terms;

@@ -4,10 +4,10 @@ ghost use Rattle.std.specs.BTreeMap.{get};
 ghost use Rattle.std.proofs.Props.{props};
 ghost use Rattle.awb_number.specs.Number.{IsNumber};
 ghost use Rattle.agent_stock.specs.Stock.{Holders};
-ghost use Rattle.agent_stock.specs.Runs.{AreRising, AreStockRuns, holders_among};
+ghost use Rattle.agent_stock.specs.Runs.{AreRuns, AreStockRuns, holders_by};
 
 use crate::rows::StockRows;
-use crate::runs::{Held, StockRun, runs_of};
+use crate::runs::{StockRun, maximal_runs};
 use crate::stock::{Holder, Run, Test};
 use awb_number::Awb;
 use std::alloc::{AllocError, Global};
@@ -49,28 +49,29 @@ impl PlainRows {
         })
     }
 
-    fn in_stock(&self, alloc: Global) -> Result<Vec<Held>, AllocError>
-        ensures rising { IfOk result (λ numbers. AreRising numbers.items) }
-        ensures holders { IfOk result
-            (λ numbers. holders_among numbers.items ≡ holders_of self.now) }
+    /// Returns each number in stock as a row of one, ascending.
+    fn in_stock(&self, alloc: Global) -> Result<Vec<StockRun>, AllocError>
+        ensures rows { IfOk result (λ rows. AreRuns rows.items) }
+        ensures holders { IfOk result (λ rows. holders_by rows.items ≡ holders_of self.now) }
     {
-        let mut numbers = Vec::new(alloc);
+        let mut rows = Vec::new(alloc);
         for (key, holder) in &self.by_number {
-            let number = Awb::of_key(*key).unwrap();
-            numbers.push(Held {
-                number,
+            let first = Awb::of_key(*key).unwrap();
+            rows.push(StockRun {
+                first,
+                count: 1,
                 holder: *holder,
             })?;
         }
-        Ok(numbers)
+        Ok(rows)
     }
 
     /// Returns the maximal runs of the stock, ascending.
     pub fn runs(&self, alloc: Global) -> Result<Vec<StockRun>, AllocError>
-        ensures { IfOk result (λ rows. AreStockRuns (holders_of self.now) rows.items) }
+        ensures { IfOk result (λ runs. AreStockRuns (holders_of self.now) runs.items) }
     {
-        let numbers = self.in_stock(alloc)?;
-        runs_of(alloc, numbers.as_slice())
+        let rows = self.in_stock(alloc)?;
+        maximal_runs(alloc, rows.as_slice())
     }
 }
 

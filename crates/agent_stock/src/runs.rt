@@ -1,20 +1,14 @@
-ghost use Rattle.std.specs.Prelude.{◌≡◌, ◌↔◌, ◌∷◌, IsTrue, IfOk};
-ghost use Rattle.agent_stock.specs.Runs.{AreRising, AreStockRuns, GoesOn, holders_among};
+ghost use Rattle.std.specs.Prelude.{◌≡◌, ◌↔◌, IsTrue, IfOk, OnOk};
+ghost use Rattle.agent_stock.specs.Stock.{Holders};
+ghost use Rattle.agent_stock.specs.Runs.{AreRuns, AreStockRuns, GoesOn, IsNoneFrom, IsRunRow, holders_by, with_run};
 
 use crate::stock::Holder;
 use awb_number::Awb;
 use std::alloc::{AllocError, Global};
 
-/// A number in stock, with its holder.
-#[derive(Clone, Copy, Debug, PartialEq, Eq)]
-pub struct Held {
-    pub number: Awb,
-    pub holder: Holder,
-}
-
 /// Consecutive numbers of one holder: the first, and their count, at most the 10,000,000 of a
 /// prefix.
-#[derive(Clone, Copy, Debug, PartialEq, Eq)]
+#[derive(Clone, Copy)]
 pub struct StockRun {
     pub first: Awb,
     pub count: u32,
@@ -22,53 +16,49 @@ pub struct StockRun {
 }
 
 impl StockRun {
-    fn of_one(held: &Held) -> StockRun
-        ensures { result ≡ record { first = held.now.number; count = 1; holder = held.now.holder } }
+    /// Returns whether the other run begins where this one ends, in its prefix and with its holder.
+    fn goes_on(&self, next: &StockRun) -> bool
+        ensures { IsTrue result ↔ GoesOn self.now next.now }
     {
-        StockRun {
-            first: held.number,
-            count: 1,
-            holder: held.holder,
-        }
-    }
-
-    fn goes_on(&self, held: &Held) -> bool
-        ensures { IsTrue result ↔ GoesOn self.now held.now }
-    {
-        self.first.prefix() == held.number.prefix()
-            && self.first.key() + u64::from(self.count) == held.number.key()
-            && self.holder.is_same(&held.holder)
+        self.first.prefix() == next.first.prefix()
+            && self.first.key() + u64::from(self.count) == next.first.key()
+            && self.holder.is_same(&next.holder)
     }
 }
 
-/// Returns the maximal runs of a number and those that follow it, if they are ascending.
-fn runs_from(alloc: Global, first: &Held, following: &[Held]) -> Result<Vec<StockRun>, AllocError>
-    ensures { AreRising (first.now ∷ following.now)
-        → IfOk result
-        (λ rows. AreStockRuns (holders_among (first.now ∷ following.now)) rows.items) }
+/// Appends a run to the maximal runs of a stock, or makes the last of them longer by it. The run
+/// must lie behind all numbers of that stock. Returns an error if memory runs out.
+pub fn put_run(runs: &mut Vec<StockRun>, next: StockRun) -> Result<(), AllocError>
+    ensures { (held : Holders) → IsRunRow next → IsNoneFrom next.first held
+        → AreStockRuns held runs.old.items
+        → OnOk result (AreStockRuns (with_run held next) runs.new.items) }
 {
-    let mut rows = Vec::new(alloc);
-    let mut row = StockRun::of_one(first);
-    for held in following {
-        if row.goes_on(held) {
-            row.count += 1;
-        } else {
-            rows.push(row)?;
-            row = StockRun::of_one(held);
-        }
+    let Some(last) = runs.pop() else {
+        runs.push(next)?;
+        return Ok(());
+    };
+    if last.goes_on(&next) {
+        runs.push(StockRun {
+            first: last.first,
+            count: last.count.saturating_add(next.count),
+            holder: last.holder,
+        })?;
+    } else {
+        runs.push(last)?;
+        runs.push(next)?;
     }
-    rows.push(row)?;
-    Ok(rows)
+    Ok(())
 }
 
-/// Returns the maximal runs of ascending numbers: consecutive numbers of one prefix and one holder.
-/// For other numbers there is no guarantee.
-pub fn runs_of(alloc: Global, numbers: &[Held]) -> Result<Vec<StockRun>, AllocError>
-    ensures { AreRising numbers.now
-        → IfOk result (λ rows. AreStockRuns (holders_among numbers.now) rows.items) }
+/// Returns the maximal runs of ascending rows, whose neighbours may have one holder. For other rows
+/// there is no guarantee. Returns an error if memory runs out.
+pub fn maximal_runs(alloc: Global, rows: &[StockRun]) -> Result<Vec<StockRun>, AllocError>
+    ensures { AreRuns rows.now
+        → IfOk result (λ runs. AreStockRuns (holders_by rows.now) runs.items) }
 {
-    match numbers.split_first() {
-        None => Ok(Vec::new(alloc)),
-        Some((first, following)) => runs_from(alloc, first, following),
+    let mut runs = Vec::new(alloc);
+    for row in rows {
+        put_run(&mut runs, *row)?;
     }
+    Ok(runs)
 }

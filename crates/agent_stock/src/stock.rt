@@ -12,7 +12,7 @@ use std::marker::Model;
 const LARGEST_RUN: u32 = 1_000_000;
 
 /// The holder of a waybill number in stock.
-#[derive(Clone, Copy, Debug, PartialEq, Eq)]
+#[derive(Clone, Copy, PartialEq, Eq)]
 pub enum Holder {
     /// The station's own desk.
     Desk,
@@ -25,7 +25,8 @@ pub enum Holder {
 }
 
 impl Holder {
-    pub(crate) fn is_same(&self, other: &Holder) -> bool
+    /// Returns whether both are the same holder.
+    pub fn is_same(&self, other: &Holder) -> bool
         ensures { IsTrue result ↔ (self.now ≡ other.now) }
     {
         match (self, other) {
@@ -127,7 +128,7 @@ impl Run {
 }
 
 /// A test of the holder of each number in a run.
-#[derive(Clone, Copy, Debug, PartialEq, Eq)]
+#[derive(Clone, Copy)]
 pub enum Test {
     /// The number isn't in stock.
     Absent,
@@ -155,7 +156,7 @@ impl Test {
 }
 
 /// An order on a run of numbers.
-#[derive(Clone, Copy, Debug, PartialEq, Eq)]
+#[derive(Clone, Copy, PartialEq, Eq)]
 pub enum Order {
     /// Numbers that aren't in stock go to the desk.
     TakeIn(Run),
@@ -168,7 +169,7 @@ pub enum Order {
 }
 
 /// The reason why an order wasn't carried out.
-#[derive(Clone, Copy, Debug, PartialEq, Eq)]
+#[derive(Clone, Copy)]
 pub enum StockFault<F> {
     /// Nothing changed. The refusal's number, and the lowest number of the run that fails: 101
     /// already in stock, 102 not at the desk, 103 not with that agent, 104 used, void or not in

@@ -4,7 +4,7 @@ ghost use Rattle.agent_stock.specs.Stock.{run_of, test_of, holder_after, refusal
 use crate::stock::{Holder, Order, Run, Test};
 
 /// An order in normal form: the run, the test that each number must pass, and the new holder.
-#[derive(Clone, Copy, Debug, PartialEq, Eq)]
+#[derive(Clone, Copy)]
 pub struct Terms {
     /// The numbers. A run that can't be ordered is refused with 105.
     pub run: Run,

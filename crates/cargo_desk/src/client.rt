@@ -1,10 +1,10 @@
 //! A call to the service on a port.
 ghost use Rattle.std.specs.Io.{ReadsAtMost};
 
-use cli_run::{Feed, Turns};
+use cli_run::Feed;
 use cli_words::LineCommand;
 use desk_client::{Connect, LastTry, Service, ask_command, end_asked};
-use station_core::Counted;
+use station_core::{Counted, InputReader};
 use std::cell::{Cell, RefCell};
 use std::io;
 use std::io::{ErrorKind, Read, Write};
@@ -155,12 +155,11 @@ impl Write for End<'_> {
 
 /// Runs a command with the service on a port, on the inputs of a reader, and ends the call. Each
 /// line is written when its answer arrives.
-pub fn ask_port<R: Read + Drop>(
+pub fn ask_port<R: InputReader + Drop>(
     rt: &HostRuntime,
     command: &LineCommand<'_>,
     port: u16,
     reader: R,
-    turns: &Turns,
 ) -> u8 {
     let link = Link::new();
     let mut service = Service {
@@ -177,7 +176,7 @@ pub fn ask_port<R: Read + Drop>(
     };
     let mut output = Counted::new(rt.stdout());
     let mut errors = Counted::new(rt.stderr());
-    let mut feed = Feed::new(reader, turns);
+    let mut feed = Feed::new(reader);
     let ended = ask_command(
         rt.alloc(),
         &mut service,

@@ -37,7 +37,7 @@ pub enum FileConnection {
 }
 
 /// The reason why a file isn't opened.
-#[derive(Clone, Copy, Debug, PartialEq, Eq)]
+#[derive(Clone, Copy)]
 pub enum FileFault {
     /// The file is missing or empty, or a database was only started in it.
     NoStation,

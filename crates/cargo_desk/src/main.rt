@@ -8,17 +8,16 @@ mod task;
 mod telegram_files;
 
 use cli_call::{DeskFault, version_line};
-use cli_run::{Turns, run_read};
+use cli_run::run_read;
 use cli_words::{Line, LineCommand, WordsFault, parse_words, usage_fault};
 use client::ask_port;
-use desk_clock::{Zone, moment_now};
-use desk_server::listen;
+use desk_server::{Zone, listen, moment_now};
 use service::Service;
-use station_core::Counted;
+use station_core::{Counted, InputReader};
 use station_days::Moment;
 use std::cell::RefCell;
 use std::fs::File;
-use std::io::{ErrorKind, Read};
+use std::io::{ErrorKind, Stdin};
 use std::process::ExitCode;
 use std::{env, io};
 use stock_list::RunFault;
@@ -62,16 +61,10 @@ enum Way {
     Service(u16),
 }
 
-fn run_inputs<R: Read + Drop>(
-    rt: &HostRuntime,
-    line: &Line<'_>,
-    way: Way,
-    reader: R,
-    turns: &Turns,
-) -> u8 {
+fn run_inputs<R: InputReader + Drop>(rt: &HostRuntime, line: &Line<'_>, way: Way, reader: R) -> u8 {
     match way {
-        Way::Station(at) => run_over(rt, line, Task::Run { reader, turns, at }),
-        Way::Service(port) => ask_port(rt, &line.command, port, reader, turns),
+        Way::Station(at) => run_over(rt, line, Task::Run { reader, at }),
+        Way::Service(port) => ask_port(rt, &line.command, port, reader),
     }
 }
 
@@ -83,10 +76,9 @@ fn take_files<'a>(
     first: File,
     way: Way,
 ) -> u8 {
-    let turns = Turns::new();
     let unread = RefCell::new(None);
-    let reader = Telegrams::new(rt, paths, &turns, &unread, first);
-    let status = run_inputs(rt, line, way, reader, &turns);
+    let reader = Telegrams::new(rt, paths, &unread, first);
+    let status = run_inputs(rt, line, way, reader);
     tell_unread(rt, paths, &unread);
     status
 }
@@ -94,7 +86,7 @@ fn take_files<'a>(
 /// Runs a command line on its telegram files or standard input.
 fn run_way(rt: &HostRuntime, line: &Line<'_>, way: Way) -> u8 {
     let LineCommand::Take(paths) = &line.command else {
-        return run_inputs(rt, line, way, rt.stdin(), &Turns::new());
+        return run_inputs(rt, line, way, rt.stdin());
     };
     let paths = paths.as_slice();
     let path = paths.first().copied().unwrap_or("");
@@ -113,8 +105,8 @@ fn run_way(rt: &HostRuntime, line: &Line<'_>, way: Way) -> u8 {
 
 /// Writes the dry run of the telegram in an open file.
 fn read_open(rt: &HostRuntime, paths: &[String], file: File) -> u8 {
-    let (turns, unread) = (Turns::new(), RefCell::new(None));
-    let mut reader = Counted::new(Telegrams::new(rt, paths, &turns, &unread, file));
+    let unread = RefCell::new(None);
+    let mut reader = Counted::new(Telegrams::new(rt, paths, &unread, file));
     let mut output = Counted::new(rt.stdout());
     let mut errors = Counted::new(rt.stderr());
     let seen = run_read(rt.alloc(), &mut reader, &mut output, &mut errors);
@@ -150,7 +142,7 @@ fn ran(good: Result<bool, RunFault>) -> Result<bool, DeskFault> {
 fn serve_at(rt: &HostRuntime, line: &Line<'_>, zone: &Zone, port: u16, count: Option<u32>) -> u8 {
     match listen(rt, port) {
         Ok(listener) => {
-            let task: Task<'_, &[u8]> = Task::Serve(Service {
+            let task: Task<'_, Stdin> = Task::Serve(Service {
                 listener: &listener,
                 zone,
                 count,

@@ -5,27 +5,22 @@ use crate::service::{Service, serve_keeper, serve_line};
 use cli_call::{
     DeskFault, FileEnd, close_file, close_file_beside, end, run_file, run_file_beside, run_gathered,
 };
-use cli_run::{Feed, Turns, airport_of_line, is_migration, is_opening};
+use cli_run::{Feed, airport_of_line, is_migration, is_opening};
 use cli_words::Line;
 use map_state::MapState;
 use sqlite::{Connection, FileStore};
 use sqlite_disk::Disk;
-use station_core::{ByteOut, Counted, Keeper};
+use station_core::{ByteOut, Counted, InputReader, Keeper};
 use station_days::Moment;
 use station_engine::StoredStation;
 use station_files::OwnTrees;
-use std::io::Read;
 use stock_list::RunFault;
 
 /// The task of a command line.
 #[derive(Drop)]
 pub enum Task<'a, R> {
     /// Run its command on the inputs of a reader, at a moment.
-    Run {
-        reader: R,
-        turns: &'a Turns,
-        at: Moment,
-    },
+    Run { reader: R, at: Moment },
     /// Run the service.
     Serve(Service<'a>),
 }
@@ -42,16 +37,15 @@ pub fn faulted(rt: &HostRuntime, fault: RunFault) -> u8 {
 
 /// Runs a command line over a station in memory. Lines of a stock list are buffered while another
 /// row is at hand; all other output is written before the next input acts.
-fn run_keeper<K: Keeper, R: Read + Drop>(
+fn run_keeper<K: Keeper, R: InputReader + Drop>(
     rt: &HostRuntime,
     line: &Line<'_>,
     keeper: &mut K,
     reader: R,
-    turns: &Turns,
     at: Moment,
 ) -> u8 {
     let mut errors = Counted::new(rt.stderr());
-    let mut feed = Feed::new(reader, turns);
+    let mut feed = Feed::new(reader);
     let (status, _output) = run_gathered(
         rt.alloc(),
         line,
@@ -65,12 +59,16 @@ fn run_keeper<K: Keeper, R: Read + Drop>(
 }
 
 /// Does a command line's task over a new station in memory.
-fn run_in_memory<R: Read + Drop>(rt: &HostRuntime, line: &Line<'_>, task: Task<'_, R>) -> u8 {
+fn run_in_memory<R: InputReader + Drop>(
+    rt: &HostRuntime,
+    line: &Line<'_>,
+    task: Task<'_, R>,
+) -> u8 {
     let alloc = rt.alloc();
     let state = MapState::new(alloc, airport_of_line(line));
     let mut station = StoredStation::over(alloc, state);
     match task {
-        Task::Run { reader, turns, at } => run_keeper(rt, line, &mut station, reader, turns, at),
+        Task::Run { reader, at } => run_keeper(rt, line, &mut station, reader, at),
         Task::Serve(service) => serve_keeper(rt, &mut station, service),
     }
 }
@@ -113,7 +111,7 @@ fn close_served_beside<D: Disk + Drop, E: ByteOut>(
 
 /// Does a command line's task over a connection to a file, and closes the file. Each answer is
 /// written before the next input acts.
-fn run_whole<D: Disk + Drop, R: Read + Drop>(
+fn run_whole<D: Disk + Drop, R: InputReader + Drop>(
     rt: &HostRuntime,
     line: &Line<'_>,
     conn: Connection<FileStore<D>>,
@@ -123,8 +121,8 @@ fn run_whole<D: Disk + Drop, R: Read + Drop>(
     let mut output = Counted::new(rt.stdout());
     let mut errors = Counted::new(rt.stderr());
     match task {
-        Task::Run { reader, turns, at } => {
-            let mut feed = Feed::new(reader, turns);
+        Task::Run { reader, at } => {
+            let mut feed = Feed::new(reader);
             let ended = run_file(alloc, line, conn, &mut feed, &mut output, &mut errors, at);
             end_file(rt, line, ended)
         }
@@ -137,7 +135,7 @@ fn run_whole<D: Disk + Drop, R: Read + Drop>(
 }
 
 /// The same as `run_whole`, over a connection that shows the tables and indexes that `init` makes.
-fn run_beside<D: Disk + Drop, R: Read + Drop>(
+fn run_beside<D: Disk + Drop, R: InputReader + Drop>(
     rt: &HostRuntime,
     line: &Line<'_>,
     conn: Connection<OwnTrees<FileStore<D>>>,
@@ -147,8 +145,8 @@ fn run_beside<D: Disk + Drop, R: Read + Drop>(
     let mut output = Counted::new(rt.stdout());
     let mut errors = Counted::new(rt.stderr());
     match task {
-        Task::Run { reader, turns, at } => {
-            let mut feed = Feed::new(reader, turns);
+        Task::Run { reader, at } => {
+            let mut feed = Feed::new(reader);
             let ended = run_file_beside(alloc, line, conn, &mut feed, &mut output, &mut errors, at);
             end_file(rt, line, ended)
         }
@@ -161,7 +159,7 @@ fn run_beside<D: Disk + Drop, R: Read + Drop>(
 }
 
 /// Does a command line's task over its station: in memory without a file.
-pub fn run_over<R: Read + Drop>(rt: &HostRuntime, line: &Line<'_>, task: Task<'_, R>) -> u8 {
+pub fn run_over<R: InputReader + Drop>(rt: &HostRuntime, line: &Line<'_>, task: Task<'_, R>) -> u8 {
     let Some(path) = line.db else {
         return run_in_memory(rt, line, task);
     };

@@ -1,6 +1,7 @@
 //! The telegram files of a call.
+ghost use Rattle.std.specs.Prelude.{◌≡◌, ◌+◌, ◌-◌, ◌^◌, min};
 
-use cli_run::Turns;
+use station_core::InputReader;
 use std::alloc::{AllocError, Global};
 use std::cell::RefCell;
 use std::fs::File;
@@ -28,8 +29,9 @@ pub struct Unread {
 pub struct Telegrams<'a> {
     rt: &'a HostRuntime,
     paths: &'a [String],
-    turns: &'a Turns,
     unread: &'a RefCell<Option<Unread>>,
+    /// The number of inputs that were begun.
+    begun: usize,
     /// The number of files opened; the last of them is open.
     opened: usize,
     file: File,
@@ -40,15 +42,14 @@ impl<'a> Telegrams<'a> {
     pub fn new(
         rt: &'a HostRuntime,
         paths: &'a [String],
-        turns: &'a Turns,
         unread: &'a RefCell<Option<Unread>>,
         file: File,
     ) -> Telegrams<'a> {
         Telegrams {
             rt,
             paths,
-            turns,
             unread,
+            begun: 0,
             opened: 1,
             file,
         }
@@ -64,8 +65,7 @@ impl<'a> Telegrams<'a> {
 
     /// Opens the next file, if its turn has come.
     fn open_next(&mut self) -> io::Result<()> {
-        let turn = self.turns.begun();
-        if turn <= self.opened {
+        if self.begun <= self.opened {
             return Ok(());
         }
         let Some(path) = self.paths.get(self.opened) else {
@@ -74,11 +74,19 @@ impl<'a> Telegrams<'a> {
         match File::open(self.rt, path.as_str()) {
             Ok(file) => {
                 self.file = file;
-                self.opened = turn;
+                self.opened = self.begun;
                 Ok(())
             }
             Err(error) => Err(self.fail(self.opened, error)),
         }
+    }
+}
+
+impl InputReader for Telegrams<'_> {
+    ghost begun = { λ old new. new.begun ≡ min (old.begun + 1) (2 ^ 64 - 1) };
+
+    fn begin_input(&mut self) {
+        self.begun = self.begun.saturating_add(1);
     }
 }
 

@@ -12,7 +12,7 @@ use station_tables::AttachFault;
 use stock_list::RunFault;
 
 /// The reason why a call broke off.
-#[derive(Clone, Copy, Debug, PartialEq, Eq)]
+#[derive(Clone, Copy)]
 pub enum DeskFault {
     /// The clock can't be read, or shows a day before 2000-01-01 or after 2099-12-31.
     Clock,

@@ -85,7 +85,7 @@ pub trait Answering<D, E: ByteOut> {
 }
 
 /// The way of a station: inputs are done at this moment.
-#[derive(Clone, Copy, Debug, PartialEq, Eq)]
+#[derive(Clone, Copy)]
 pub struct ByStation {
     pub at: Moment,
 }

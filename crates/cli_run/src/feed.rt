@@ -6,23 +6,22 @@ ghost use Rattle.station_core.specs.Given.{nothing_given};
 ghost use Rattle.station_core.specs.declared.ends.Counted.{Counted};
 ghost use Rattle.cli_run.specs.Feed.{fed_of, reader_of};
 
-use crate::inputs::{Inputs, Turns};
-use station_core::{ByteIn, Counted, ReadFault};
+use crate::inputs::Inputs;
+use station_core::{ByteIn, Counted, InputReader, ReadFault};
 use std::io;
 use std::io::{ErrorKind, Read};
 use std::marker::Model;
 use stock_list::Watched;
 
 /// The input of a command: a reader of std, with a count of its calls that only contracts see. It
-/// remembers whether a read failed, and counts the inputs that were begun.
+/// remembers whether a read failed.
 #[derive(Drop)]
-pub struct Feed<'a, R> {
+pub struct Feed<R> {
     counted: Counted<R>,
     failed: bool,
-    turns: &'a Turns,
 }
 
-impl<'a, R> Model for Feed<'a, R> {
+impl<R> Model for Feed<R> {
     ghost Value = { Counted R };
 
     ghost view = { λ f. f.counted };
@@ -30,21 +29,20 @@ impl<'a, R> Model for Feed<'a, R> {
     ghost invariant = { λ f. (f.failed ≡ true) ↔ (0 < f.counted.tally.given.failures) };
 }
 
-impl<'a, R> Feed<'a, R> {
-    /// Wraps a reader. A reader of several inputs reads the one at which `turns` is.
-    pub fn new(reader: R, turns: &'a Turns) -> Feed<'a, R>
+impl<R> Feed<R> {
+    /// Wraps a reader before its first call.
+    pub fn new(reader: R) -> Feed<R>
         ensures reader { reader_of result ≡ reader }
         ensures nothing { fed_of result ≡ nothing_given }
     {
         Feed {
             counted: Counted::new(reader),
             failed: false,
-            turns,
         }
     }
 }
 
-impl<R: Read> ByteIn for Feed<'_, R> {
+impl<R: Read> ByteIn for Feed<R> {
     ghost given = { fed_of };
 
     fn read(&mut self, buf: &mut [u8]) -> Result<usize, ReadFault>
@@ -64,21 +62,21 @@ impl<R: Read> ByteIn for Feed<'_, R> {
     }
 }
 
-impl<R: Read> Watched for Feed<'_, R> {
+impl<R: Read> Watched for Feed<R> {
     fn has_failed(&self) -> bool {
         self.failed
     }
 }
 
-impl<R: Read> Inputs for Feed<'_, R> {
-    ghost turned = { λ old new. new ≡ old };
+impl<R: InputReader> Inputs for Feed<R> {
+    ghost turned = { λ old new. R.begun (reader_of old) (reader_of new) };
 
     fn next_input(&mut self) {
-        self.turns.begin_next();
+        self.counted.begin_input();
     }
 }
 
-impl<R: Read> Read for Feed<'_, R> {
+impl<R: Read> Read for Feed<R> {
     ghost remaining = { λ f. R.remaining (reader_of f) };
 
     /// Reads once, and again if interrupted.

@@ -30,7 +30,7 @@ pub use answer::{answer_bad, answer_bad_line, answer_refusal, named_line};
 pub use answering::{Answering, ByStation};
 pub use asked::Asked;
 pub use feed::Feed;
-pub use inputs::{Inputs, Turns};
+pub use inputs::Inputs;
 pub use law::{acts_law, left_law};
 pub use place::{airport_of_line, is_migration, is_opening};
 pub use rows::answer_list;

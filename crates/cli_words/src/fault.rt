@@ -1,7 +1,7 @@
 use std::alloc::{AllocError, Global};
 
 /// The reason why words aren't a command line.
-#[derive(Debug, Drop)]
+#[derive(Drop)]
 pub enum WordsFault {
     /// The help was requested: its text.
     Help(String),
@@ -14,7 +14,7 @@ pub enum WordsFault {
 }
 
 /// A word that `clap` accepted, and that isn't valid in its place.
-#[derive(Clone, Copy, Debug, PartialEq, Eq)]
+#[derive(Clone, Copy)]
 pub(crate) enum BadValue<'a> {
     Station(&'a str),
     At(&'a str),

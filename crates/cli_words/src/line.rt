@@ -5,7 +5,7 @@ use reports::{Form, Listing};
 use station_core::Key;
 
 /// A command line.
-#[derive(Debug, Drop)]
+#[derive(Drop)]
 pub struct Line<'a> {
     /// The path of the station's file. Without one the station is in memory.
     pub db: Option<&'a str>,
@@ -19,7 +19,7 @@ pub struct Line<'a> {
 }
 
 /// A command, with its arguments.
-#[derive(Debug, Drop)]
+#[derive(Drop)]
 pub enum LineCommand<'a> {
     /// Make a station in a file.
     Init,

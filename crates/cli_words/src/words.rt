@@ -11,7 +11,7 @@ use std::alloc::{AllocError, Global};
 use std::convert::AsStr;
 
 /// The request of a call: its command and the command's words.
-#[derive(Debug, Drop)]
+#[derive(Drop)]
 pub(crate) enum Request<'a> {
     Init,
     Migrate,
@@ -38,7 +38,7 @@ pub(crate) enum Request<'a> {
 }
 
 /// The words of `report`: the name, the flight of a manifest, and the requested part of the report.
-#[derive(Clone, Copy, Debug, PartialEq, Eq)]
+#[derive(Clone, Copy)]
 pub(crate) struct ReportWords<'a> {
     pub(crate) name: &'a str,
     pub(crate) flight: Option<&'a str>,
@@ -51,7 +51,7 @@ pub(crate) struct ReportWords<'a> {
 }
 
 /// The words of a call, sorted.
-#[derive(Debug, Drop)]
+#[derive(Drop)]
 pub(crate) struct Words<'a> {
     pub(crate) db: Option<&'a str>,
     pub(crate) at: Option<&'a str>,

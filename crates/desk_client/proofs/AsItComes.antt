@@ -1,6 +1,6 @@
 -- A report that is printed as it comes, read by read.
-use Rattle.std.proofs.Common.{arith, ◌≡◌, ◌∙◌, ap, sym, refl, subst, inl, inr, ⊎_elim, ℕ, ◌+◌, ◌-◌, ◌<◌, ◌≤◌, Bool, true, false, List, [], ◌∷◌, ◌++◌, drop, take, length, length-append, length-drop, length-take, append_assoc, Result, Ok, Err}
-use Rattle.std.specs.Prelude.{◌⊎◌, IsErrAnd}
+use Rattle.std.proofs.Common.{arith, ◌≡◌, ◌∙◌, ap, sym, refl, subst, inl, inr, ⊎_elim, ℕ, ◌+◌, ◌-◌, ◌<◌, ◌≤◌, false, List, [], ◌∷◌, ◌++◌, drop, take, length, length-append, length-drop, length-take, append_assoc, Result, Ok, Err}
+use Rattle.std.specs.Prelude.{IsErrAnd}
 use Rattle.std.proofs.Math.Seq.{take-length}
 use Rattle.std.proofs.lemmas.List.{append-nil, append_cancel_left, take-append-drop}
 use Rattle.station_core.specs.Given.{Given}
@@ -12,7 +12,7 @@ use Rattle.reports.specs.declared.form.Form.TheVariants as form
 use Rattle.desk_client.specs.Came.{HasGiven, IsReadersFault}
 use Rattle.cli_run.specs.Came.{HasFailed, HasGrown}
 use Rattle.desk_client.specs.Ended.{has_end}
-use Rattle.desk_client.specs.Front.{mark_of, IsFront, IsFrontEnd}
+use Rattle.desk_client.specs.Front.{mark_of, IsFrontEnd}
 use Rattle.desk_client.specs.Printed.{HasPrintedBody, HasPrintedFront, HasPrintedLast, HasPrintedMore, HasPrintedSome, HasStopped, HasTurned, IsHeld}
 use Rattle.desk_client.specs.declared.ask.AskFault.{AskFault}
 use Rattle.desk_client.specs.declared.ask.AskFault.TheVariants as fault

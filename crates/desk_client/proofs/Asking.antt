@@ -1,5 +1,5 @@
 -- Where a question ends without an answer.
-use Rattle.std.proofs.Common.{◌≡◌, refl, sym, subst, ℕ, ◌≤◌, Bool, true, false, List, ◌++◌, drop, length, Option, None, Result, Ok, Err}
+use Rattle.std.proofs.Common.{◌≡◌, refl, sym, subst, ℕ, ◌≤◌, Bool, true, false, List, ◌++◌, drop, length, Option, Result, Ok, Err}
 use Rattle.station_core.specs.Given.{Given}
 use Rattle.reports.specs.declared.form.Form.{Form}
 use Rattle.desk_client.specs.Asked.{by_time, HasAsked, HasRead, HasSent, HasTaken, HasUnderstood}

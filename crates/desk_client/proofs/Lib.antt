@@ -12,7 +12,6 @@ pub mod OrderTexts
 pub mod Posts
 pub mod AsItComes
 pub mod ReadBack
-pub mod RowPaths
 pub mod RowsPrinted
 pub mod RowsAsked
 pub mod Tails

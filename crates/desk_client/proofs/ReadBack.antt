@@ -1,10 +1,11 @@
 -- A desk reads the request of a command as what it is.
-use Rattle.std.proofs.Common.{arith, inl, ◌≡◌, ◌∙◌, ap, sym, subst, refl, ℕ, ◌+◌, ◌-◌, ◌/◌, ◌%◌, ◌<◌, ◌≤◌, ◌^◌, Bool, true, Some, None, Ok, Err, List, [], ◌∷◌, ◌++◌, length, map, take, drop, reverse, codes, decimal, length-append, append_assoc}
-use Rattle.std.specs.Prelude.{◌↔◌, ◌&&◌, not, nat_le, if◌then◌else◌}
+use Rattle.std.proofs.Common.{arith, ◌≡◌, ◌∙◌, ap, sym, subst, refl, ℕ, ◌+◌, ◌-◌, ◌<◌, ◌≤◌, ◌^◌, Bool, true, Some, None, Ok, Err, List, [], ◌∷◌, ◌++◌, length, map, take, drop, reverse, codes, decimal, length-append, append_assoc}
+use Rattle.std.specs.Prelude.{◌&&◌, not, nat_le, if◌then◌else◌}
+use Rattle.std.specs.Char.{is_ascii_graphic}
 use Rattle.std.specs.List.{list_all}
-use Rattle.std.proofs.lemmas.Bool.{and_parts, and_from, leb-true, le-leb}
+use Rattle.std.proofs.lemmas.Bool.{and_parts, and_from, leb-true, le-leb, lt-ltb}
 use Rattle.std.proofs.lemmas.Bool.Decides.{nat_tests}
-use Rattle.std.proofs.lemmas.Fmt.{length-decimal-le, decimal_nonempty, decimal_by_steps}
+use Rattle.std.proofs.lemmas.Fmt.{length-decimal-le, decimal_nonempty}
 use Rattle.std.proofs.lemmas.List.Sums.{AllPass-from_list_all, list_all-from_AllPass}
 use Rattle.std.proofs.Math.Seq.{take-append-add, drop-append_seam}
 use Rattle.httparse.specs.Grammar.{RequestHead, is_token_byte, is_ows, is_value_byte, ReadsRequest}
@@ -15,18 +16,16 @@ use Rattle.http1.specs.Head.{starts_visible, is_trimmed_value, are_headers, is_r
 use Rattle.http1.proofs.HeadLemmas.{request_text_is}
 use Rattle.http1.proofs.HeadRoundTrip.{RequestReadsBack, request_reads_back}
 use Rattle.awb_number.specs.Digits.{is_digit, decimal_value}
-use Rattle.awb_number.proofs.Padded.{decimal_value-last}
 use Rattle.imp_fields.proofs.WrittenLaws.{decimal_digits}
 use Rattle.station_days.specs.Steps.{where_true}
 use Rattle.desk_commands.specs.declared.verb.Verb.{Verb}
 use Rattle.desk_commands.specs.Verb.{word}
 use Rattle.desk_commands.proofs.Words.{of_every}
 use Rattle.station_core.specs.Key.{is_key, is_key_byte}
-use Rattle.reports.specs.declared.report.Report.{Report}
-use Rattle.reports.specs.declared.report.Report.TheVariants as report
-use Rattle.http_desk.specs.Printouts.{as_text}
-use Rattle.http_desk.specs.Paths.{report_path, IsPath, LeadsTo, is_path_byte}
-use Rattle.http_desk.specs.Routes.{Got, got_report, gets, Place, posts, posted_command, posted_telegram, place_of}
+use Rattle.http_desk.specs.Paths.{HasPath, IsPathOf}
+use Rattle.http_desk.proofs.Printed.{writes}
+use Rattle.http_desk.proofs.Segments.{all_weaker}
+use Rattle.http_desk.specs.Routes.{Got, gets, Posted, posts, posted_command, posted_telegram, place_of}
 use Rattle.http_desk.specs.Request.{Head, looks_up, sends, sends_body, place_asks, head_asks, key_of, length_in, within_length}
 use Rattle.http_desk.specs.Digits.{is_number}
 use Rattle.http_desk.specs.Answer.{head_of, HasHead}
@@ -70,12 +69,6 @@ text_is name key n = sym (request_text_is (codes "POST") (target_of name) 1 (fie
 abbrev is_shown : ℕ → Bool
 is_shown b = not (is_ows b) && is_value_byte b
 
-pub all_weaker : (p q : ℕ → Bool) → ((b : ℕ) → p b ≡ true → q b ≡ true) → (xs : List ℕ) → list_all p xs ≡ true → list_all q xs ≡ true
-all_weaker p q weaker [] all = refl
-all_weaker p q weaker (x ∷ xs) all =
-    let parts = and_parts (p x) (list_all p xs) all in
-    and_from _ _ (weaker x parts.0) (all_weaker p q weaker xs parts.1)
-
 visible : (xs : List ℕ) → list_all is_shown xs ≡ true → starts_visible xs ≡ true
 visible [] all = refl
 visible (b ∷ bs) all = (and_parts _ _ (and_parts (is_shown b) (list_all is_shown bs) all).0).0
@@ -107,20 +100,6 @@ refused_if line headers hs l h = rw (l, h) refl
 
 -- the length
 
-pub record Writes (n : ℕ) (ds : List ℕ) : Type 0 where
-  pub value : decimal_value ds ≡ n
-
-pub writes : (n : ℕ) → n < 2 ^ 64 → Writes n (decimal n)
-writes n lt = decimal_by_steps Writes one more n lt
-  where
-    one : (m : ℕ) → m < 10 → Writes m ((48 + m) ∷ [])
-    one m low = record { value = omega arith }
-
-    more : (m : ℕ) (ds : List ℕ) → 10 ≤ m → Writes (m / 10) ds → Writes m (ds ++ ((48 + m % 10) ∷ []))
-    more m ds high h = record {
-      value = let v = decimal_value-last ds (48 + m % 10) in let w = h.value in omega (arith, v, w);
-    }
-
 length_read : (n : ℕ) → n ≤ 65_536 → length_in (decimal n) ≡ Ok n
 length_read n le =
     let wide : n < 2 ^ 64 = omega (arith, le) in
@@ -143,9 +122,6 @@ asked v key n le place =
 
 keyed : (key count : List ℕ) → is_key key ≡ true → key_of (fields_of key count) ≡ Some key
 keyed key count is = ap (λ t. if t then Some key else None) is
-
-path_good : (v : Verb) → IsPath (target_of (word v))
-path_good v = of_every (λ v. list_all is_path_byte (target_of (word v))) refl v
 
 name_short : (v : Verb) → length (word v) ≤ 20
 name_short v = leb-true _ _ (of_every (λ v. nat_le (length (word v)) 20) refl v)
@@ -172,10 +148,9 @@ has_head front body h reads short few =
     let cut : take 16_384 (front ++ body) ≡ front ++ take (16_384 - length front) body = ap (λ n. take n (front ++ body)) (sym room) ∙ take-append-add front body (16_384 - length front) in
     ((take (16_384 - length front) body, subst (λ b. ReadsRequest b h (take (16_384 - length front) body)) (sym cut) (reads (take (16_384 - length front) body))), few)
 
-pub command_read : ((path : List ℕ) (place : Place) → IsPath path → (place_of path ≡ Some place) ↔ LeadsTo path place)
-    → (v : Verb) (key body : List ℕ) → is_key key ≡ true → length body ≤ 65_536
+pub command_read : ((p : Posted) → HasPath (posts p)) → (v : Verb) (key body : List ℕ) → is_key key ≡ true → length body ≤ 65_536
     → IsRead (command_head (word v) key (length body) ++ body) (sends (posted_command v) (length body)) (Some key) body
-command_read leads v key body is le =
+command_read path v key body is le =
     let n = length body in
     let key_parts = and_parts (nat_le 1 (length key) && nat_le (length key) 40) (list_all is_key_byte key) is in
     let key_len : length key ≤ 40 = leb-true (length key) 40 (and_parts (nat_le 1 (length key)) (nat_le (length key) 40) key_parts.0).1 in
@@ -192,7 +167,7 @@ command_read leads v key body is le =
     record {
       head = h;
       has = has_head (command_head (word v) key n) body h (λ rest. subst (λ t. ReadsRequest (t ++ rest) h rest) text (back rest).reads) (head_short (word v) key (decimal n) (name_short v) key_len count_len) (omega arith);
-      asks_is = ap head_asks head_is ∙ asked v key n le ((leads (target_of (word v)) (posts (posted_command v)) (path_good v)).1 (inl refl));
+      asks_is = ap head_asks head_is ∙ asked v key n le (path (posted_command v)).leads;
       key_is = ap key_of fields ∙ keyed key (decimal n) is;
       body_is = ap (λ t. drop (length t) (command_head (word v) key n ++ body)) text ∙ drop-append_seam (command_head (word v) key n) body;
     }
@@ -231,10 +206,9 @@ telegram_short : (count : List ℕ) → length count ≤ 20
     → length (codes "POST /v1/telegrams HTTP/1.1\r\nHost: 127.0.0.1\r\nConnection: close\r\nContent-Length: " ++ (count ++ codes "\r\n\r\n")) ≤ 16_384
 telegram_short count d = omega (arith, d, length-append count (codes "\r\n\r\n"))
 
-pub telegram_read : ((path : List ℕ) (place : Place) → IsPath path → (place_of path ≡ Some place) ↔ LeadsTo path place)
-    → (body : List ℕ) → length body ≤ 65_536
+pub telegram_read : ((p : Posted) → HasPath (posts p)) → (body : List ℕ) → length body ≤ 65_536
     → IsRead (telegram_head (length body) ++ body) (sends posted_telegram (length body)) None body
-telegram_read leads body le =
+telegram_read path body le =
     let n = length body in
     let wide : n < 2 ^ 64 = omega (arith, le) in
     let hs = telegram_fields (decimal n) in
@@ -249,7 +223,7 @@ telegram_read leads body le =
     record {
       head = h;
       has = has_head (telegram_head n) body h (λ rest. subst (λ t. ReadsRequest (t ++ rest) h rest) text (back rest).reads) (telegram_short (decimal n) count_len) (omega arith);
-      asks_is = ap head_asks head_is ∙ telegram_asked n le ((leads (codes "/v1/telegrams") (posts posted_telegram) refl).1 (inl refl));
+      asks_is = ap head_asks head_is ∙ telegram_asked n le (path posted_telegram).leads;
       key_is = ap key_of fields;
       body_is = ap (λ t. drop (length t) (telegram_head n ++ body)) text ∙ drop-append_seam (telegram_head n) body;
     }
@@ -278,7 +252,7 @@ get_short path few = omega (arith, few, length-append path (codes " HTTP/1.1\r\n
 nothing_behind : (xs : List ℕ) → drop (length xs) (xs ++ []) ≡ []
 nothing_behind xs = drop-append_seam xs []
 
-pub get_read : (path : List ℕ) (got : Got) → is_request_line (codes "GET") path 1 ≡ true → length path ≤ 100 → place_of path ≡ Some (gets got)
+get_read : (path : List ℕ) (got : Got) → is_request_line (codes "GET") path 1 ≡ true → length path ≤ 100 → place_of path ≡ Some (gets got)
     → IsRead (get_request path ++ []) (looks_up got) None []
 get_read path got line few place =
     let h : RequestHead = request_head (codes "GET") path 1 get_fields in
@@ -295,44 +269,9 @@ get_read path got line few place =
       body_is = ap (λ t. drop (length t) (get_request path ++ [])) text ∙ nothing_behind (get_request path);
     }
 
-report_line : (name : Report) → is_request_line (codes "GET") (report_path name) 1 ≡ true
+get_line : (path : List ℕ) → list_all is_ascii_graphic path ≡ true → 0 < length path → is_request_line (codes "GET") path 1 ≡ true
 unfolding is_token_byte
-report_line report.Stock = refl
-report_line report.Shed = refl
-report_line report.Flights = refl
-report_line report.Expected = refl
-report_line report.Irregularities = refl
-report_line report.Movements = refl
-report_line report.Trail = refl
-report_line report.Pending = refl
-report_line report.Sent = refl
-report_line report.Station = refl
+get_line path all some = and_from _ _ (and_from _ _ (lt-ltb 0 (length path) some) all) refl
 
-report_is_path : (name : Report) → IsPath (report_path name)
-report_is_path report.Stock = refl
-report_is_path report.Shed = refl
-report_is_path report.Flights = refl
-report_is_path report.Expected = refl
-report_is_path report.Irregularities = refl
-report_is_path report.Movements = refl
-report_is_path report.Trail = refl
-report_is_path report.Pending = refl
-report_is_path report.Sent = refl
-report_is_path report.Station = refl
-
-report_short : (name : Report) → length (report_path name) ≤ 100
-report_short report.Stock = omega arith
-report_short report.Shed = omega arith
-report_short report.Flights = omega arith
-report_short report.Expected = omega arith
-report_short report.Irregularities = omega arith
-report_short report.Movements = omega arith
-report_short report.Trail = omega arith
-report_short report.Pending = omega arith
-report_short report.Sent = omega arith
-report_short report.Station = omega arith
-
-pub report_read : ((path : List ℕ) (place : Place) → IsPath path → (place_of path ≡ Some place) ↔ LeadsTo path place)
-    → (name : Report) → IsRead (get_request (report_path name) ++ []) (looks_up (got_report (as_text name))) None []
-report_read leads name =
-    get_read (report_path name) (got_report (as_text name)) (report_line name) (report_short name) ((leads (report_path name) (gets (got_report (as_text name))) (report_is_path name)).1 (inl (name, refl, refl)))
+pub got_read : (path : List ℕ) (got : Got) → IsPathOf path (gets got) → IsRead (get_request path ++ []) (looks_up got) None []
+got_read path got is = get_read path got (get_line path is.graphic is.some) is.few is.leads

@@ -1,5 +1,5 @@
 -- Rows that are printed as they come, after the tries that began them.
-use Rattle.std.proofs.Common.{◌≡◌, ◌∙◌, ap, refl, subst, inl, inr, Bool, true, false, ℕ, List, Result, Ok, Err, Option, Some, None}
+use Rattle.std.proofs.Common.{◌≡◌, ◌∙◌, ap, subst, Bool, true, false, ℕ, List, Result, Err}
 use Rattle.station_core.specs.Given.{Given}
 use Rattle.reports.specs.declared.form.Form.{Form}
 use Rattle.stock_list.specs.declared.answer.RunFault.{RunFault}
@@ -10,7 +10,6 @@ use Rattle.desk_client.specs.Printed.{call_ended, last_after, HasPrinted, HasPri
 use Rattle.desk_client.specs.declared.ask.Answer.{Answer}
 use Rattle.desk_client.specs.declared.ask.AskFault.{AskFault}
 use Rattle.desk_client.specs.declared.ask.AskFault.TheVariants as fault
-use Rattle.desk_client.specs.declared.connect.LastTry.{LastTry}
 use Rattle.desk_client.specs.declared.connect.LastTry.TheVariants as last
 use Rattle.desk_client.specs.declared.printing.PrintFault.{PrintFault}
 use Rattle.desk_client.specs.declared.printing.PrintFault.TheVariants as print

@@ -19,7 +19,8 @@ use Rattle.desk_client.specs.ListRows.{HasAnsweredRow}
 use Rattle.desk_client.specs.Looks.{shown, Shown, HasAskedHistory, HasAskedRows, HasLooked, HasShownFound}
 use Rattle.desk_client.specs.Posted.{HasAnsweredLine}
 use Rattle.desk_client.specs.Ran.{HasAnsweredText}
-use Rattle.desk_client.specs.Request.{get_request, holder_path, most_answer, rows_path, waybill_path}
+use Rattle.desk_client.specs.Request.{get_request, holder_path, most_answer, waybill_path}
+use Rattle.http_desk.specs.Paths.{rows_path}
 
 abbrev pub shown_at : {S E : Type 0} → (S → Talk) → Come S E → Shown
 shown_at talk c = shown (talk c.keeper) c.sent

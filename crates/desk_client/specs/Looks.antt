@@ -13,7 +13,8 @@ use Rattle.desk_client.specs.Ended.{has_end}
 use Rattle.desk_client.specs.Front.{IsBegun}
 use Rattle.desk_client.specs.Heard.{body_of, service_fault}
 use Rattle.desk_client.specs.Printed.{HasPrinted}
-use Rattle.desk_client.specs.Request.{get_request, most_answer, rows_path, waybill_path}
+use Rattle.desk_client.specs.Request.{get_request, most_answer, waybill_path}
+use Rattle.http_desk.specs.Paths.{rows_path}
 use Rattle.desk_client.specs.declared.ask.Answer.{Answer}
 use Rattle.desk_client.specs.declared.ask.AskFault.{AskFault}
 use Rattle.desk_client.specs.declared.ask.Until.TheVariants as until

@@ -11,7 +11,6 @@ use Rattle.cli_run.specs.Came.{HasFailed, HasGrown}
 use Rattle.desk_client.specs.Ended.{has_end}
 use Rattle.desk_client.specs.Front.{mark_of, IsFront}
 use Rattle.desk_client.specs.Heard.{body_of, service_fault}
-use Rattle.desk_client.specs.Whole.{IsCutShort, IsNotWhole, IsWhole}
 use Rattle.desk_client.specs.declared.ask.Answer.{Answer}
 use Rattle.desk_client.specs.declared.ask.AskFault.{AskFault}
 use Rattle.desk_client.specs.declared.ask.AskFault.TheVariants as fault

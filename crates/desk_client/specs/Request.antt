@@ -2,12 +2,9 @@
 use Rattle.std.specs.Prelude.{ℕ, List, [], ◌++◌, length, codes, decimal}
 use Rattle.awb_number.specs.Number.{number_text}
 use Rattle.desk_commands.specs.Verb.{word}
-use Rattle.shipment_machine.specs.Texts.{flight_date_text}
-use Rattle.reports.specs.declared.form.Form.{Form}
-use Rattle.reports.specs.declared.form.Form.TheVariants as form
-use Rattle.reports.specs.declared.listing.Listing.{Listing}
-use Rattle.reports.specs.declared.listing.Listing.TheVariants as listing
-use Rattle.http_desk.specs.Paths.{report_path}
+use Rattle.http_desk.specs.Paths.{rows_path, segments}
+use Rattle.http_desk.specs.Routes.{gets, got_holder, got_waybill}
+use Rattle.http_desk.specs.Segments.{path_text}
 use Rattle.desk_client.specs.declared.question.Question.{Question}
 use Rattle.desk_client.specs.declared.question.Question.TheVariants as question
 
@@ -45,30 +42,10 @@ abbrev pub get_request : List ℕ → List ℕ
 get_request path = codes "GET " ++ path ++ codes " HTTP/1.1\r\nHost: 127.0.0.1\r\nConnection: close\r\n\r\n"
 
 abbrev pub waybill_path : ℕ → List ℕ
-waybill_path w = codes "/v1/waybills/" ++ number_text w
+waybill_path w = path_text (segments (gets (got_waybill (number_text w))))
 
 abbrev pub holder_path : ℕ → List ℕ
-holder_path w = codes "/v1/stock/" ++ number_text w
-
-abbrev pub listing_path : Listing → List ℕ
-listing_path (listing.All r) = report_path r
-listing_path listing.OpenFlights = codes "/v1/reports/open-flights"
-listing_path listing.OpenExpected = codes "/v1/reports/open-expected"
-listing_path (listing.AgentStock code) = codes "/v1/agents/" ++ (code ++ codes "/stock")
-listing_path (listing.Movements w) = codes "/v1/waybills/" ++ (number_text w ++ codes "/movements")
-listing_path (listing.MovementsAfter n) = codes "/v1/movements/after/" ++ decimal n
-listing_path (listing.MovementsLast n) = codes "/v1/movements/last/" ++ decimal n
-listing_path (listing.Trail w) = codes "/v1/waybills/" ++ (number_text w ++ codes "/trail")
-listing_path (listing.TrailAfter n) = codes "/v1/trail/after/" ++ decimal n
-listing_path (listing.TrailLast n) = codes "/v1/trail/last/" ++ decimal n
-listing_path (listing.PendingAfter n) = codes "/v1/outbox/after/" ++ decimal n
-listing_path (listing.SentAfter n) = codes "/v1/sent/after/" ++ decimal n
-listing_path (listing.Sent w) = codes "/v1/waybills/" ++ (number_text w ++ codes "/sent")
-listing_path (listing.Manifest f) = codes "/v1/flights/" ++ flight_date_text f
-
-abbrev pub rows_path : Listing → Form → List ℕ
-rows_path l form.Text = listing_path l
-rows_path l form.Json = listing_path l ++ codes ".json"
+holder_path w = path_text (segments (gets (got_holder (number_text w))))
 
 -- the request of each question: its head and its body
 abbrev pub command_request : List ℕ → List ℕ → List ℕ → List ℕ

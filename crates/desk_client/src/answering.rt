@@ -16,7 +16,7 @@ use std::alloc::Global;
 use stock_list::{LineCount, RowPlace, RunFault};
 
 /// The way of a service: each input is sent as a question.
-#[derive(Clone, Copy, Debug, PartialEq, Eq)]
+#[derive(Clone, Copy)]
 pub(crate) struct ByService;
 
 impl<S: Ask, E: ByteOut> Answering<S, E> for ByService {

@@ -3,7 +3,8 @@ ghost use Rattle.std.specs.Prelude.{◌≡◌};
 ghost use Rattle.desk_client.specs.Asked.{by_time, HasAsked, HasRead, HasSent, HasUnderstood};
 ghost use Rattle.desk_client.specs.Again.{is_vain, last_of, talk, Talk, IsRefusedOrTalked, HasTried, HasTriedTwice, HasTriedThrice, IsAnswered};
 ghost use Rattle.desk_client.specs.Looks.{shown, HasAskedRows};
-ghost use Rattle.desk_client.specs.Request.{most_of, request_of, rows_path};
+ghost use Rattle.desk_client.specs.Request.{most_of, request_of};
+ghost use Rattle.http_desk.specs.Paths.{rows_path};
 
 use crate::connect::{Connect, LastTry, Service};
 use crate::front::begun_in;
@@ -18,7 +19,7 @@ use std::alloc::Global;
 use stock_list::RunFault;
 
 /// The reason why a question wasn't answered.
-#[derive(Clone, Copy, Debug, PartialEq, Eq)]
+#[derive(Clone, Copy)]
 pub enum AskFault {
     /// The connection was refused.
     Refused,
@@ -39,7 +40,7 @@ pub enum AskFault {
 }
 
 /// An answer that was received.
-#[derive(Debug, Drop)]
+#[derive(Drop)]
 pub struct Answer {
     pub status: u16,
     /// All bytes received.
@@ -52,7 +53,7 @@ pub struct Answer {
 }
 
 /// The extent to which an answer is read.
-#[derive(Clone, Copy, Debug, PartialEq, Eq)]
+#[derive(Clone, Copy)]
 pub enum Until {
     /// To the end of the connection, or until more than this many bytes were received.
     End(usize),

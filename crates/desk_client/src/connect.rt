@@ -24,7 +24,7 @@ pub trait Connect {
 }
 
 /// The outcome of the last try of a question.
-#[derive(Clone, Copy, Debug, PartialEq, Eq)]
+#[derive(Clone, Copy)]
 pub enum LastTry {
     /// Nothing was tried yet.
     Nothing,

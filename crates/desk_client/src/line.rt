@@ -21,7 +21,7 @@ use stock_list::{RunFault, send_line};
 const LATE: &str = "refused 301 2 date";
 
 /// The line in the service's answer, without its end, and whether the input was accepted.
-#[derive(Debug, Drop)]
+#[derive(Drop)]
 pub(crate) struct Heard {
     pub(crate) good: bool,
     pub(crate) text: String,

@@ -13,7 +13,7 @@ use station_core::{ByteIn, ByteOut};
 use std::alloc::Global;
 
 /// The reason why a report wasn't printed to its end.
-#[derive(Clone, Copy, Debug, PartialEq, Eq)]
+#[derive(Clone, Copy)]
 pub(crate) enum PrintFault {
     /// The writer failed or wrote 0 bytes.
     Write,

@@ -1,11 +1,12 @@
 //! Questions to a service, and their requests.
 ghost use Rattle.std.specs.Prelude.{◌≡◌, ◌++◌, IfOk, length, string_bytes};
-ghost use Rattle.http_desk.specs.Paths.{report_path};
-ghost use Rattle.desk_client.specs.Request.{command_lines, key_line, command_head, get_request, holder_path, length_line, listing_path, most_of, request_of, rows_path, telegram_head, waybill_path};
+ghost use Rattle.http_desk.specs.Paths.{rows_path};
+ghost use Rattle.desk_client.specs.Request.{command_lines, key_line, command_head, get_request, holder_path, length_line, most_of, request_of, telegram_head, waybill_path};
 
 use awb_number::Awb;
 use desk_commands::Verb;
-use reports::{Form, Listing, Report};
+use http_desk::rows_path;
+use reports::{Form, Listing};
 use station_core::Key;
 use std::alloc::{AllocError, Global};
 
@@ -34,57 +35,6 @@ pub(crate) fn most_of(question: &Question<'_>) -> usize
     match question {
         Question::Rows(_, _) => usize::MAX,
         _ => MOST_ANSWER,
-    }
-}
-
-fn report_path(report: Report) -> &'static str
-    ensures { result.now ≡ report_path report }
-{
-    match report {
-        Report::Stock => "/v1/reports/stock",
-        Report::Shed => "/v1/reports/shed",
-        Report::Flights => "/v1/reports/flights",
-        Report::Expected => "/v1/reports/expected",
-        Report::Irregularities => "/v1/reports/irregularities",
-        Report::Movements => "/v1/reports/movements",
-        Report::Trail => "/v1/reports/trail",
-        Report::Pending => "/v1/outbox",
-        Report::Sent => "/v1/reports/sent",
-        Report::Station => "/v1/reports/station",
-    }
-}
-
-fn listing_path(alloc: Global, listing: &Listing) -> Result<String, AllocError>
-    ensures { IfOk result (λ path. string_bytes path ≡ listing_path listing.now) }
-{
-    match listing {
-        Listing::All(report) => String::from_str(alloc, report_path(*report)),
-        Listing::OpenFlights => String::from_str(alloc, "/v1/reports/open-flights"),
-        Listing::OpenExpected => String::from_str(alloc, "/v1/reports/open-expected"),
-        Listing::AgentStock(code) => {
-            let code = code.as_str();
-            format!(in alloc; "/v1/agents/{code}/stock")
-        }
-        Listing::Movements(number) => format!(in alloc; "/v1/waybills/{number}/movements"),
-        Listing::MovementsAfter(row) => format!(in alloc; "/v1/movements/after/{row}"),
-        Listing::MovementsLast(rows) => format!(in alloc; "/v1/movements/last/{rows}"),
-        Listing::Trail(number) => format!(in alloc; "/v1/waybills/{number}/trail"),
-        Listing::TrailAfter(row) => format!(in alloc; "/v1/trail/after/{row}"),
-        Listing::TrailLast(rows) => format!(in alloc; "/v1/trail/last/{rows}"),
-        Listing::PendingAfter(row) => format!(in alloc; "/v1/outbox/after/{row}"),
-        Listing::SentAfter(row) => format!(in alloc; "/v1/sent/after/{row}"),
-        Listing::Sent(number) => format!(in alloc; "/v1/waybills/{number}/sent"),
-        Listing::Manifest(flight) => format!(in alloc; "/v1/flights/{flight}"),
-    }
-}
-
-fn rows_path(alloc: Global, listing: &Listing, form: Form) -> Result<String, AllocError>
-    ensures { IfOk result (λ path. string_bytes path ≡ rows_path listing.now form) }
-{
-    let path = listing_path(alloc, listing)?;
-    match form {
-        Form::Text => Ok(path),
-        Form::Json => format!(in alloc; "{path}.json"),
     }
 }
 

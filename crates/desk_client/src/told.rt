@@ -7,7 +7,7 @@ use serde_json::Value;
 use std::alloc::{AllocError, Global};
 
 /// The content of an answer to a command or a telegram.
-#[derive(Debug, Drop)]
+#[derive(Drop)]
 pub enum Told {
     /// The line without its end, `ok 10`, `refused 102 020-12345723` or `body bad`, and whether the
     /// input was accepted.

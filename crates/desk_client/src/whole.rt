@@ -13,14 +13,14 @@ use httparse::spans::{EMPTY_HEADER_SPAN, HeaderSpan, parse_response};
 const MOST_FIELDS: usize = 16;
 
 /// The status of an answer, and the start of its body.
-#[derive(Clone, Copy, Debug, PartialEq, Eq)]
+#[derive(Clone, Copy)]
 pub(crate) struct Place {
     pub(crate) status: u16,
     pub(crate) start: usize,
 }
 
 /// The received part of the body that the head announces.
-#[derive(Clone, Copy, Debug, PartialEq, Eq)]
+#[derive(Clone, Copy)]
 pub(crate) enum Extent {
     /// All of it.
     Whole,
@@ -31,7 +31,7 @@ pub(crate) enum Extent {
 }
 
 /// The part of an answer that bytes are.
-#[derive(Clone, Copy, Debug, PartialEq, Eq)]
+#[derive(Clone, Copy)]
 pub(crate) enum Found {
     /// A whole answer.
     Whole(Place),

@@ -3,11 +3,11 @@ use Rattle.std.proofs.Common.{◌≡◌, ◌∙◌, ℕ, zero, suc, ◌+◌, ◌
 use Rattle.std.specs.Prelude.{count_by, fold, option_map}
 use Rattle.std.specs.declared.alloc.Global.{Global}
 use Rattle.std.proofs.lemmas.Bool.{eq-eqb, eqb-true, ne_eqb, lt-ltb, ltb-true}
-use Rattle.serde_json.specs.Data.{unsigned, negative, float, Data, null, boolean, number, string, array, object}
+use Rattle.serde_json.specs.Data.{unsigned, Data, number, string}
 use Rattle.serde_json.specs.Find.{as_object, get}
 use Rattle.serde_json.specs.View.{members_view}
 use Rattle.serde_json.specs.declared.value.Value.{Value}
-use Rattle.imp_fields.specs.Flight.{Designator, flight_of}
+use Rattle.imp_fields.specs.Flight.{Designator}
 use Rattle.station_days.specs.Steps.{◌>>=◌, where_true}
 use Rattle.desk_commands.specs.declared.command.Command.{Command}
 use Rattle.desk_commands.specs.declared.verb.Verb.{Verb}
@@ -16,7 +16,7 @@ use Rattle.desk_commands.specs.declared.verb.Kind.{Kind}
 use Rattle.desk_commands.specs.declared.verb.Kind.TheVariants as kind
 use Rattle.desk_commands.specs.declared.field_value.FieldValue.{FieldValue}
 use Rattle.desk_commands.specs.declared.field_value.FieldValue.TheVariants.{Text, Number, Flight, Absent}
-use Rattle.desk_commands.specs.Body.{members_len, member_count, IsMember, AreMembers, IsBodyOf, text_member, number_member, flight_member, member_says, member_if_any, field_says, fields_say, body_says}
+use Rattle.desk_commands.specs.Body.{members_len, member_count, IsMember, AreMembers, IsBodyOf, text_member, number_member, flight_member, member_says, member_if_any, fields_say, body_says}
 use Rattle.desk_commands.specs.Command.{verb_of, values_of, command_of}
 use Rattle.desk_commands.specs.Verb.{row, places, name, kind_of}
 use Rattle.desk_commands.specs.FieldValue.{is_present}
@@ -26,64 +26,37 @@ use Rattle.desk_commands.proofs.Fit.{values_in_places, Fits, AreFit}
 use Rattle.desk_commands.proofs.Made.{IsTyped, AreTyped}
 use Rattle.desk_commands.proofs.Verbs.{places_are, row_short, values_short}
 use Rattle.desk_commands.proofs.LineLaws.{flight_made}
-use Rattle.desk_commands.proofs.Steps.{some_is, passes, passed, go_on, again2, made2, bound, made1}
+use Rattle.desk_commands.proofs.Steps.{some_is, passes, passed, reads}
 
 -- ---- one member
 
 pub member_again : (k : Kind) (g : FieldValue) (d : Data) (key : List ℕ) → Fits k g → IsMember d key g → member_if_any k (get key d) ≡ Some g
 member_again kind.Text (Text t) d key h m = ap (member_if_any kind.Text) m
-member_again kind.Text (Number n) d key h m = absurd h
-member_again kind.Text (Flight f) d key h m = absurd h
-member_again kind.Text Absent d key h m = absurd h
-member_again kind.Number (Text t) d key h m = absurd h
 member_again kind.Number (Number n) d key h m = ap (member_if_any kind.Number) m ∙ passes (nat_lt n 4_294_967_296) (Number n) (lt-ltb _ _ h)
-member_again kind.Number (Flight f) d key h m = absurd h
-member_again kind.Number Absent d key h m = absurd h
-member_again kind.Flight (Text t) d key h m = absurd h
-member_again kind.Flight (Number n) d key h m = absurd h
 member_again kind.Flight (Flight f) d key h m = ap (member_if_any kind.Flight) m.1 ∙ ap (λ (o : Option Designator). o >>= λ x. Some (Flight x)) m.2
-member_again kind.Flight Absent d key h m = absurd h
-member_again kind.FlightIfAny (Text t) d key h m = absurd h
-member_again kind.FlightIfAny (Number n) d key h m = absurd h
 member_again kind.FlightIfAny (Flight f) d key h m = ap (member_if_any kind.FlightIfAny) m.1 ∙ ap (λ (o : Option Designator). o >>= λ x. Some (Flight x)) m.2
 member_again kind.FlightIfAny Absent d key h m = ap (member_if_any kind.FlightIfAny) m
 member_again kind.TextIfAny (Text t) d key h m = ap (member_if_any kind.TextIfAny) m
-member_again kind.TextIfAny (Number n) d key h m = absurd h
-member_again kind.TextIfAny (Flight f) d key h m = absurd h
 member_again kind.TextIfAny Absent d key h m = ap (member_if_any kind.TextIfAny) m
+member_again _ _ d key h m = absurd h
 
 abbrev IsRead : Data → List ℕ → FieldValue → Type 0
 IsRead d key g = IsMember d key g × IsTyped g
 
 text_made : (d : Data) (key : List ℕ) (x : Data) (g : FieldValue) → get key d ≡ Some x → text_member x ≡ Some g → IsRead d key g
-text_made d key null g e h = cc h
-text_made d key (boolean b) g e h = cc h
-text_made d key (number n) g e h = cc h
 text_made d key (string s) g e h = subst (IsRead d key) (some_is (Text s) g h) (e, tt)
-text_made d key (array ds) g e h = cc h
-text_made d key (object ms) g e h = cc h
+text_made d key _ g e h = cc h
 
 number_made : (d : Data) (key : List ℕ) (x : Data) (g : FieldValue) → get key d ≡ Some x → number_member x ≡ Some g → IsRead d key g
-number_made d key null g e h = cc h
-number_made d key (boolean b) g e h = cc h
 number_made d key (number (unsigned n)) g e h =
     let p = passed (nat_lt n 4_294_967_296) (Number n) g h in
     subst (IsRead d key) p.1 (e, ltb-true _ _ p.0)
-number_made d key (number (negative z)) g e h = cc h
-number_made d key (number (float f)) g e h = cc h
-number_made d key (string s) g e h = cc h
-number_made d key (array ds) g e h = cc h
-number_made d key (object ms) g e h = cc h
+number_made d key _ g e h = cc h
 
 flight_read : (d : Data) (key : List ℕ) (x : Data) (g : FieldValue) → get key d ≡ Some x → flight_member x ≡ Some g → IsRead d key g
-flight_read d key null g e h = cc h
-flight_read d key (boolean b) g e h = cc h
-flight_read d key (number n) g e h = cc h
 flight_read d key (string s) g e h =
-    let r = made1 (flight_of s) (λ f. Flight f) g h in
-    subst (IsRead d key) r.same ((s, e, r.is_a), flight_made s r.a r.is_a)
-flight_read d key (array ds) g e h = cc h
-flight_read d key (object ms) g e h = cc h
+    reads (λ f is. ((s, e, is), flight_made s f is)) (λ _ read h. subst (IsRead d key) (some_is _ g h) read) h
+flight_read d key _ g e h = cc h
 
 kind_made : (k : Kind) (d : Data) (key : List ℕ) (x : Data) (g : FieldValue) → get key d ≡ Some x → member_says k x ≡ Some g → IsRead d key g
 kind_made kind.Text d key x g e h = text_made d key x g e h
@@ -100,13 +73,10 @@ member_made k d key (Some x) g e h = kind_made k d key x g e h
 
 fields_again : (n : ℕ) (fs : List Field) (gs : List FieldValue) (d : Data) → AreFit fs gs → AreMembers d fs gs → fields_say (places_of n fs) d ≡ Some (values_in_places n gs)
 fields_again zero fs gs d h m = refl
-fields_again (suc n) [] [] d h m =
-    again2 (Some Absent) (fields_say (places_of n []) d) (λ (g : FieldValue) (gs : List FieldValue). g ∷ gs) Absent (values_in_places n []) refl (fields_again n [] [] d tt tt)
+fields_again (suc n) [] [] d h m = rw (fields_again n [] [] d tt tt)
 fields_again (suc n) [] (g ∷ gs) d h m = absurd h
 fields_again (suc n) (f ∷ fs) [] d h m = absurd h
-fields_again (suc n) (f ∷ fs) (g ∷ gs) d h m =
-    again2 (field_says (Some f) d) (fields_say (places_of n fs) d) (λ (g : FieldValue) (gs : List FieldValue). g ∷ gs) g (values_in_places n gs)
-    (member_again (kind_of f) g d (name f) h.0 m.0) (fields_again n fs gs d h.1 m.1)
+fields_again (suc n) (f ∷ fs) (g ∷ gs) d h m = rw (member_again (kind_of f) g d (name f) h.0 m.0, fields_again n fs gs d h.1 m.1)
 
 record AreFields (n : ℕ) (d : Data) (fs : List Field) (six : List FieldValue) : Type 0 where
   pub typed : AreTyped six
@@ -117,15 +87,11 @@ fields_made : (n : ℕ) (fs : List Field) (d : Data) (six : List FieldValue) →
 fields_made zero [] d six fit h = subst (AreFields 0 d []) (some_is {A = List FieldValue} [] six h) (record { typed = tt; members = tt; are_six = refl })
 fields_made zero (f ∷ fs) d six fit h = absurd (omega (arith, fit))
 fields_made (suc n) [] d six fit h =
-    let r = made2 (Some Absent) (fields_say (places_of n []) d) (λ (g : FieldValue) (gs : List FieldValue). g ∷ gs) six h in
-    let more = fields_made n [] d r.b (omega arith) r.is_b in
-    let first = some_is {A = FieldValue} Absent r.a r.is_a in
-    subst (AreFields (suc n) d []) (ap (λ (g : FieldValue). g ∷ r.b) first ∙ r.same) (record { typed = (tt, more.typed); members = tt; are_six = λ i. Absent ∷ more.are_six i })
+    reads (λ more e. fields_made n [] d more (omega arith) e) (λ _ more h.
+    subst (AreFields (suc n) d []) (some_is _ six h) (record { typed = (tt, more.typed); members = tt; are_six = λ i. Absent ∷ more.are_six i })) h
 fields_made (suc n) (f ∷ fs) d six fit h =
-    let r = made2 (field_says (Some f) d) (fields_say (places_of n fs) d) (λ (g : FieldValue) (gs : List FieldValue). g ∷ gs) six h in
-    let more = fields_made n fs d r.b (omega (arith, fit)) r.is_b in
-    let one = member_made (kind_of f) d (name f) (get (name f) d) r.a refl r.is_a in
-    subst (AreFields (suc n) d (f ∷ fs)) r.same (record { typed = (one.1, more.typed); members = (one.0, more.members); are_six = λ i. r.a ∷ more.are_six i })
+    reads (λ g e. member_made (kind_of f) d (name f) (get (name f) d) g refl e) (λ g one. reads (λ more e. fields_made n fs d more (omega (arith, fit)) e) (λ _ more h.
+    subst (AreFields (suc n) d (f ∷ fs)) (some_is _ six h) (record { typed = (one.1, more.typed); members = (one.0, more.members); are_six = λ i. g ∷ more.are_six i }))) h
 
 -- what is absent at the end isn't counted
 abbrev counted : ℕ → List FieldValue → ℕ
@@ -147,31 +113,26 @@ body_at d c h =
     let v = verb_of c in
     let six = values_in_places 6 (values_of c) in
     let k = count_by is_present (values_of c) in
-    go_on (member_count d) (λ count. fields_say (places v) d >>= λ gs. where_true (count == count_by is_present gs) gs >>= command_of v) k (Some c) h.no_other
-    (go_on (fields_say (places v) d) (λ gs. where_true (k == count_by is_present gs) gs >>= command_of v) six (Some c)
-    (ap (λ p. fields_say p d) (places_are v) ∙ fields_again 6 (row v) (values_of c) d (fits c h.in_range) h.members)
-    (go_on (where_true (k == count_by is_present six) six) (command_of v) six (Some c)
-    (passes (k == count_by is_present six) six (eq-eqb _ _ (sym (counted_in_places 6 0 (values_of c) (values_short c h.in_range))))) (made_again c h.in_range)))
+    let members = ap (λ p. fields_say p d) (places_are v) ∙ fields_again 6 (row v) (values_of c) d (fits c h.in_range) h.members in
+    let counted = passes (k == count_by is_present six) six (eq-eqb _ _ (sym (counted_in_places 6 0 (values_of c) (values_short c h.in_range)))) in
+    rw (h.no_other, members, counted) (made_again c h.in_range)
 
 pub body_again : (v : Verb) (d : Data) (c : Command) → IsBodyOf v d c → body_says v d ≡ Some c
 body_again v d c h = subst (λ u. IsBodyOf u d c → body_says u d ≡ Some c) h.verb_is (body_at d c) h
 
 pub body_made : (v : Verb) (d : Data) (c : Command) → body_says v d ≡ Some c → IsBodyOf v d c
 body_made v d c h =
-    let n = bound (member_count d) (λ count. fields_say (places v) d >>= λ gs. where_true (count == count_by is_present gs) gs >>= command_of v) c h in
-    let g = bound (fields_say (places v) d) (λ gs. where_true (n.x == count_by is_present gs) gs >>= command_of v) c n.goes in
-    let t = bound (where_true (n.x == count_by is_present g.x) g.x) (command_of v) c g.goes in
-    let p = passed (n.x == count_by is_present g.x) g.x t.x t.is_x in
-    let f = fields_made 6 (row v) d g.x (row_short v) (ap (λ q. fields_say q d) (sym (places_are v)) ∙ g.is_x) in
-    let m = made_of_list v g.x c f.typed (ap (command_of v) p.1 ∙ t.goes) in
-    let six : g.x ≡ values_in_places 6 (values_of c) = f.are_six ∙ ap (values_in_places 6) m.front in
-    let count : n.x ≡ count_by is_present (values_of c) = eqb-true _ _ p.0 ∙ ap (count_by is_present) six ∙ counted_in_places 6 0 (values_of c) (values_short c m.in_range) in
+    reads (λ n e. e) (λ n counted. reads (λ six e. fields_made 6 (row v) d six (row_short v) (ap (λ q. fields_say q d) (sym (places_are v)) ∙ e)) (λ six f.
+    reads (λ t e. passed (n == count_by is_present six) six t e) (λ t p h.
+    let m = made_of_list v six c f.typed (ap (command_of v) p.1 ∙ h) in
+    let same : six ≡ values_in_places 6 (values_of c) = f.are_six ∙ ap (values_in_places 6) m.front in
+    let count : n ≡ count_by is_present (values_of c) = eqb-true _ _ p.0 ∙ ap (count_by is_present) same ∙ counted_in_places 6 0 (values_of c) (values_short c m.in_range) in
     record {
       in_range = m.in_range;
       verb_is = m.verb_is;
       members = subst (AreMembers d (row v)) m.front f.members;
-      no_other = n.is_x ∙ ap (λ (k : ℕ). Some k) count;
-    }
+      no_other = counted ∙ ap (λ (k : ℕ). Some k) count;
+    }))) h
 
 -- ---- what is read
 

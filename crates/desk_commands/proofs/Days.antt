@@ -9,7 +9,7 @@ use Rattle.awb_number.proofs.Padded.{digits-padded, decimal_value-padded}
 use Rattle.imp_fields.proofs.SameFlight.{bytes_eq-true, bytes_eq-refl}
 use Rattle.station_days.proofs.DateLaws.{year_high}
 use Rattle.station_days.proofs.DateOnLaws.{IsDateAfter, date_of_moment, date_names_day}
-use Rattle.desk_commands.proofs.Steps.{some_is, passed, passes, go_on}
+use Rattle.desk_commands.proofs.Steps.{some_is, passed, passes}
 use Rattle.awb_number.specs.Digits.{padded, decimal_value}
 use Rattle.station_days.specs.Steps.{◌>>=◌}
 use Rattle.station_days.specs.Date.{CalendarDay, IsCalendarDay, IsMomentDay, is_moment_day, day_in_year, year_of, date_on, days_after}
@@ -81,8 +81,7 @@ again y m d day low h named in_range line =
     let dated_is : date_in text ≡ Some (date_part text) = passes (has_digits text && is_calendar_day (date_part text)) (date_part text) (and_from _ _ digits (ap is_calendar_day date_is ∙ calendar)) in
     let named_is : named_day (date_part text) text ≡ Some day = ap (λ x. named_day x text) date_is ∙ ap (day_in_year date) year_is ∙ named in
     let written : if_written day text ≡ Some day = passes (is_moment_day day && bytes_eq (day_line day) text) day (and_from _ _ (moment_test day in_range) (ap (λ l. bytes_eq l text) line ∙ bytes_eq-refl text)) in
-    go_on (date_in text) (λ x. named_day x text >>= λ n. if_written n text) (date_part text) (Some day) dated_is
-    (go_on (named_day (date_part text) text) (λ n. if_written n text) day (Some day) named_is written)
+    rw (dated_is, named_is) written
 
 month_long : (a b c : Bool) → cond a (cond b 29 28) (cond c 30 31) ≤ 31
 month_long true true c = omega arith

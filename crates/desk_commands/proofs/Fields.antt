@@ -6,7 +6,7 @@ use Rattle.std.specs.Array.{IsWholeChunk}
 use Rattle.std.specs.List.{list_all}
 use Rattle.std.proofs.lemmas.Bool.{and_parts, and_from, eqb-true, eq-eqb, le-leb, leb-true}
 use Rattle.awb_number.specs.Digits.{is_digit, decimal_value, padded}
-use Rattle.awb_number.specs.Number.{IsNumber, number_of, key_of, prefix_of, serial_of}
+use Rattle.awb_number.specs.Number.{IsNumber, number_of, prefix_of, serial_of}
 use Rattle.awb_number.specs.declared.awb.AwbFault.{AwbFault}
 use Rattle.awb_number.proofs.Keys.{prefix_of-key, serial_of-key, key_of-parts, key_in_range, prefix_in_range, serial_in_range}
 use Rattle.awb_number.proofs.NumberLaws.{number_again, number_takes}
@@ -23,12 +23,12 @@ use Rattle.agent_stock.specs.declared.stock.Run.{Run}
 use Rattle.shipment_machine.specs.Amount.{IsCount}
 use Rattle.shipment_machine.specs.declared.flight.FlightDate.{FlightDate}
 use Rattle.desk_commands.specs.declared.field_value.FieldValue.{FieldValue}
-use Rattle.desk_commands.specs.declared.field_value.FieldValue.TheVariants.{Text, Number, Flight, Absent}
+use Rattle.desk_commands.specs.declared.field_value.FieldValue.TheVariants.{Text, Number, Flight}
 use Rattle.desk_commands.specs.Command.{prefix_text, serial_text, number, flight, day, flight_if_any, day_if_any, IsRun, IsFlightDate, IsAirport}
 use Rattle.desk_commands.specs.Day.{day_of}
-use Rattle.desk_commands.specs.FieldValue.{text_in, number_in, flight_in, digits_of, digits_in, awb_of, awb_in, airport_in, airline_in, name_in, goods_in, agent_in, day_in, pieces_in, tenths_in, counted_in, count_in, run_in, flight_date_in, flight_if_any_in}
+use Rattle.desk_commands.specs.FieldValue.{text_in, number_in, flight_in, digits_of, digits_in, awb_of, awb_in, airport_in, airline_in, name_in, goods_in, agent_in, pieces_in, tenths_in, counted_in, count_in, run_in, flight_date_in, flight_if_any_in}
 use Rattle.desk_commands.proofs.Days.{day_is, day_again}
-use Rattle.desk_commands.proofs.Steps.{some_is, passed, passes, made2, made3, go_on}
+use Rattle.desk_commands.proofs.Steps.{some_is, passed, passes, reads}
 
 -- ---- what is read of a text
 
@@ -39,9 +39,7 @@ record FromText {A : Type 0} (of : List ℕ → Option A) (g : FieldValue) (x : 
 
 from_text : {A : Type 0} (of : List ℕ → Option A) (g : FieldValue) (x : A) → (text_in g >>= of) ≡ Some x → FromText of g x
 from_text of (Text text) x h = record { text = text; is_text = refl; read = h }
-from_text of (Number n) x h = cc h
-from_text of (Flight f) x h = cc h
-from_text of Absent x h = cc h
+from_text of _ x h = cc h
 
 record FromNumber {A : Type 0} (of : ℕ → Option A) (g : FieldValue) (x : A) : Type 0 where
   pub value : ℕ
@@ -49,22 +47,16 @@ record FromNumber {A : Type 0} (of : ℕ → Option A) (g : FieldValue) (x : A) 
   pub read : of value ≡ Some x
 
 from_number : {A : Type 0} (of : ℕ → Option A) (g : FieldValue) (x : A) → (number_in g >>= of) ≡ Some x → FromNumber of g x
-from_number of (Text text) x h = cc h
 from_number of (Number n) x h = record { value = n; is_number = refl; read = h }
-from_number of (Flight f) x h = cc h
-from_number of Absent x h = cc h
+from_number of _ x h = cc h
 
 pub number_is : (g : FieldValue) (n : ℕ) → number_in g ≡ Some n → g ≡ Number n
-number_is (Text text) n h = cc h
 number_is (Number m) n h = ap Number (some_is m n h)
-number_is (Flight f) n h = cc h
-number_is Absent n h = cc h
+number_is _ n h = cc h
 
 pub flight_is : (g : FieldValue) (f : Designator) → flight_in g ≡ Some f → g ≡ Flight f
-flight_is (Text text) f h = cc h
-flight_is (Number m) f h = cc h
 flight_is (Flight e) f h = ap Flight (some_is e f h)
-flight_is Absent f h = cc h
+flight_is _ f h = cc h
 
 -- a text that passes a test
 tested : (test : List ℕ → Bool) (g : FieldValue) (t : List ℕ) → (text_in g >>= λ text. where_true (test text) text) ≡ Some t → (IsTrue (test t)) × (g ≡ Text t)
@@ -141,18 +133,14 @@ pub record IsRunValues (prefix serial count : FieldValue) (run : Run) : Type 0 w
 
 pub run_is : (a b c : FieldValue) (run : Run) → run_in a b c ≡ Some run → IsRunValues a b c run
 run_is a b c run h =
-    let r = made3 (digits_in 3 a) (digits_in 7 b) (count_in c) (λ p s n. record { first = key_of p s; count = n }) run h in
-    let p = digits_are 3 a r.a r.is_a in
-    let s = digits_are 7 b r.b r.is_b in
-    let n = count_is c r.c r.is_c in
-    let low : r.a < 1000 = omega (arith, p.0) in
-    let small : r.b < 10_000_000 = omega (arith, s.0) in
-    subst (IsRunValues a b c) r.same (record {
-      range = (key_in_range r.a r.b low small, n.0);
-      prefix_is = p.1 ∙ ap (λ x. Text (padded 3 x)) (sym (prefix_of-key r.a r.b small));
-      serial_is = s.1 ∙ ap (λ x. Text (padded 7 x)) (sym (serial_of-key r.a r.b small));
+    reads (digits_are 3 a) (λ prefix p. reads (digits_are 7 b) (λ serial s. reads (count_is c) (λ _ n h.
+    let small : serial < 10_000_000 = omega (arith, s.0) in
+    subst (IsRunValues a b c) (some_is _ run h) (record {
+      range = (key_in_range prefix serial (omega (arith, p.0)) small, n.0);
+      prefix_is = p.1 ∙ ap (λ x. Text (padded 3 x)) (sym (prefix_of-key prefix serial small));
+      serial_is = s.1 ∙ ap (λ x. Text (padded 7 x)) (sym (serial_of-key prefix serial small));
       count_is = n.1;
-    })
+    })))) h
 
 pub record IsFlightValues (a b : FieldValue) (f : FlightDate) : Type 0 where
   pub day_is : IsMomentDay f.day
@@ -161,10 +149,9 @@ pub record IsFlightValues (a b : FieldValue) (f : FlightDate) : Type 0 where
 
 pub flight_date_is : (a b : FieldValue) (f : FlightDate) → flight_date_in a b ≡ Some f → IsFlightValues a b f
 flight_date_is a b f h =
-    let r = made2 (flight_in a) (day_in b) (λ f d. record { flight = f; day = d }) f h in
-    let t = from_text day_of b r.b r.is_b in
-    let d = day_is t.text r.b t.read in
-    subst (IsFlightValues a b) r.same (record { day_is = d.in_range; flight_is = flight_is a r.a r.is_a; date_is = t.is_text ∙ ap Text d.written })
+    reads (flight_is a) (λ _ flight. reads (from_text day_of b) (λ d t h.
+    let day = day_is t.text d t.read in
+    subst (IsFlightValues a b) (some_is _ f h) (record { day_is = day.in_range; flight_is = flight; date_is = t.is_text ∙ ap Text day.written }))) h
 
 -- ---- what a field holds is read again
 
@@ -204,10 +191,7 @@ run_again run h =
     let serial : digits_in 7 (serial_text run) ≡ Some s =
     passes (list_all is_digit (padded 7 s)) (decimal_value (padded 7 s)) (digits-padded 7 s) ∙ ap (λ (n : ℕ). Some n) (decimal_value-padded 7 s (serial_in_range run.first)) in
     let count : count_in (Number run.count) ≡ Some run.count = passes (nat_le run.count 9_999_999) run.count (le-leb _ _ h.1) in
-    let made : ℕ → ℕ → ℕ → Run = λ p s n. record { first = key_of p s; count = n } in
-    go_on (digits_in 3 (prefix_text run)) (λ p. digits_in 7 (serial_text run) >>= λ s. count_in (Number run.count) >>= λ n. Some (made p s n)) p (Some run) prefix
-    (go_on (digits_in 7 (serial_text run)) (λ s. count_in (Number run.count) >>= λ n. Some (made p s n)) s (Some run) serial
-    (go_on (count_in (Number run.count)) (λ n. Some (made p s n)) run.count (Some run) count (ap (λ k. Some (record { first = k; count = run.count })) (key_of-parts run.first))))
+    rw (prefix, serial, count, key_of-parts run.first)
 
 pub flight_date_again : (f : FlightDate) → IsFlightDate f → flight_date_in (flight f) (day f) ≡ Some f
 flight_date_again f h = ap (λ (d : Option ℕ). d >>= λ n. Some (record { flight = f.flight; day = n })) (day_again f.day h.1)

@@ -16,31 +16,18 @@ use Rattle.desk_commands.proofs.Free.{free}
 -- texts without an end of a line, numbers and flights in their ranges, and what may be left out
 abbrev pub Fits : Kind → FieldValue → Type 0
 Fits kind.Text (Text t) = free t ≡ true
-Fits kind.Text (Number n) = ⊥
-Fits kind.Text (Flight f) = ⊥
-Fits kind.Text Absent = ⊥
-Fits kind.Number (Text t) = ⊥
 Fits kind.Number (Number n) = n < 4_294_967_296
-Fits kind.Number (Flight f) = ⊥
-Fits kind.Number Absent = ⊥
-Fits kind.Flight (Text t) = ⊥
-Fits kind.Flight (Number n) = ⊥
 Fits kind.Flight (Flight f) = IsDesignator f
-Fits kind.Flight Absent = ⊥
-Fits kind.FlightIfAny (Text t) = ⊥
-Fits kind.FlightIfAny (Number n) = ⊥
 Fits kind.FlightIfAny (Flight f) = IsDesignator f
 Fits kind.FlightIfAny Absent = ⊤
 Fits kind.TextIfAny (Text t) = (free t ≡ true) × (0 < length t)
-Fits kind.TextIfAny (Number n) = ⊥
-Fits kind.TextIfAny (Flight f) = ⊥
 Fits kind.TextIfAny Absent = ⊤
+Fits _ _ = ⊥
 
 abbrev pub AreFit : List Field → List FieldValue → Type 0
 AreFit [] [] = ⊤
-AreFit [] (g ∷ gs) = ⊥
-AreFit (f ∷ fs) [] = ⊥
 AreFit (f ∷ fs) (g ∷ gs) = Fits (kind_of f) g × AreFit fs gs
+AreFit _ _ = ⊥
 
 pub pieces_fit : (n : ℕ) → IsPieces n → n < 4_294_967_296
 pieces_fit n h = let most = h.1 in omega (arith, most)

@@ -16,7 +16,7 @@ use Rattle.awb_number.proofs.Padded.{is_digit_from, is_digit_bounds, decimal_val
 use Rattle.imp_fields.specs.Amount.{count_of}
 use Rattle.imp_fields.specs.Characters.{drop_while}
 use Rattle.imp_fields.specs.Flight.{Designator, IsDesignator, flight_of, flight_text, is_carrier, suffix_of}
-use Rattle.station_days.specs.Steps.{◌>>=◌, where_true}
+use Rattle.station_days.specs.Steps.{◌>>=◌}
 use Rattle.imp_fields.proofs.FieldLaws.{flight_again}
 use Rattle.imp_fields.proofs.SameFlight.{bytes_eq-refl, bytes_eq-true}
 use Rattle.desk_commands.specs.declared.verb.Kind.{Kind}
@@ -28,7 +28,7 @@ use Rattle.desk_commands.specs.Lines.{is_number, number_of, written_flight_of, n
 use Rattle.desk_commands.proofs.Fit.{Fits}
 use Rattle.desk_commands.proofs.Free.{free, free_decimal, free_flight}
 use Rattle.desk_commands.proofs.Made.{IsTyped}
-use Rattle.desk_commands.proofs.Steps.{some_is, passes, passed, go_on, bound, made1, made3}
+use Rattle.desk_commands.proofs.Steps.{some_is, passes, passed, reads}
 
 -- decimal digits, and the number that they write
 record Writes (n : ℕ) (ds : List ℕ) : Type 0 where
@@ -67,8 +67,7 @@ number_again n small =
 
 pub written_flight_again : (f : Designator) → IsDesignator f → written_flight_of (flight_text f) ≡ Some f
 written_flight_again f h =
-    go_on (flight_of (flight_text f)) (λ g. where_true (bytes_eq (flight_text g) (flight_text f)) g) f (Some f) (flight_again f h)
-    (passes (bytes_eq (flight_text f) (flight_text f)) f (bytes_eq-refl (flight_text f)))
+    rw (flight_again f h) (passes (bytes_eq (flight_text f) (flight_text f)) f (bytes_eq-refl (flight_text f)))
 
 -- ---- the number that a line writes
 
@@ -137,12 +136,10 @@ count_made ds n h =
 
 pub flight_made : (text : List ℕ) (f : Designator) → flight_of text ≡ Some f → IsDesignator f
 flight_made text f h =
-    let r = made3 (where_true (is_carrier (take 2 text)) (take 2 text)) (count_of (take_while is_digit (drop 2 text))) (suffix_of (drop_while is_digit (drop 2 text)))
-    (λ c n s. record { carrier = c; number = n; suffix = s }) f h in
-    let p = passed (is_carrier (take 2 text)) (take 2 text) r.a r.is_a in
-    let n = count_made (take_while is_digit (drop 2 text)) r.b r.is_b in
-    let carrier : IsTrue (is_carrier r.a) = subst (λ c. is_carrier c ≡ true) p.1 p.0 in
-    subst IsDesignator r.same (carrier, n.0, n.1, suffix_made (drop_while is_digit (drop 2 text)) r.c r.is_c)
+    reads (λ c e. passed (is_carrier (take 2 text)) (take 2 text) c e) (λ c p. reads (count_made (take_while is_digit (drop 2 text))) (λ _ n.
+    reads (suffix_made (drop_while is_digit (drop 2 text))) (λ _ suffix h.
+    let carrier : IsTrue (is_carrier c) = subst (λ c. is_carrier c ≡ true) p.1 p.0 in
+    subst IsDesignator (some_is _ f h) (carrier, n.0, n.1, suffix)))) h
 
 -- ---- each kind of line
 
@@ -159,47 +156,23 @@ flight_line_again f h = ap (λ (o : Option Designator). o >>= λ x. Some (Flight
 
 pub line_again : (k : Kind) (g : FieldValue) → Fits k g → line_says k (line_of g) ≡ Some g
 line_again kind.Text (Text t) h = refl
-line_again kind.Text (Number n) h = absurd h
-line_again kind.Text (Flight f) h = absurd h
-line_again kind.Text Absent h = absurd h
-line_again kind.Number (Text t) h = absurd h
 line_again kind.Number (Number n) h = ap (λ (o : Option ℕ). o >>= λ x. Some (Number x)) (number_again n h)
-line_again kind.Number (Flight f) h = absurd h
-line_again kind.Number Absent h = absurd h
-line_again kind.Flight (Text t) h = absurd h
-line_again kind.Flight (Number n) h = absurd h
 line_again kind.Flight (Flight f) h = flight_line_again f h
-line_again kind.Flight Absent h = absurd h
-line_again kind.FlightIfAny (Text t) h = absurd h
-line_again kind.FlightIfAny (Number n) h = absurd h
 line_again kind.FlightIfAny (Flight f) h = if_any (flight_text f) (Flight f) (flight_line_again f h)
 line_again kind.FlightIfAny Absent h = refl
 line_again kind.TextIfAny (Text t) h = text_if_any t h.1
-line_again kind.TextIfAny (Number n) h = absurd h
-line_again kind.TextIfAny (Flight f) h = absurd h
 line_again kind.TextIfAny Absent h = refl
+line_again _ _ h = absurd h
 
 pub line_free : (k : Kind) (g : FieldValue) → Fits k g → free (line_of g) ≡ true
 line_free kind.Text (Text t) h = h
-line_free kind.Text (Number n) h = absurd h
-line_free kind.Text (Flight f) h = absurd h
-line_free kind.Text Absent h = absurd h
-line_free kind.Number (Text t) h = absurd h
 line_free kind.Number (Number n) h = free_decimal n h
-line_free kind.Number (Flight f) h = absurd h
-line_free kind.Number Absent h = absurd h
-line_free kind.Flight (Text t) h = absurd h
-line_free kind.Flight (Number n) h = absurd h
 line_free kind.Flight (Flight f) h = free_flight f h
-line_free kind.Flight Absent h = absurd h
-line_free kind.FlightIfAny (Text t) h = absurd h
-line_free kind.FlightIfAny (Number n) h = absurd h
 line_free kind.FlightIfAny (Flight f) h = free_flight f h
 line_free kind.FlightIfAny Absent h = refl
 line_free kind.TextIfAny (Text t) h = h.0
-line_free kind.TextIfAny (Number n) h = absurd h
-line_free kind.TextIfAny (Flight f) h = absurd h
 line_free kind.TextIfAny Absent h = refl
+line_free _ _ h = absurd h
 
 pub record IsLine (line : List ℕ) (g : FieldValue) : Type 0 where
   pub is_line : line_of g ≡ line
@@ -213,16 +186,13 @@ absent_line g h = subst (IsLine []) (some_is Absent g h) (record { is_line = ref
 
 flight_line : (line : List ℕ) (g : FieldValue) → flight_value line ≡ Some g → IsLine line g
 flight_line line g h =
-    let r = made1 (written_flight_of line) (λ f. Flight f) g h in
-    let t = bound (flight_of line) (λ f. where_true (bytes_eq (flight_text f) line) f) r.a r.is_a in
-    let p = passed (bytes_eq (flight_text t.x) line) t.x r.a t.goes in
-    subst (IsLine line) (ap (λ f. Flight f) p.1 ∙ r.same) (record { is_line = bytes_eq-true (flight_text t.x) line p.0; range = flight_made line t.x t.is_x })
+    reads (λ f e. e) (λ f written h. reads (flight_made line) (λ read range k.
+    let p = passed (bytes_eq (flight_text read) line) read f k in
+    subst (IsLine line) (ap (λ f. Flight f) p.1 ∙ some_is _ g h) (record { is_line = bytes_eq-true (flight_text read) line p.0; range = range })) written) h
 
 number_line : (line : List ℕ) (g : FieldValue) → number_value line ≡ Some g → IsLine line g
 number_line line g h =
-    let r = made1 (number_of line) (λ n. Number n) g h in
-    let n = number_made line r.a r.is_a in
-    subst (IsLine line) r.same (record { is_line = n.is_line; range = n.small })
+    reads (number_made line) (λ _ n h. subst (IsLine line) (some_is _ g h) (record { is_line = n.is_line; range = n.small })) h
 
 flight_line_if_any : (line : List ℕ) (g : FieldValue) → flight_value_if_any line ≡ Some g → IsLine line g
 flight_line_if_any [] g h = absent_line g h

@@ -9,7 +9,7 @@ use Rattle.desk_commands.specs.declared.field_value.FieldValue.TheVariants.{Text
 use Rattle.desk_commands.specs.Command.{flight_if_any, day_if_any, IsFlightDate}
 use Rattle.desk_commands.specs.FieldValue.{flight_date_in, flight_if_any_in}
 use Rattle.desk_commands.proofs.Fields.{IsFlightValues, flight_date_is}
-use Rattle.desk_commands.proofs.Steps.{some_is, made1}
+use Rattle.desk_commands.proofs.Steps.{some_is, reads}
 
 -- the ranges that numbers and flights have by their types
 abbrev pub IsTyped : FieldValue → Type 0
@@ -28,9 +28,8 @@ pub record IsFlightIfAny (a b : FieldValue) (f : Option FlightDate) : Type 0 whe
 
 named : (a b : FieldValue) (f : Option FlightDate) → IsTyped a → (flight_date_in a b >>= λ x. Some (Some x)) ≡ Some f → IsFlightIfAny a b f
 named a b f h e =
-    let r = made1 (flight_date_in a b) (λ (x : FlightDate). Some x) f e in
-    let g = flight_date_is a b r.a r.is_a in
-    subst (IsFlightIfAny a b) r.same (record { in_range = date_range a b r.a h g; flight_is = g.flight_is; date_is = g.date_is })
+    reads (flight_date_is a b) (λ x g e.
+    subst (IsFlightIfAny a b) (some_is _ f e) (record { in_range = date_range a b x h g; flight_is = g.flight_is; date_is = g.date_is })) e
 
 pub flight_if_any_is : (a b : FieldValue) (f : Option FlightDate) → IsTyped a → flight_if_any_in a b ≡ Some f → IsFlightIfAny a b f
 flight_if_any_is Absent Absent f h e =

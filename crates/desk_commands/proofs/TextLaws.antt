@@ -9,11 +9,10 @@ use Rattle.desk_commands.specs.declared.command.Command.{Command}
 use Rattle.desk_commands.specs.declared.verb.Verb.{Verb}
 use Rattle.desk_commands.specs.declared.verb.Field.{Field}
 use Rattle.desk_commands.specs.declared.field_value.FieldValue.{FieldValue}
-use Rattle.desk_commands.specs.declared.field_value.FieldValue.TheVariants.{Absent}
 use Rattle.desk_commands.specs.Command.{verb_of, values_of, command_text, IsCommand, command_of}
 use Rattle.desk_commands.specs.Verb.{kind_of, word, verb_called, row, places}
 use Rattle.desk_commands.specs.FieldValue.{line_of}
-use Rattle.desk_commands.specs.Lines.{is_end, lines_of, lines_left, IsNext, places_of, line_says, places_say, lines_say, lines_command, text_says}
+use Rattle.desk_commands.specs.Lines.{is_end, lines_of, lines_left, IsNext, places_of, places_say, lines_say, lines_command, text_says}
 use Rattle.desk_commands.proofs.EachVerb.{made_again, fits, made_of_list}
 use Rattle.desk_commands.proofs.Fit.{values_in_places, AreFit}
 use Rattle.desk_commands.proofs.Free.{free}
@@ -21,7 +20,7 @@ use Rattle.desk_commands.proofs.Made.{AreTyped}
 use Rattle.desk_commands.proofs.Verbs.{places_are, row_short, values_short, free_word}
 use Rattle.desk_commands.proofs.Words.{called_again, called_is}
 use Rattle.desk_commands.proofs.LineLaws.{line_again, line_free, line_made}
-use Rattle.desk_commands.proofs.Steps.{some_is, passes, passed, go_on, again2, made2, bound}
+use Rattle.desk_commands.proofs.Steps.{some_is, passes, passed, reads}
 
 -- ---- the lines of lines that are joined
 
@@ -48,21 +47,17 @@ lines_joined line (next ∷ lines) h k =
 
 values_free : (fs : List Field) (gs : List FieldValue) → AreFit fs gs → AreFree (map line_of gs)
 values_free [] [] h = tt
-values_free [] (g ∷ gs) h = absurd h
-values_free (f ∷ fs) [] h = absurd h
 values_free (f ∷ fs) (g ∷ gs) h = (line_free (kind_of f) g h.0, values_free fs gs h.1)
+values_free _ _ h = absurd h
 
 -- ---- places and their lines
 
 says_again : (n : ℕ) (fs : List Field) (gs : List FieldValue) → AreFit fs gs → places_say (places_of n fs) (places_of n (map line_of gs)) ≡ Some (values_in_places n gs)
 says_again zero fs gs h = refl
-says_again (suc n) [] [] h =
-    again2 (Some Absent) (places_say (places_of n []) (places_of n [])) (λ (g : FieldValue) (gs : List FieldValue). g ∷ gs) Absent (values_in_places n []) refl (says_again n [] [] tt)
+says_again (suc n) [] [] h = rw (says_again n [] [] tt)
 says_again (suc n) [] (g ∷ gs) h = absurd h
 says_again (suc n) (f ∷ fs) [] h = absurd h
-says_again (suc n) (f ∷ fs) (g ∷ gs) h =
-    again2 (line_says (kind_of f) (line_of g)) (places_say (places_of n fs) (places_of n (map line_of gs))) (λ (g : FieldValue) (gs : List FieldValue). g ∷ gs) g (values_in_places n gs)
-    (line_again (kind_of f) g h.0) (says_again n fs gs h.1)
+says_again (suc n) (f ∷ fs) (g ∷ gs) h = rw (line_again (kind_of f) g h.0, says_again n fs gs h.1)
 
 record AreLines (fs : List Field) (ls : List (List ℕ)) (six : List FieldValue) : Type 0 where
   pub typed : AreTyped six
@@ -74,21 +69,12 @@ says_made zero [] [] six fit short h = subst (AreLines [] []) (some_is {A = List
 says_made zero [] (l ∷ ls) six fit short h = absurd (omega (arith, short))
 says_made zero (f ∷ fs) ls six fit short h = absurd (omega (arith, fit))
 says_made (suc n) [] [] six fit short h =
-    let r = made2 (Some Absent) (places_say (places_of n []) (places_of n [])) (λ (g : FieldValue) (gs : List FieldValue). g ∷ gs) six h in
-    let more = says_made n [] [] r.b (omega arith) (omega arith) r.is_b in
-    let first = some_is {A = FieldValue} Absent r.a r.is_a in
-    subst (AreLines [] []) (ap (λ (g : FieldValue). g ∷ r.b) first ∙ r.same) (record { typed = (tt, more.typed); are_lines = refl })
-says_made (suc n) [] (l ∷ ls) six fit short h =
-    let r = made2 {A = FieldValue} None (places_say (places_of n []) (places_of n ls)) (λ (g : FieldValue) (gs : List FieldValue). g ∷ gs) six h in
-    let bad = r.is_a in cc bad
-says_made (suc n) (f ∷ fs) [] six fit short h =
-    let r = made2 {A = FieldValue} None (places_say (places_of n fs) (places_of n [])) (λ (g : FieldValue) (gs : List FieldValue). g ∷ gs) six h in
-    let bad = r.is_a in cc bad
+    reads (λ more e. says_made n [] [] more (omega arith) (omega arith) e) (λ _ all h.
+    subst (AreLines [] []) (some_is _ six h) (record { typed = (tt, all.typed); are_lines = refl })) h
 says_made (suc n) (f ∷ fs) (l ∷ ls) six fit short h =
-    let r = made2 (line_says (kind_of f) l) (places_say (places_of n fs) (places_of n ls)) (λ (g : FieldValue) (gs : List FieldValue). g ∷ gs) six h in
-    let more = says_made n fs ls r.b (omega (arith, fit)) (omega (arith, short)) r.is_b in
-    let line = line_made (kind_of f) l r.a r.is_a in
-    subst (AreLines (f ∷ fs) (l ∷ ls)) r.same (record { typed = (line.range, more.typed); are_lines = λ i. line.is_line i ∷ more.are_lines i })
+    reads (line_made (kind_of f) l) (λ _ line. reads (λ more e. says_made n fs ls more (omega (arith, fit)) (omega (arith, short)) e) (λ _ more h.
+    subst (AreLines (f ∷ fs) (l ∷ ls)) (some_is _ six h) (record { typed = (line.range, more.typed); are_lines = λ i. line.is_line i ∷ more.are_lines i }))) h
+says_made (suc n) _ _ six fit short h = cc h
 
 -- ---- whole texts
 
@@ -101,10 +87,7 @@ lines_again c h =
     let v = verb_of c in
     let ls = map line_of (values_of c) in
     let short : length ls ≤ 6 = omega (arith, values_short c h, length-lines (values_of c)) in
-    go_on (where_true (nat_le (length ls) 6) (places_of 6 ls)) (lines_say (word v)) (places_of 6 ls) (Some c) (passes (nat_le (length ls) 6) (places_of 6 ls) (le-leb _ _ short))
-    (go_on (verb_called (word v)) (λ u. places_say (places u) (places_of 6 ls) >>= command_of u) v (Some c) (called_again v)
-    (go_on (places_say (places v) (places_of 6 ls)) (command_of v) (values_in_places 6 (values_of c)) (Some c)
-    (ap (λ p. places_say p (places_of 6 ls)) (places_are v) ∙ says_again 6 (row v) (values_of c) (fits c h)) (made_again c h)))
+    rw (passes (nat_le (length ls) 6) (places_of 6 ls) (le-leb _ _ short), called_again v, places_are v, says_again 6 (row v) (values_of c) (fits c h)) (made_again c h)
 
 pub text_again : (c : Command) → IsCommand c → text_says (command_text c) ≡ Some c
 text_again c h =
@@ -126,16 +109,12 @@ by_verb w ls v six c short called said h =
 
 by_word : (w : List ℕ) (ls : List (List ℕ)) (c : Command) → length ls ≤ 6 → lines_say w (places_of 6 ls) ≡ Some c → HasLines c (w ∷ ls)
 by_word w ls c short h =
-    let v = bound (verb_called w) (λ u. places_say (places u) (places_of 6 ls) >>= command_of u) c h in
-    let g = bound (places_say (places v.x) (places_of 6 ls)) (command_of v.x) c v.goes in
-    by_verb w ls v.x g.x c short v.is_x g.is_x g.goes
+    reads (λ v e. e) (λ v called. reads (λ six e. e) (λ six said. by_verb w ls v six c short called said)) h
 
 by_lines : (lines : List (List ℕ)) (c : Command) → lines_command lines ≡ Some c → HasLines c lines
 by_lines [] c h = cc h
 by_lines (w ∷ ls) c h =
-    let t = bound (where_true (nat_le (length ls) 6) (places_of 6 ls)) (lines_say w) c h in
-    let p = passed (nat_le (length ls) 6) (places_of 6 ls) t.x t.is_x in
-    by_word w ls c (leb-true _ _ p.0) (ap (lines_say w) p.1 ∙ t.goes)
+    reads (λ six e. passed (nat_le (length ls) 6) (places_of 6 ls) six e) (λ _ p h. by_word w ls c (leb-true _ _ p.0) (ap (lines_say w) p.1 ∙ h)) h
 
 pub text_made : (text : List ℕ) (c : Command) → text_says text ≡ Some c → IsCommand c × (command_text c ≡ text)
 text_made text c h =
@@ -206,6 +185,4 @@ too_many text word r0 r1 r2 r3 r4 r5 r6 l0 l1 l2 l3 l4 l5 more w n0 n1 n2 n3 n4 
 
 pub lines_read : (word : List ℕ) (lines : List (Option (List ℕ))) (v : Verb) (six : List FieldValue) → Some v ≡ verb_called word → Some six ≡ places_say (places v) lines
     → command_of v six ≡ lines_say word lines
-lines_read word lines v six e f =
-    sym (go_on (verb_called word) (λ u. places_say (places u) lines >>= command_of u) v (command_of v six) (sym e)
-    (go_on (places_say (places v) lines) (command_of v) six (command_of v six) (sym f) refl))
+lines_read word lines v six e f = rw (← e, ← f)

@@ -24,9 +24,8 @@ row_short v = leb-true _ _ (of_every (λ v. nat_le (length (row v)) 6) refl v)
 
 same_length : (fs : List Field) (gs : List FieldValue) → AreFit fs gs → length gs ≡ length fs
 same_length [] [] h = refl
-same_length [] (g ∷ gs) h = absurd h
-same_length (f ∷ fs) [] h = absurd h
 same_length (f ∷ fs) (g ∷ gs) h = ap suc (same_length fs gs h.1)
+same_length _ _ h = absurd h
 
 pub values_short : (c : Command) → IsCommand c → length (values_of c) ≤ 6
 values_short c h = omega (arith, same_length (row (verb_of c)) (values_of c) (fits c h), row_short (verb_of c))

@@ -32,10 +32,9 @@ IsMember d key Absent = get key d ≡ None
 
 abbrev pub AreMembers : Data → List Field → List FieldValue → Type 0
 AreMembers d [] [] = ⊤
-AreMembers d [] (value ∷ values) = ⊥
-AreMembers d (field ∷ fields) [] = ⊥
 AreMembers d (field ∷ fields) (value ∷ values) =
     IsMember d (name field) value × AreMembers d fields values
+AreMembers _ _ _ = ⊥
 
 -- the body is an object with exactly the keys of the verb's fields, with the command's values
 pub record IsBodyOf (verb : Verb) (d : Data) (command : Command) : Type 0 where

@@ -179,21 +179,8 @@ fields_text values = join_with_byte 10 (map line_of values)
 abbrev pub text_of : Verb → List FieldValue → List ℕ
 text_of verb values = join_with_byte 10 (word verb ∷ map line_of values)
 
-abbrev pub order_text : Order → List ℕ
-order_text order = text_of (order_verb order) (order_values order)
-
-abbrev pub desk_text : DeskCommand → List ℕ
-desk_text command = text_of (desk_verb command) (desk_values command)
-
 abbrev pub command_text : Command → List ℕ
 command_text command = text_of (verb_of command) (values_of command)
-
--- a function that writes the text of an order or of a cargo command, whose fields are in range
-abbrev pub WritesOrder : {E : Type 0} → Result (String Global) E → Order → Type 0
-WritesOrder result order = Writes result (order_text order) × IsOrder order
-
-abbrev pub WritesDesk : {E : Type 0} → Result (String Global) E → DeskCommand → Type 0
-WritesDesk result command = Writes result (desk_text command) × IsDeskCommand command
 
 -- ---- commands from fields
 

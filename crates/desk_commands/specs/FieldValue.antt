@@ -26,30 +26,22 @@ line_of (Flight f) = flight_text f
 line_of Absent = []
 
 abbrev pub is_present : FieldValue → Bool
-is_present (Text text) = true
-is_present (Number n) = true
-is_present (Flight f) = true
 is_present Absent = false
+is_present _ = true
 
 -- ---- the meaning of one field
 
 abbrev pub text_in : FieldValue → Option (List ℕ)
 text_in (Text text) = Some text
-text_in (Number n) = None
-text_in (Flight f) = None
-text_in Absent = None
+text_in _ = None
 
 abbrev pub number_in : FieldValue → Option ℕ
-number_in (Text text) = None
 number_in (Number n) = Some n
-number_in (Flight f) = None
-number_in Absent = None
+number_in _ = None
 
 abbrev pub flight_in : FieldValue → Option Designator
-flight_in (Text text) = None
-flight_in (Number n) = None
 flight_in (Flight f) = Some f
-flight_in Absent = None
+flight_in _ = None
 
 -- exactly `width` digits
 abbrev pub digits_of : ℕ → List ℕ → Option ℕ

@@ -61,9 +61,8 @@ line_says kind.TextIfAny line = text_value_if_any line
 -- the value of a place, if field and line are both present or both absent
 abbrev pub place_says : Option Field → Option (List ℕ) → Option FieldValue
 place_says None None = Some Absent
-place_says None (Some line) = None
-place_says (Some field) None = None
 place_says (Some field) (Some line) = line_says (kind_of field) line
+place_says _ _ = None
 
 -- the values of six places, and the command of the verb before them
 abbrev pub places_say : List (Option Field) → List (Option (List ℕ)) → Option (List FieldValue)

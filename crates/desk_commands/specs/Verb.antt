@@ -78,25 +78,15 @@ name field.Airline = codes "airline"
 name field.Upto = codes "upto"
 
 abbrev pub kind_of : Field → Kind
-kind_of field.Prefix = kind.Text
-kind_of field.Serial = kind.Text
 kind_of field.Count = kind.Number
-kind_of field.Agent = kind.Text
-kind_of field.Awb = kind.Text
-kind_of field.Origin = kind.Text
-kind_of field.Destination = kind.Text
 kind_of field.Pieces = kind.Number
 kind_of field.Tenths = kind.Number
-kind_of field.Goods = kind.Text
-kind_of field.Name = kind.Text
 kind_of field.Flight = kind.Flight
-kind_of field.Date = kind.Text
 kind_of field.FlightIfAny = kind.FlightIfAny
 kind_of field.DateIfAny = kind.TextIfAny
-kind_of field.Unload = kind.Text
 kind_of field.Counted = kind.Number
-kind_of field.Airline = kind.Text
 kind_of field.Upto = kind.Number
+kind_of _ = kind.Text
 
 -- the row as six places, of which the last may be empty
 abbrev pub places : Verb → List (Option Field)

@@ -14,7 +14,7 @@ use imp_fields::Flight;
 use serde_json::Value;
 
 /// A JSON body that isn't a command of the verb.
-#[derive(Clone, Copy, Debug, PartialEq, Eq)]
+#[derive(Clone, Copy)]
 pub struct BadBody;
 
 /// Reads the command of a verb from a JSON body: an object with exactly the keys of the verb's

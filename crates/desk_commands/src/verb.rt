@@ -170,7 +170,7 @@ fn is_word(verb: Verb, text: &[u8]) -> bool
 }
 
 /// A field of a command.
-#[derive(Clone, Copy, Debug, PartialEq, Eq)]
+#[derive(Clone, Copy, PartialEq, Eq)]
 pub enum Field {
     Prefix,
     Serial,
@@ -196,7 +196,7 @@ pub enum Field {
 }
 
 /// The kind of a field's value.
-#[derive(Clone, Copy, Debug, PartialEq, Eq)]
+#[derive(Clone, Copy)]
 pub(crate) enum Kind {
     Text,
     Number,
@@ -241,17 +241,7 @@ impl Field {
             Field::Flight => Kind::Flight,
             Field::FlightIfAny => Kind::FlightIfAny,
             Field::DateIfAny => Kind::TextIfAny,
-            Field::Prefix
-            | Field::Serial
-            | Field::Agent
-            | Field::Awb
-            | Field::Origin
-            | Field::Destination
-            | Field::Goods
-            | Field::Name
-            | Field::Date
-            | Field::Unload
-            | Field::Airline => Kind::Text,
+            _ => Kind::Text,
         }
     }
 }

@@ -1,1 +1,2 @@
 mod Serving
+mod Instants

@@ -29,7 +29,7 @@ const CHUNK: usize = 4096;
 const MOST_LEFT: u32 = 64;
 
 /// The state of a connection after a read.
-#[derive(Clone, Copy, PartialEq, Eq)]
+#[derive(Clone, Copy)]
 pub(crate) enum Arrival {
     /// More may come.
     Open,

@@ -5,5 +5,7 @@ mod connections;
 mod held;
 mod paced;
 mod server;
+mod zone;
 
 pub use server::{ServerFault, Setting, listen, serve};
+pub use zone::{Zone, moment_now, moment_of};

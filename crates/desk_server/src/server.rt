@@ -5,7 +5,7 @@ ghost use Rattle.desk_server.specs.Served.{AtMost, End, GoesOn, HasExplained, Ha
 use crate::connections::Connections;
 use crate::held::{Arrival, Held};
 use crate::paced::Paced;
-use desk_clock::{Zone, moment_now};
+use crate::zone::{Zone, moment_now};
 use http_desk::{ServeFault, Served, refusal_line, serve_one};
 use input_reasons::tell_reason;
 use station_core::{ByteOut, Counted, Keeper};
@@ -16,7 +16,7 @@ use std::net::{Ipv4Addr, Net, SocketAddr, TcpListener};
 use std::time::{Clock, Duration};
 
 /// The cause of an early end of the service.
-#[derive(Clone, Copy, Debug, PartialEq, Eq)]
+#[derive(Clone, Copy, Debug)]
 pub enum ServerFault {
     /// The listening socket failed, or the system can't wait for connections.
     Listener,
@@ -44,7 +44,7 @@ pub struct Setting<'a, C: Clock> {
 }
 
 /// The next step of a connection from which something came.
-#[derive(Clone, Copy, PartialEq, Eq)]
+#[derive(Clone, Copy)]
 enum Next {
     /// More of its request is waited for.
     Waits,

@@ -8,7 +8,7 @@ use imp_fields::{Airport, Flight, PartNumber, Why, cut_at_slash, first_field};
 use station_days::{DayMonth, DayTime};
 
 /// The values of a flight line.
-#[derive(Clone, Copy, Debug)]
+#[derive(Clone, Copy, PartialEq, Eq)]
 pub(crate) struct Part {
     pub(crate) sequence: PartNumber,
     pub(crate) flight: Flight,

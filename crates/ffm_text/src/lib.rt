@@ -14,20 +14,21 @@ mod writing;
 
 use awb_number::Awb;
 use imp_fields::{Airport, BookTenths, Consignment, Flight, Goods, PartNumber, Pieces};
+pub use point::unloading_point;
 pub use reading::read;
 use station_days::DayMonth;
 pub use writing::write_ffm;
 
 /// A consignment line of a manifest, with its point of unloading. The source of the line's tokens
 /// is that line.
-#[derive(Clone, Copy, Debug)]
+#[derive(Clone, Copy)]
 pub struct FfmLine<'a> {
     pub unload: Airport,
     pub consignment: Consignment<'a>,
 }
 
 /// A part of a flight's manifest.
-#[derive(Debug, Drop)]
+#[derive(Drop)]
 pub struct Ffm<'a> {
     pub sequence: PartNumber,
     pub flight: Flight,
@@ -39,7 +40,7 @@ pub struct Ffm<'a> {
 }
 
 /// A waybill's load in a manifest to be sent.
-#[derive(Clone, Copy, Debug)]
+#[derive(Clone, Copy)]
 pub struct Load {
     pub awb: Awb,
     pub origin: Airport,

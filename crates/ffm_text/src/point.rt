@@ -49,7 +49,7 @@ fn may_follow_point(rest: &[u8]) -> bool
 }
 
 /// Returns the point of unloading in a line, if it is one.
-pub(crate) fn unloading_point(line: &[u8]) -> Option<Airport>
+pub fn unloading_point(line: &[u8]) -> Option<Airport>
     ensures { result ≡ unloading_point line.now }
 {
     let (letters, rest) = line.split_at_checked(3)?;

@@ -82,7 +82,7 @@ impl Calls {
 }
 
 /// The file that fails.
-#[derive(Clone, Copy, Debug, PartialEq, Eq)]
+#[derive(Clone, Copy, Debug)]
 pub enum FailingFile {
     Log,
     Database,

@@ -45,7 +45,7 @@ impl Run {
 }
 
 /// The outcome of an input.
-#[derive(Clone, Copy, Debug, PartialEq, Eq)]
+#[derive(Clone, Copy)]
 pub enum Told {
     /// It was accepted.
     Accepted,

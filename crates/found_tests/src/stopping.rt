@@ -15,7 +15,7 @@ pub struct Before {
 }
 
 /// The progress of an attempt.
-#[derive(Clone, Copy, Debug, PartialEq, Eq)]
+#[derive(Clone, Copy, Debug)]
 enum Attempt {
     /// The files couldn't be opened, or their station couldn't be read.
     NotBegun,
@@ -36,7 +36,7 @@ struct Ended {
 }
 
 /// The remains of an attempt.
-#[derive(Clone, Copy, Debug, PartialEq, Eq)]
+#[derive(Clone, Copy, Debug)]
 enum Remains {
     Before,
     After,

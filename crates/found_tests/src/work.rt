@@ -14,7 +14,7 @@ use telegrams::read_telegram;
 use test_kit::{Job, answer_said, keyed, say, shown};
 
 /// The form in which a case writes an input.
-#[derive(Clone, Copy, Debug, PartialEq, Eq)]
+#[derive(Clone, Copy)]
 pub enum InputForm {
     /// A key, a space, and the text of a command.
     Command,

@@ -158,6 +158,3 @@ tells_nothing line code rest rcf dis cut h c is_rcf r is_dis d =
     let not_rcf : bytes_eq (codes "RCF") code ≡ false = other_way code (codes "RCF") (ap (bytes_eq code) (sym is_rcf) ∙ r) in
     let not_dis : bytes_eq (codes "DIS") code ≡ false = other_way code (codes "DIS") (ap (bytes_eq code) (sym is_dis) ∙ d) in
     ap status_by cut ∙ by_differs code (fields rest) h c not_rcf ∙ differs_other code (fields rest) not_dis
-
-pub tells_no_field : (line : List ℕ) → fields line ≡ line ∷ [] → status_of line ≡ None
-tells_no_field line cut = ap status_by cut

@@ -8,7 +8,7 @@ use imp_fields::Consignment;
 /// A status update message: its consignment line, and at least one line after it. The source of the
 /// consignment's tokens is its line; that of a status line's token is the telegram. Each line of
 /// the trail has at most 255 bytes of printable ASCII.
-#[derive(Debug, Drop)]
+#[derive(Drop)]
 pub struct Fsu<'a> {
     pub consignment: Consignment<'a>,
     pub trail: Vec<StatusLine<'a>>,

@@ -7,7 +7,7 @@ use imp_fields::{Airport, BookTenths, Discrepancy, Flight, Name, Pieces, Waybill
 use station_days::{DayMonth, DayTime};
 
 /// An event of goods and a flight that leaves here.
-#[derive(Clone, Copy, Debug, PartialEq, Eq)]
+#[derive(Clone, Copy)]
 pub enum SentCarriage {
     /// MAN, manifested.
     Manifested,
@@ -16,7 +16,7 @@ pub enum SentCarriage {
 }
 
 /// A status to be sent.
-#[derive(Clone, Copy, Debug)]
+#[derive(Clone, Copy)]
 pub enum SentStatus {
     /// RCS, NFD or DLV, with its moment. An empty name isn't written.
     Handled {
@@ -46,7 +46,7 @@ pub enum SentStatus {
 
 /// A status update of a waybill: the status, the airport that sends it, the pieces and their
 /// weight.
-#[derive(Clone, Copy, Debug)]
+#[derive(Clone, Copy)]
 pub struct SentUpdate {
     pub of: WaybillSummary,
     pub status: SentStatus,

@@ -8,7 +8,7 @@ use station_days::{DayMonth, DayTime};
 use std::marker::Model;
 
 /// An event of goods at a station.
-#[derive(Clone, Copy, Debug, PartialEq, Eq)]
+#[derive(Clone, Copy, Debug)]
 pub enum Handling {
     /// RCS, received from the shipper or an agent.
     ReceivedFromShipper,
@@ -19,7 +19,7 @@ pub enum Handling {
 }
 
 /// An event of goods and a flight.
-#[derive(Clone, Copy, Debug, PartialEq, Eq)]
+#[derive(Clone, Copy, Debug)]
 pub enum Carriage {
     /// BKD, booked.
     Booked,
@@ -30,7 +30,7 @@ pub enum Carriage {
 }
 
 /// A date without its year, with an optional minute.
-#[derive(Clone, Copy, Debug, PartialEq, Eq)]
+#[derive(Clone, Copy, Debug)]
 pub struct FlightDay {
     pub date: DayMonth,
     pub minute: Option<u16>,
@@ -47,7 +47,7 @@ impl Model for FlightDay {
 }
 
 /// A status line of a known layout.
-#[derive(Clone, Copy, Debug, PartialEq, Eq)]
+#[derive(Clone, Copy, Debug)]
 pub enum Status {
     /// RCS, NFD or DLV. An absent name is empty.
     Handled {
@@ -84,7 +84,7 @@ pub enum Status {
 }
 
 /// A line after the consignment line, unchanged, and read if its layout is known.
-#[derive(Clone, Copy, Debug)]
+#[derive(Clone, Copy)]
 pub struct StatusLine<'a> {
     pub text: Token<'a>,
     pub status: Option<Status>,

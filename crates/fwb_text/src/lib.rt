@@ -12,7 +12,7 @@ use imp_fields::Consignment;
 pub use reading::read;
 
 /// A waybill data message: its consignment line. The source of the line's tokens is that line.
-#[derive(Clone, Copy, Debug)]
+#[derive(Clone, Copy)]
 pub struct Fwb<'a> {
     pub consignment: Consignment<'a>,
 }

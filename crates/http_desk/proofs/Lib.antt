@@ -11,8 +11,9 @@ mod FieldLaws
 mod Heads
 mod Joining
 mod NoVerb
-mod Pages
+pub mod Segments
 mod Paths
+pub mod Printed
 mod Reporting
 mod Wanting
 mod WholeWaybill

@@ -1,68 +1,47 @@
 -- Which paths lead where.
-use Rattle.std.proofs.Common.{arith, ◌≡◌, ◌∙◌, ap, sym, subst, refl, inl, inr, ℕ, Bool, true, false, cond, Option, Some, None, List, ◌∷◌, ◌++◌, codes}
-use Rattle.std.specs.Prelude.{◌↔◌, ◌&&◌, not, nat_lt, length, option_map, option_and_then}
-use Rattle.std.proofs.lemmas.Bool.{and_parts, ltb-true, not-true}
-use Rattle.matchit.specs.Seek.{has_slash}
+use Rattle.std.proofs.Common.{arith, ◌≡◌, ◌∙◌, ap, sym, subst, refl, inl, inr, ℕ, suc, ◌+◌, Bool, true, false, cond, Option, Some, None, List, [], ◌∷◌, ◌++◌, length, take, codes}
+use Rattle.std.specs.Prelude.{◌↔◌, ◌&&◌, ◌==◌, not, nat_lt, if◌then◌else◌, option_map}
+use Rattle.std.specs.List.{list_all, position_or_len}
 use Rattle.std.specs.Str.{bytes_eq}
+use Rattle.std.proofs.Math.Seq.{take-length, take-append_seam}
+use Rattle.std.proofs.lemmas.Bool.{and_parts, ltb-true, lt-ltb}
 use Rattle.imp_fields.proofs.SameFlight.{bytes_eq-true}
 use Rattle.desk_commands.specs.declared.verb.Verb.{Verb}
 use Rattle.desk_commands.specs.Verb.{word, verb_called}
 use Rattle.desk_commands.proofs.Words.{called_again, called_is, of_every}
-use Rattle.http_desk.specs.declared.route.Page.{Page}
-use Rattle.http_desk.specs.declared.route.Page.TheVariants as page
-use Rattle.reports.specs.declared.report.Report.{Report}
-use Rattle.reports.specs.declared.report.Report.TheVariants as report
 use Rattle.http_desk.specs.declared.printout.Printout.{Printout}
-use Rattle.http_desk.specs.Printouts.{as_text, printout_at}
-use Rattle.http_desk.specs.Routes.{desk_rows, page_of, posted_command, posted_check, posted_telegram, posted_look, got_waybill, got_holder, got_report, Place, posts, gets, place_at, routed, asked_place, place_of}
-use Rattle.reports.specs.Reports.{report_called}
-use Rattle.http_desk.specs.Paths.{IsPath, IsName, report_path, LeadsToPlace, LeadsTo}
-use Rattle.http_desk.proofs.Pages.{LeadsToPage, page_leads, page_only, path_is, path_behind}
+use Rattle.http_desk.specs.Paths.{is_path_byte, IsPath, IsName, IsPage, LeadsToPage, LeadsTo, segments}
+use Rattle.http_desk.specs.Printouts.{printout_at}
+use Rattle.http_desk.specs.Routes.{posted_command, posted_check, posted_telegram, posted_look, got_waybill, got_holder, got_report, Place, posts, gets, page_at, page_named, page_word, path_of, asked_place, place_of}
+use Rattle.http_desk.specs.Segments.{has_slash, path_text}
+use Rattle.http_desk.proofs.Segments.{at_two, found, IsFound}
 
--- there, by the page of a path
-at_page : (path : List ℕ) (value : Page) (place : Place) → IsPath path → LeadsToPage path value → place_at path value ≡ Some place → routed path ≡ Some place
-at_page path value place all leads is = ap (option_and_then (place_at path)) (page_leads path value all leads) ∙ is
+-- The page of a path.
 
--- a word is a byte or more, and has no slash
-word_name : (v : Verb) → IsName (word v)
-word_name v =
-    let both = and_parts _ _ (of_every (λ v. nat_lt 0 (length (word v)) && not (has_slash (word v))) refl v) in
-    (ltb-true _ _ both.0, not-true _ both.1)
+word_plain : (v : Verb) → has_slash (word v) ≡ false
+word_plain v = not_is (has_slash (word v)) (of_every (λ v. not (has_slash (word v))) refl v)
+  where
+    not_is : (b : Bool) → not b ≡ true → b ≡ false
+    not_is true e = cc e
+    not_is false e = refl
 
-act_at : (v : Verb) → place_at (codes "/v1/act/" ++ word v) page.Act ≡ Some (posts (posted_command v))
-act_at v = ap (option_map (λ verb. posts (posted_command verb))) (called_again v)
+pub page_there : (place : Place) → IsPage place → page_at (path_text (segments place)) ≡ Some place
+page_there (posts (posted_command v)) is =
+    at_two page_word page_named (λ _ _ _. None) (codes "act") (word v) refl (word_plain v) ∙ ap (option_map (λ verb. posts (posted_command verb))) (called_again v)
+page_there (posts (posted_check v)) is =
+    at_two page_word page_named (λ _ _ _. None) (codes "check") (word v) refl (word_plain v) ∙ ap (option_map (λ verb. posts (posted_check verb))) (called_again v)
+page_there (posts posted_telegram) is = refl
+page_there (posts posted_look) is = refl
+page_there (gets (got_waybill name)) (some, plain) =
+    at_two page_word page_named (λ _ _ _. None) (codes "waybills") name refl plain
+    ∙ ap (λ (v : Bool). if v then Some (gets (got_waybill name)) else None) (lt-ltb 0 (length name) some)
+page_there (gets (got_holder name)) (some, plain) =
+    at_two page_word page_named (λ _ _ _. None) (codes "stock") name refl plain
+    ∙ ap (λ (v : Bool). if v then Some (gets (got_holder name)) else None) (lt-ltb 0 (length name) some)
+page_there (gets (got_report p)) is = absurd is
 
-check_at : (v : Verb) → place_at (codes "/v1/check/" ++ word v) page.Check ≡ Some (posts (posted_check v))
-check_at v = ap (option_map (λ verb. posts (posted_check verb))) (called_again v)
-
-abbrev IsThere : Place → List ℕ → Type 0
-IsThere place path = IsPath path → routed path ≡ Some place
-
-report_there : (name : Report) → IsThere (gets (got_report (as_text name))) (report_path name)
-report_there report.Stock all = at_page _ page.Report _ all (codes "stock", (omega arith, refl), refl) refl
-report_there report.Shed all = at_page _ page.Report _ all (codes "shed", (omega arith, refl), refl) refl
-report_there report.Flights all = at_page _ page.Report _ all (codes "flights", (omega arith, refl), refl) refl
-report_there report.Expected all = at_page _ page.Report _ all (codes "expected", (omega arith, refl), refl) refl
-report_there report.Irregularities all = at_page _ page.Report _ all (codes "irregularities", (omega arith, refl), refl) refl
-report_there report.Movements all = at_page _ page.Report _ all (codes "movements", (omega arith, refl), refl) refl
-report_there report.Trail all = at_page _ page.Report _ all (codes "trail", (omega arith, refl), refl) refl
-report_there report.Pending all = at_page _ page.Outbox _ all refl refl
-report_there report.Sent all = at_page _ page.Report _ all (codes "sent", (omega arith, refl), refl) refl
-report_there report.Station all = at_page _ page.Report _ all (codes "station", (omega arith, refl), refl) refl
-
-there : (path : List ℕ) (place : Place) → IsPath path → LeadsToPlace path place → routed path ≡ Some place
-there path (posts (posted_command v)) all e =
-    subst (IsThere (posts (posted_command v))) (sym e) (λ all. at_page (codes "/v1/act/" ++ word v) page.Act (posts (posted_command v)) all (word v, word_name v, refl) (act_at v)) all
-there path (posts (posted_check v)) all e =
-    subst (IsThere (posts (posted_check v))) (sym e) (λ all. at_page (codes "/v1/check/" ++ word v) page.Check (posts (posted_check v)) all (word v, word_name v, refl) (check_at v)) all
-there path (posts posted_telegram) all e = at_page path page.Telegrams (posts posted_telegram) all e refl
-there path (posts posted_look) all e = at_page path page.Look (posts posted_look) all e refl
-there path (gets (got_waybill name)) all (is, e) =
-    subst (IsThere (gets (got_waybill name))) (sym e) (λ all. at_page (codes "/v1/waybills/" ++ name) page.Waybill (gets (got_waybill name)) all (name, is, refl) refl) all
-there path (gets (got_holder name)) all (is, e) =
-    subst (IsThere (gets (got_holder name))) (sym e) (λ all. at_page (codes "/v1/stock/" ++ name) page.Stock (gets (got_holder name)) all (name, is, refl) refl) all
-there path (gets (got_report p)) all (name, is, e) =
-    subst (λ (q : Printout). routed path ≡ Some (gets (got_report q))) (sym is) (subst (IsThere (gets (got_report (as_text name)))) (sym e) (report_there name) all)
+there : (path : List ℕ) (place : Place) → LeadsToPage path place → page_at path ≡ Some place
+there path place (is, e) = ap page_at e ∙ page_there place is
 
 -- Only those.
 
@@ -72,95 +51,103 @@ some_is x y e = cc e
 no_some : {A : Type 0} (y : A) → ◌≡◌ {A = Option A} None (Some y) → ⊥
 no_some y e = cc e
 
-then_some : {A B : Type 0} (f : A → Option B) (o : Option A) (y : B) → option_and_then f o ≡ Some y → (x : A) × (o ≡ Some x) × (f x ≡ Some y)
-then_some f None y e = absurd (no_some y e)
-then_some f (Some x) y e = (x, refl, e)
-
 map_some : {A B : Type 0} (f : A → B) (o : Option A) (y : B) → option_map f o ≡ Some y → (x : A) × (o ≡ Some x) × (f x ≡ y)
 map_some f None y e = absurd (no_some y e)
 map_some f (Some x) y e = (x, refl, some_is (f x) y e)
 
-act_only : (name : List ℕ) (place : Place) → place_at (codes "/v1/act/" ++ name) page.Act ≡ Some place → LeadsToPlace (codes "/v1/act/" ++ name) place
-act_only name place e =
-    let told = map_some (λ verb. posts (posted_command verb)) (verb_called name) place e in
-    subst (LeadsToPlace (codes "/v1/act/" ++ name)) told.2 (ap (λ w. codes "/v1/act/" ++ w) (sym (called_is name told.0 told.1)))
+-- a test that holds, or the next one
+module _ (place : Place) (P : Type 0) where
+  either : (v : Bool) (here rest : Option Place) → (v ≡ true → here ≡ Some place → P) → (rest ≡ Some place → P) → (if v then here else rest) ≡ Some place → P
+  either true here rest holds next e = holds refl e
+  either false here rest holds next e = next e
 
-check_only : (name : List ℕ) (place : Place) → place_at (codes "/v1/check/" ++ name) page.Check ≡ Some place → LeadsToPlace (codes "/v1/check/" ++ name) place
-check_only name place e =
-    let told = map_some (λ verb. posts (posted_check verb)) (verb_called name) place e in
-    subst (LeadsToPlace (codes "/v1/check/" ++ name)) told.2 (ap (λ w. codes "/v1/check/" ++ w) (sym (called_is name told.0 told.1)))
+word_only : (a : List ℕ) (place : Place) → page_word a ≡ Some place → LeadsToPage (path_text (a ∷ [])) place
+word_only a place =
+    let at : (text : List ℕ) (page : Place) → IsPage page → segments page ≡ text ∷ [] → bytes_eq a text ≡ true → Some page ≡ Some place → LeadsToPage (path_text (a ∷ [])) place =
+    λ text page is of same e. subst (LeadsToPage (path_text (a ∷ []))) (some_is page place e) (is, ap (λ (t : List ℕ). path_text (t ∷ [])) (bytes_eq-true a text same) ∙ ap path_text (sym of)) in
+    either place (LeadsToPage (path_text (a ∷ [])) place) (bytes_eq a (codes "telegrams")) _ _ (at (codes "telegrams") (posts posted_telegram) tt refl)
+    (either place (LeadsToPage (path_text (a ∷ [])) place) (bytes_eq a (codes "read")) _ None (at (codes "read") (posts posted_look) tt refl) (λ e. absurd (no_some place e)))
 
--- a report by its name
-abbrev IsCalled : List ℕ → Report → Type 0
-IsCalled name r = codes "/v1/reports/" ++ name ≡ report_path r
+named_only : (a b : List ℕ) (place : Place) → has_slash b ≡ false → page_named a b ≡ Some place → LeadsToPage (path_text (a ∷ b ∷ [])) place
+named_only a b place plain =
+    let Goal : Type 0 = LeadsToPage (path_text (a ∷ b ∷ [])) place in
+    let at : (kind name : List ℕ) (page : Place) → IsPage page → segments page ≡ kind ∷ name ∷ [] → bytes_eq a kind ≡ true → b ≡ name → page ≡ place → Goal =
+    λ kind name page is of same named e. subst (LeadsToPage (path_text (a ∷ b ∷ []))) e
+    (is, ap (λ (t : List ℕ). path_text (t ∷ b ∷ [])) (bytes_eq-true a kind same) ∙ ap (λ (t : List ℕ). path_text (kind ∷ t ∷ [])) named ∙ ap path_text (sym of)) in
+    let verb : (kind : List ℕ) (page : Verb → Place) → ((v : Verb) → IsPage (page v)) → ((v : Verb) → segments (page v) ≡ kind ∷ word v ∷ []) → bytes_eq a kind ≡ true → option_map page (verb_called b) ≡ Some place → Goal =
+    λ kind page is of same e. let told = map_some page (verb_called b) place e in
+    at kind (word told.0) (page told.0) (is told.0) (of told.0) same (sym (called_is b told.0 told.1)) told.2 in
+    let name : (kind : List ℕ) (page : List ℕ → Place) → (IsName b → IsPage (page b)) → segments (page b) ≡ kind ∷ b ∷ [] → (bytes_eq a kind && nat_lt 0 (length b)) ≡ true → Some (page b) ≡ Some place → Goal =
+    λ kind page is of both e. let tests = and_parts (bytes_eq a kind) (nat_lt 0 (length b)) both in
+    at kind b (page b) (is (ltb-true 0 (length b) tests.1, plain)) of tests.0 refl (some_is (page b) place e) in
+    either place Goal (bytes_eq a (codes "act")) _ _ (verb (codes "act") (λ v. posts (posted_command v)) (λ v. tt) (λ v. refl))
+    (either place Goal (bytes_eq a (codes "check")) _ _ (verb (codes "check") (λ v. posts (posted_check v)) (λ v. tt) (λ v. refl))
+    (either place Goal (bytes_eq a (codes "waybills") && nat_lt 0 (length b)) _ _ (name (codes "waybills") (λ n. gets (got_waybill n)) (λ is. is) refl)
+    (either place Goal (bytes_eq a (codes "stock") && nat_lt 0 (length b)) _ None (name (codes "stock") (λ n. gets (got_holder n)) (λ is. is) refl)
+    (λ e. absurd (no_some place e)))))
 
-called_at : (name text : List ℕ) (r : Report) (rest : Option Report) (v : Bool) → bytes_eq name text ≡ v → codes "/v1/reports/" ++ text ≡ report_path r → (found : Report) → (rest ≡ Some found → IsCalled name found)
-    → cond v (Some r) rest ≡ Some found → IsCalled name found
-called_at name text r rest true same path found more e =
-    ap (λ n. codes "/v1/reports/" ++ n) (bytes_eq-true name text same) ∙ path ∙ ap report_path (some_is r found e)
-called_at name text r rest false same path found more e = more e
+only_there : (path : List ℕ) (place : Place) → page_at path ≡ Some place → LeadsToPage path place
+only_there path place e = of (found page_word page_named path place e)
+  where
+    of : IsFound page_word page_named path place → LeadsToPage path place
+    of (inl (a, is, at)) = subst (λ (p : List ℕ). LeadsToPage p place) (sym is) (word_only a place at)
+    of (inr (a, b, is, plain, at)) = subst (λ (p : List ℕ). LeadsToPage p place) (sym is) (named_only a b place plain at)
 
-called_only : (name : List ℕ) (found : Report) → report_called name ≡ Some found → IsCalled name found
-called_only name found e =
-    called_at name (codes "stock") report.Stock _ (bytes_eq name (codes "stock")) refl refl found
-    (called_at name (codes "shed") report.Shed _ (bytes_eq name (codes "shed")) refl refl found
-    (called_at name (codes "flights") report.Flights _ (bytes_eq name (codes "flights")) refl refl found
-    (called_at name (codes "expected") report.Expected _ (bytes_eq name (codes "expected")) refl refl found
-    (called_at name (codes "irregularities") report.Irregularities _ (bytes_eq name (codes "irregularities")) refl refl found
-    (called_at name (codes "movements") report.Movements _ (bytes_eq name (codes "movements")) refl refl found
-    (called_at name (codes "trail") report.Trail _ (bytes_eq name (codes "trail")) refl refl found
-    (called_at name (codes "sent") report.Sent _ (bytes_eq name (codes "sent")) refl refl found
-    (called_at name (codes "station") report.Station None (bytes_eq name (codes "station")) refl refl found (λ none. absurd (no_some found none))))))))))
-    e
+-- A query after a question mark isn't part of the path.
 
-report_only : (name : List ℕ) (place : Place) → place_at (codes "/v1/reports/" ++ name) page.Report ≡ Some place → LeadsToPlace (codes "/v1/reports/" ++ name) place
-report_only name place e =
-    let told = map_some (λ (r : Report). gets (got_report (as_text r))) (report_called name) place e in
-    subst (LeadsToPlace (codes "/v1/reports/" ++ name)) told.2 (told.0, refl, called_only name told.0 told.1)
+no_mark : (b : ℕ) → is_path_byte b ≡ true → not (b == 63) ≡ true
+no_mark b h = (and_parts (nat_lt b 256) (not (b == 63)) h).1
 
-of_page : (path : List ℕ) (value : Page) (place : Place) → LeadsToPage path value → place_at path value ≡ Some place → LeadsToPlace path place
-of_page path page.Act place (name, is, e) at = subst (λ p. place_at p page.Act ≡ Some place → LeadsToPlace p place) (sym e) (act_only name place) at
-of_page path page.Check place (name, is, e) at = subst (λ p. place_at p page.Check ≡ Some place → LeadsToPlace p place) (sym e) (check_only name place) at
-of_page path page.Telegrams place e at = subst (LeadsToPlace path) (some_is (posts posted_telegram) place at) e
-of_page path page.Look place e at = subst (LeadsToPlace path) (some_is (posts posted_look) place at) e
-of_page path page.Waybill place (name, is, e) at =
-    subst (λ p. place_at p page.Waybill ≡ Some place → LeadsToPlace p place) (sym e) (λ at. subst (LeadsToPlace (codes "/v1/waybills/" ++ name)) (some_is (gets (got_waybill name)) place at) (is, refl)) at
-of_page path page.Stock place (name, is, e) at =
-    subst (λ p. place_at p page.Stock ≡ Some place → LeadsToPlace p place) (sym e) (λ at. subst (LeadsToPlace (codes "/v1/stock/" ++ name)) (some_is (gets (got_holder name)) place at) (is, refl)) at
-of_page path page.Outbox place e at = subst (LeadsToPlace path) (some_is (gets (got_report (as_text report.Pending))) place at) (report.Pending, refl, e)
-of_page path page.Report place (name, is, e) at = subst (λ p. place_at p page.Report ≡ Some place → LeadsToPlace p place) (sym e) (report_only name place) at
+suc_is : (n m : ℕ) → n ≡ m → 1 + n ≡ suc m
+suc_is n m e = omega (arith, e)
 
-only_there : (path : List ℕ) (place : Place) → IsPath path → routed path ≡ Some place → LeadsToPlace path place
-only_there path place all e =
-    let told = then_some (place_at path) (page_of desk_rows path) place e in
-    of_page path told.0 place (page_only path told.0 all told.1) told.2
+mark_is : (path query : List ℕ) → IsPath path → position_or_len (λ b. b == 63) (path ++ 63 ∷ query) ≡ length path
+mark_is [] query all = refl
+mark_is (b ∷ bs) query all =
+    let parts = and_parts (is_path_byte b) (list_all is_path_byte bs) all in
+    ap (λ (t : Bool). cond t (1 + position_or_len (λ b. b == 63) (bs ++ 63 ∷ query)) 0) (no_mark b parts.0)
+    ∙ suc_is _ (length bs) (mark_is bs query parts.1)
+
+no_mark_is : (path : List ℕ) → IsPath path → position_or_len (λ b. b == 63) path ≡ length path
+no_mark_is [] all = refl
+no_mark_is (b ∷ bs) all =
+    let parts = and_parts (is_path_byte b) (list_all is_path_byte bs) all in
+    ap (λ (t : Bool). cond t (1 + position_or_len (λ b. b == 63) bs) 0) (no_mark b parts.0)
+    ∙ suc_is _ (length bs) (no_mark_is bs parts.1)
+
+path_is : (path : List ℕ) → IsPath path → path_of path ≡ path
+path_is path all = ap (λ n. take n path) (no_mark_is path all) ∙ take-length path
+
+path_before : (path query : List ℕ) → IsPath path → path_of (path ++ 63 ∷ query) ≡ path
+path_before path query all = ap (λ n. take n (path ++ 63 ∷ query)) (mark_is path query all) ∙ take-append_seam path (63 ∷ query)
 
 -- A path that leads to no page asks for rows, or leads nowhere.
-place_is : (path : List ℕ) → IsPath path → place_of path ≡ asked_place (routed path) path
-place_is path all = ap (λ p. asked_place (routed p) p) (path_is path all)
 
-asked_only : (path : List ℕ) (place : Place) (found : Option Place) → IsPath path → routed path ≡ found → asked_place found path ≡ Some place → LeadsTo path place
-asked_only path place (Some page) all is e = inl (only_there path place all (is ∙ e))
-asked_only path place None all is e =
+pub place_is : (path : List ℕ) → IsPath path → place_of path ≡ asked_place (page_at path) path
+place_is path all = ap (λ p. asked_place (page_at p) p) (path_is path all)
+
+asked_only : (path : List ℕ) (place : Place) (page : Option Place) → page_at path ≡ page → asked_place page path ≡ Some place → LeadsTo path place
+asked_only path place (Some page) is e = inl (only_there path place (is ∙ e))
+asked_only path place None is e =
     let told = map_some (λ (p : Printout). gets (got_report p)) (printout_at path) place e in
     inr (record {
-      no_page = λ page leads. no_some page (sym is ∙ there path page all leads);
+      no_page = λ page leads. no_some page (sym is ∙ there path page leads);
       printout = told.0;
       asks = told.1;
       is = sym told.2;
     })
 
-asked_there : (path : List ℕ) (place : Place) (found : Option Place) → IsPath path → routed path ≡ found → LeadsTo path place → asked_place found path ≡ Some place
-asked_there path place (Some page) all is (inl leads) = sym is ∙ there path place all leads
-asked_there path place (Some page) all is (inr rows) = absurd (rows.no_page page (only_there path page all is))
-asked_there path place None all is (inl leads) = absurd (no_some place (sym is ∙ there path place all leads))
-asked_there path place None all is (inr rows) = ap (option_map (λ (p : Printout). gets (got_report p))) rows.asks ∙ ap Some (sym rows.is)
+asked_there : (path : List ℕ) (place : Place) (page : Option Place) → page_at path ≡ page → LeadsTo path place → asked_place page path ≡ Some place
+asked_there path place (Some page) is (inl leads) = sym is ∙ there path place leads
+asked_there path place (Some page) is (inr rows) = absurd (rows.no_page page (only_there path page is))
+asked_there path place None is (inl leads) = absurd (no_some place (sym is ∙ there path place leads))
+asked_there path place None is (inr rows) = ap (option_map (λ (p : Printout). gets (got_report p))) rows.asks ∙ ap Some (sym rows.is)
 
 pub leads : (path : List ℕ) (place : Place) → IsPath path → (place_of path ≡ Some place) ↔ LeadsTo path place
 leads path place all = (
-  λ e. asked_only path place (routed path) all refl (sym (place_is path all) ∙ e),
-  λ leads. place_is path all ∙ asked_there path place (routed path) all refl leads,
+  λ e. asked_only path place (page_at path) refl (sym (place_is path all) ∙ e),
+  λ leads. place_is path all ∙ asked_there path place (page_at path) refl leads,
 )
 
 pub query_off : (path query : List ℕ) → IsPath path → place_of (path ++ 63 ∷ query) ≡ place_of path
-query_off path query all = ap (λ p. asked_place (routed p) p) (path_behind path query all ∙ sym (path_is path all))
+query_off path query all = ap (λ p. asked_place (page_at p) p) (path_before path query all ∙ sym (path_is path all))

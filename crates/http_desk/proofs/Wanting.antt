@@ -11,8 +11,10 @@ use Rattle.http_desk.specs.declared.printout.Printout.{Printout}
 use Rattle.http_desk.specs.declared.wanted.Wanted.{Wanted}
 use Rattle.http_desk.specs.declared.wanted.Wanted.TheVariants as wanted
 use Rattle.http_desk.specs.Fields.{meant}
-use Rattle.http_desk.specs.Routes.{got_waybill, got_holder, got_report}
-use Rattle.http_desk.specs.Request.{Head, HeadAsks, refuses, looks_up, fault, is_foreign, own_asks, head_asks}
+use Rattle.http_desk.specs.Routes.{Place, got_waybill, got_holder, got_report}
+use Rattle.http_desk.specs.declared.head.Asks.{Asks}
+use Rattle.http_desk.specs.HeadTold.{asks_meant}
+use Rattle.http_desk.specs.Request.{Head, HeadAsks, refuses, looks_up, fault, is_foreign, own_asks, place_asks, head_asks}
 use Rattle.http_desk.specs.Reply.{Reply, numbered, unknown, fault_reply, waybill_reply, holder_reply}
 use Rattle.http_desk.specs.Answer.{Replied, IsAnsweredAs}
 use Rattle.http_desk.specs.declared.wanted.HeadWants.{HeadWants}
@@ -103,3 +105,8 @@ foreign_wants head f foreign is =
 pub wants_on : (head : Head) (w : HeadWants) → is_foreign head.fields ≡ false → HasWants (own_asks head) w → HasWants (head_asks head) w
 wants_on head w own told =
     subst (λ (b : Bool). HasWants (if b then refuses (fault 400 (codes "origin")) else own_asks head) w) (sym own) told
+
+-- what a head asks of a place, by the route that leads there
+pub of_place : (asks : Asks) (head : Head) (place other : Place) → place ≡ other → asks_meant (Some other) asks ≡ place_asks head (Some other)
+    → asks_meant (Some place) asks ≡ place_asks head (Some place)
+of_place asks head place other is = subst (λ (p : Place). asks_meant (Some p) asks ≡ place_asks head (Some p)) (sym is)

@@ -1,4 +1,5 @@
 pub mod Routes
+pub mod Segments
 pub mod Paths
 pub mod Request
 pub mod Reply

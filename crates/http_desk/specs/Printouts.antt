@@ -1,6 +1,5 @@
 -- Rows that a path requests, and their form.
-use Rattle.std.specs.Prelude.{ℕ, ◌-◌, ◌==◌, ◌^◌, ◌&&◌, Bool, nat_lt, if◌then◌else◌, Option, Some, None, option_map, option_and_then, List, take, drop, length, codes}
-use Rattle.std.specs.List.{before_first, after_first}
+use Rattle.std.specs.Prelude.{ℕ, ◌-◌, ◌^◌, ◌&&◌, Bool, nat_lt, if◌then◌else◌, Option, Some, None, option_map, option_and_then, List, take, drop, length, codes}
 use Rattle.std.specs.Result.{result_ok}
 use Rattle.std.specs.Str.{bytes_eq}
 use Rattle.awb_number.specs.Number.{number_of}
@@ -8,6 +7,7 @@ use Rattle.imp_fields.specs.Flight.{Designator, flight_of}
 use Rattle.station_days.specs.Steps.{where_true}
 use Rattle.agent_stock.specs.Code.{is_agent_code}
 use Rattle.desk_commands.specs.Day.{day_of}
+use Rattle.shipment_machine.specs.declared.flight.FlightDate.{FlightDate}
 use Rattle.station_core.specs.Step.{State}
 use Rattle.reports.specs.Listings.{IsListing, listing_called}
 use Rattle.reports.specs.declared.form.Form.{Form}
@@ -18,6 +18,7 @@ use Rattle.reports.specs.declared.report.Report.{Report}
 use Rattle.reports.specs.declared.report.Report.TheVariants as report
 use Rattle.http_desk.specs.declared.printout.Printout.{Printout}
 use Rattle.http_desk.specs.Digits.{number_told}
+use Rattle.http_desk.specs.Segments.{by_segments}
 
 -- the text has the rows of the state, in the form
 abbrev pub IsPrinted : State → Printout → List ℕ → Type 0
@@ -26,85 +27,69 @@ IsPrinted s p text = IsListing p.form s p.listing text
 abbrev pub as_text : Report → Printout
 as_text name = record { listing = listing.All name; form = form.Text }
 
--- the two parts of a path at its first slash
-abbrev pub first_part : List ℕ → List ℕ
-first_part path = before_first (λ b. b == 47) path
-
-abbrev pub later_part : List ℕ → List ℕ
-later_part path = after_first (λ b. b == 47) path
-
 -- `.json` at the end requests that form
 abbrev pub is_json : List ℕ → Bool
 is_json path = bytes_eq (drop (length path - 5) path) (codes ".json")
-
--- `movements`, `trail` and `sent` of a waybill
-abbrev pub waybill_rows : List ℕ → ℕ → Option Listing
-waybill_rows word w =
-    if bytes_eq word (codes "movements") then Some (listing.Movements w)
-    else if bytes_eq word (codes "trail") then Some (listing.Trail w)
-    else if bytes_eq word (codes "sent") then Some (listing.Sent w)
-    else None
-
--- `stock` of an agent
-abbrev pub agent_rows : List ℕ → List ℕ → Option Listing
-agent_rows word code =
-    where_true (bytes_eq word (codes "stock") && is_agent_code code) (listing.AgentStock code)
 
 -- a number of one to ten digits that a row can have
 abbrev pub row_number : List ℕ → Option ℕ
 row_number text = option_and_then (λ n. where_true (nat_lt n (2 ^ 32)) n) (number_told text)
 
--- `after` and `last` of the movements, and of the trail, with a number
-abbrev pub movement_rows : List ℕ → ℕ → Option Listing
-movement_rows word n =
-    if bytes_eq word (codes "after") then Some (listing.MovementsAfter n)
-    else if bytes_eq word (codes "last") then Some (listing.MovementsLast n)
+abbrev pub agent_code : List ℕ → Option (List ℕ)
+agent_code text = where_true (is_agent_code text) text
+
+abbrev pub flight_on : List ℕ → Designator → Option FlightDate
+flight_on day flight = option_map (λ d. record { flight = flight; day = d }) (day_of day)
+
+abbrev pub flight_date : List ℕ → List ℕ → Option FlightDate
+flight_date flight day = option_and_then (flight_on day) (flight_of flight)
+
+abbrev pub agent_rows : List ℕ → List ℕ → Option Listing
+agent_rows code part =
+    if bytes_eq part (codes "stock") then option_map listing.AgentStock (agent_code code) else None
+
+abbrev pub waybill_rows : List ℕ → ℕ → Option Listing
+waybill_rows part w =
+    if bytes_eq part (codes "movements") then Some (listing.Movements w)
+    else if bytes_eq part (codes "sent") then Some (listing.Sent w)
+    else if bytes_eq part (codes "trail") then Some (listing.Trail w)
     else None
 
-abbrev pub line_rows : List ℕ → ℕ → Option Listing
-line_rows word n =
-    if bytes_eq word (codes "after") then Some (listing.TrailAfter n)
-    else if bytes_eq word (codes "last") then Some (listing.TrailLast n)
+-- the rows of a kind after a number, or the last ones
+abbrev pub are : List ℕ → List ℕ → List ℕ → List ℕ → Bool
+are kind side word other = bytes_eq kind word && bytes_eq side other
+
+abbrev pub numbered_rows : List ℕ → List ℕ → ℕ → Option Listing
+numbered_rows kind side n =
+    if are kind side (codes "movements") (codes "after") then Some (listing.MovementsAfter n)
+    else if are kind side (codes "movements") (codes "last") then Some (listing.MovementsLast n)
+    else if are kind side (codes "outbox") (codes "after") then Some (listing.PendingAfter n)
+    else if are kind side (codes "sent") (codes "after") then Some (listing.SentAfter n)
+    else if are kind side (codes "trail") (codes "after") then Some (listing.TrailAfter n)
+    else if are kind side (codes "trail") (codes "last") then Some (listing.TrailLast n)
     else None
 
--- `after` of the outbox, and of all messages, with a number
-abbrev pub message_rows : List ℕ → ℕ → Option Listing
-message_rows word n = where_true (bytes_eq word (codes "after")) (listing.PendingAfter n)
+-- the rows at the segments of a path
+abbrev pub rows_word : List ℕ → Option Listing
+rows_word word =
+    if bytes_eq word (codes "outbox") then Some (listing.All report.Pending)
+    else if bytes_eq word (codes "station") then Some (listing.All report.Station)
+    else None
 
-abbrev pub sent_rows : List ℕ → ℕ → Option Listing
-sent_rows word n = where_true (bytes_eq word (codes "after")) (listing.SentAfter n)
+abbrev pub rows_named : List ℕ → List ℕ → Option Listing
+rows_named kind name = if bytes_eq kind (codes "reports") then listing_called name else None
 
-abbrev pub flight_rows : List ℕ → Designator → Option Listing
-flight_rows day flight =
-    option_map (λ d. listing.Manifest (record { flight = flight; day = d })) (day_of day)
-
-abbrev pub rows_of_kind : List ℕ → List ℕ → Option Listing
-rows_of_kind kind rest =
-    if bytes_eq kind (codes "reports") then listing_called rest
-    else if bytes_eq kind (codes "waybills")
-    then option_and_then (waybill_rows (later_part rest)) (result_ok (number_of (first_part rest)))
-    else if bytes_eq kind (codes "agents") then agent_rows (later_part rest) (first_part rest)
+abbrev pub rows_part : List ℕ → List ℕ → List ℕ → Option Listing
+rows_part kind second third =
+    if bytes_eq kind (codes "agents") then agent_rows second third
     else if bytes_eq kind (codes "flights")
-    then option_and_then (flight_rows (later_part rest)) (flight_of (first_part rest))
-    else if bytes_eq kind (codes "movements")
-    then option_and_then (movement_rows (first_part rest)) (row_number (later_part rest))
-    else if bytes_eq kind (codes "trail")
-    then option_and_then (line_rows (first_part rest)) (row_number (later_part rest))
-    else if bytes_eq kind (codes "outbox")
-    then option_and_then (message_rows (first_part rest)) (row_number (later_part rest))
-    else if bytes_eq kind (codes "sent")
-    then option_and_then (sent_rows (first_part rest)) (row_number (later_part rest))
-    else None
-
--- the rows at a path after `/v1/`
-abbrev pub rows_behind : List ℕ → Option Listing
-rows_behind path =
-    if bytes_eq path (codes "outbox") then Some (listing.All report.Pending)
-    else if bytes_eq path (codes "station") then Some (listing.All report.Station)
-    else rows_of_kind (first_part path) (later_part path)
+    then option_map listing.Manifest (flight_date second third)
+    else if bytes_eq kind (codes "waybills")
+    then option_and_then (waybill_rows third) (result_ok (number_of second))
+    else option_and_then (numbered_rows kind second) (row_number third)
 
 abbrev pub rows_at : List ℕ → Option Listing
-rows_at path = if bytes_eq (take 4 path) (codes "/v1/") then rows_behind (drop 4 path) else None
+rows_at path = by_segments rows_word rows_named rows_part path
 
 abbrev pub in_form : Form → Listing → Printout
 in_form f l = record { listing = l; form = f }

@@ -29,21 +29,21 @@ const ALLOW_GET: FaultTold = FaultTold {
     allow: Some("GET"),
 };
 
-/// The request in a head.
-#[derive(Clone, Copy, Debug, PartialEq, Eq)]
+/// The request in a head, for its route.
+#[derive(Clone, Copy)]
 pub(crate) enum Asks {
     Refused(FaultTold),
-    /// A GET of a route.
-    Got(Route),
-    /// A POST to a route, with the length of its body.
-    Posted(Route, u64),
+    /// A GET.
+    Got,
+    /// A POST, with the length of its body.
+    Posted(u64),
 }
 
 /// Returns the request to a route that takes a body.
-fn post(route: Route, method: &[u8], buf: &[u8], fields: &[HeaderSpan]) -> Asks
+fn post(method: &[u8], buf: &[u8], fields: &[HeaderSpan]) -> Asks
     requires { All (IsHeaderWithin (length buf.now)) fields.now }
-    ensures { (path target : List ℕ) (posted : Posted) → place_told path route ≡ posts posted
-        → asks_meant path result ≡ place_asks
+    ensures { (target : List ℕ) (posted : Posted)
+        → asks_meant (Some (posts posted)) result ≡ place_asks
         (record {
           method = method.now;
           target = target;
@@ -55,51 +55,50 @@ fn post(route: Route, method: &[u8], buf: &[u8], fields: &[HeaderSpan]) -> Asks
         return Asks::Refused(ALLOW_POST);
     }
     match body_length(buf, fields) {
-        Ok(len) => Asks::Posted(route, len),
+        Ok(len) => Asks::Posted(len),
         Err(fault) => Asks::Refused(fault),
     }
 }
 
 /// Returns the request to a route that takes no body.
-fn get(route: Route, method: &[u8]) -> Asks
-    ensures { (path target : List ℕ) (fields : List (List ℕ × List ℕ)) (got : Got)
-        → place_told path route ≡ gets got
-        → asks_meant path result ≡ place_asks
+fn get(method: &[u8]) -> Asks
+    ensures { (target : List ℕ) (fields : List (List ℕ × List ℕ)) (got : Got)
+        → asks_meant (Some (gets got)) result ≡ place_asks
         (record { method = method.now; target = target; fields = fields }) (Some (gets got)) }
 {
     if method != b"GET".as_slice() {
         return Asks::Refused(ALLOW_GET);
     }
-    Asks::Got(route)
+    Asks::Got
 }
 
 /// Returns the request in a head whose path leads to `route`.
 pub(crate) fn head_asks(
-    route: Option<Route>,
+    route: &Option<Route<'_>>,
     method: &[u8],
     buf: &[u8],
     fields: &[HeaderSpan],
 ) -> Asks
     requires { All (IsHeaderWithin (length buf.now)) fields.now }
-    ensures { (path target : List ℕ)
-        → asks_meant path result ≡ place_asks
+    ensures { (target : List ℕ)
+        → asks_meant (option_map place_told route.now) result ≡ place_asks
         (record {
           method = method.now;
           target = target;
           fields = map (header_bytes buf.now)
               fields.now;
-        }) (option_map (place_told path) route) }
+        }) (option_map place_told route.now) }
 {
     let Some(route) = route else {
         return Asks::Refused(NOT_FOUND);
     };
     match route {
-        Route::Command(_) => post(route, method, buf, fields),
-        Route::Check(_) => post(route, method, buf, fields),
-        Route::Telegrams => post(route, method, buf, fields),
-        Route::Look => post(route, method, buf, fields),
-        Route::Waybill => get(route, method),
-        Route::Stock => get(route, method),
-        Route::Report(_) => get(route, method),
+        Route::Command(_) => post(method, buf, fields),
+        Route::Check(_) => post(method, buf, fields),
+        Route::Telegrams => post(method, buf, fields),
+        Route::Look => post(method, buf, fields),
+        Route::Waybill(_) => get(method),
+        Route::Stock(_) => get(method),
+        Route::Report(_) => get(method),
     }
 }

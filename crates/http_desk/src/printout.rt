@@ -1,9 +1,9 @@
-//! Rows that a path requests, and their form.
-ghost use Rattle.std.specs.Prelude.{◌≡◌, ◌-◌, take, drop, length, option_map, if◌then◌else◌, Some, None, codes};
+//! The paths of rows, as read and as printed.
+ghost use Rattle.std.specs.Prelude.{◌≡◌, IfOk, option_map, string_bytes};
 ghost use Rattle.std.specs.Result.{result_ok};
-ghost use Rattle.std.specs.Str.{bytes_eq};
 ghost use Rattle.awb_number.specs.Number.{number_of};
-ghost use Rattle.http_desk.specs.Printouts.{first_part, later_part, waybill_rows, agent_rows, row_number, movement_rows, line_rows, message_rows, sent_rows, flight_rows, rows_of_kind, rows_behind, rows_at, in_form, printout_at};
+ghost use Rattle.http_desk.specs.Paths.{report_path, listing_path, rows_path};
+ghost use Rattle.http_desk.specs.Printouts.{agent_code, agent_rows, flight_date, in_form, numbered_rows, printout_at, row_number, rows_at, rows_named, rows_part, rows_word, waybill_rows};
 
 use crate::fields::number_told;
 use agent_stock::AgentCode;
@@ -12,31 +12,13 @@ use desk_commands::read_day;
 use imp_fields::Flight;
 use reports::{Form, Listing, Report};
 use shipment_machine::FlightDate;
+use std::alloc::{AllocError, Global};
 
 /// Rows to print, and their form.
-#[derive(Clone, Copy, Debug, PartialEq, Eq)]
+#[derive(Clone, Copy)]
 pub struct Printout {
     pub listing: Listing,
     pub form: Form,
-}
-
-fn first_part(path: &str) -> &str
-    ensures { result.now ≡ first_part path.now }
-{
-    match path.split_once('/') {
-        Some((first, _)) => first,
-        None => path,
-    }
-}
-
-/// Returns the part after the first slash.
-fn later_part(path: &str) -> &str
-    ensures { result.now ≡ later_part path.now }
-{
-    match path.split_once('/') {
-        Some((_, later)) => later,
-        None => "",
-    }
 }
 
 fn read_twelve(bytes: &[u8; 12]) -> Option<Awb>
@@ -55,29 +37,6 @@ pub(crate) fn number_in(text: &[u8]) -> Option<Awb>
     read_twelve(&bytes)
 }
 
-fn waybill_rows(word: &str, number: Awb) -> Option<Listing>
-    ensures { result ≡ waybill_rows word.now number }
-{
-    match word {
-        "movements" => Some(Listing::Movements(number)),
-        "trail" => Some(Listing::Trail(number)),
-        "sent" => Some(Listing::Sent(number)),
-        _ => None,
-    }
-}
-
-fn agent_rows(word: &str, code: &str) -> Option<Listing>
-    ensures { result ≡ agent_rows word.now code.now }
-{
-    if word != "stock" {
-        return None;
-    }
-    match AgentCode::read(code.as_bytes()) {
-        Some(code) => Some(Listing::AgentStock(code)),
-        None => None,
-    }
-}
-
 fn row_number(text: &str) -> Option<u32>
     ensures { result ≡ row_number text.now }
 {
@@ -87,95 +46,85 @@ fn row_number(text: &str) -> Option<u32>
     }
 }
 
-fn movement_rows(word: &str, number: u32) -> Option<Listing>
-    ensures { result ≡ movement_rows word.now number }
+fn agent_code(text: &str) -> Option<AgentCode>
+    ensures { result ≡ agent_code text.now }
+{
+    AgentCode::read(text.as_bytes())
+}
+
+fn flight_date(flight: &str, day: &str) -> Option<FlightDate>
+    ensures { result ≡ flight_date flight.now day.now }
+{
+    let flight = Flight::read(flight.as_bytes())?;
+    let day = read_day(day.as_bytes())?;
+    Some(FlightDate { flight, day })
+}
+
+/// Returns the rows at a path of one segment.
+fn rows_word(word: &str) -> Option<Listing>
+    ensures { result ≡ rows_word word.now }
 {
     match word {
-        "after" => Some(Listing::MovementsAfter(number)),
-        "last" => Some(Listing::MovementsLast(number)),
-        _ => None,
-    }
-}
-
-/// Returns the trail lines after a number, or the last ones.
-fn line_rows(word: &str, number: u32) -> Option<Listing>
-    ensures { result ≡ line_rows word.now number }
-{
-    match word {
-        "after" => Some(Listing::TrailAfter(number)),
-        "last" => Some(Listing::TrailLast(number)),
-        _ => None,
-    }
-}
-
-fn message_rows(word: &str, number: u32) -> Option<Listing>
-    ensures { result ≡ message_rows word.now number }
-{
-    match word {
-        "after" => Some(Listing::PendingAfter(number)),
-        _ => None,
-    }
-}
-
-fn sent_rows(word: &str, number: u32) -> Option<Listing>
-    ensures { result ≡ sent_rows word.now number }
-{
-    match word {
-        "after" => Some(Listing::SentAfter(number)),
-        _ => None,
-    }
-}
-
-fn flight_rows(day: &str, flight: Flight) -> Option<Listing>
-    ensures { result ≡ flight_rows day.now flight }
-{
-    match read_day(day.as_bytes()) {
-        Some(day) => Some(Listing::Manifest(FlightDate { flight, day })),
-        None => None,
-    }
-}
-
-fn rows_of_kind(kind: &str, rest: &str) -> Option<Listing>
-    ensures { result ≡ rows_of_kind kind.now rest.now }
-{
-    match kind {
-        "reports" => Listing::read(rest.as_bytes()),
-        "waybills" => {
-            let number = number_in(first_part(rest).as_bytes())?;
-            waybill_rows(later_part(rest), number)
-        }
-        "agents" => agent_rows(later_part(rest), first_part(rest)),
-        "flights" => {
-            let flight = Flight::read(first_part(rest).as_bytes())?;
-            flight_rows(later_part(rest), flight)
-        }
-        "movements" => {
-            let number = row_number(later_part(rest))?;
-            movement_rows(first_part(rest), number)
-        }
-        "trail" => {
-            let number = row_number(later_part(rest))?;
-            line_rows(first_part(rest), number)
-        }
-        "outbox" => {
-            let number = row_number(later_part(rest))?;
-            message_rows(first_part(rest), number)
-        }
-        "sent" => {
-            let number = row_number(later_part(rest))?;
-            sent_rows(first_part(rest), number)
-        }
-        _ => None,
-    }
-}
-
-fn rows_behind(path: &str) -> Option<Listing>
-    ensures { result ≡ rows_behind path.now }
-{
-    match path {
         "outbox" => Some(Listing::All(Report::Pending)),
         "station" => Some(Listing::All(Report::Station)),
-        _ => rows_of_kind(first_part(path), later_part(path)),
+        _ => None,
+    }
+}
+
+/// Returns the rows at a path of two segments.
+fn rows_named(kind: &str, name: &str) -> Option<Listing>
+    ensures { result ≡ rows_named kind.now name.now }
+{
+    match kind {
+        "reports" => Listing::read(name.as_bytes()),
+        _ => None,
+    }
+}
+
+fn agent_rows(code: &str, part: &str) -> Option<Listing>
+    ensures { result ≡ agent_rows code.now part.now }
+{
+    match part {
+        "stock" => Some(Listing::AgentStock(agent_code(code)?)),
+        _ => None,
+    }
+}
+
+fn waybill_rows(number: Awb, part: &str) -> Option<Listing>
+    ensures { result ≡ waybill_rows part.now number }
+{
+    match part {
+        "movements" => Some(Listing::Movements(number)),
+        "sent" => Some(Listing::Sent(number)),
+        "trail" => Some(Listing::Trail(number)),
+        _ => None,
+    }
+}
+
+/// Returns the rows of a kind after a number, or the last ones.
+fn numbered_rows(kind: &str, side: &str, number: u32) -> Option<Listing>
+    ensures { result ≡ numbered_rows kind.now side.now number }
+{
+    match (kind, side) {
+        ("movements", "after") => Some(Listing::MovementsAfter(number)),
+        ("movements", "last") => Some(Listing::MovementsLast(number)),
+        ("outbox", "after") => Some(Listing::PendingAfter(number)),
+        ("sent", "after") => Some(Listing::SentAfter(number)),
+        ("trail", "after") => Some(Listing::TrailAfter(number)),
+        ("trail", "last") => Some(Listing::TrailLast(number)),
+        _ => None,
+    }
+}
+
+/// Returns the rows at a path of three segments.
+fn rows_part(kind: &str, second: &str, third: &str) -> Option<Listing>
+    ensures { result ≡ rows_part kind.now second.now third.now }
+{
+    match kind {
+        "agents" => agent_rows(second, third),
+        "flights" => Some(Listing::Manifest(flight_date(second, third)?)),
+        "waybills" => waybill_rows(number_in(second.as_bytes())?, third),
+        _ => numbered_rows(kind, second, row_number(third)?),
     }
 }
 
@@ -183,7 +132,13 @@ fn rows_at(path: &str) -> Option<Listing>
     ensures { result ≡ rows_at path.now }
 {
     let rest = path.strip_prefix("/v1/")?;
-    rows_behind(rest)
+    let Some((first, later)) = rest.split_once('/') else {
+        return rows_word(rest);
+    };
+    match later.split_once('/') {
+        Some((second, third)) => rows_part(first, second, third),
+        None => rows_named(first, later),
+    }
 }
 
 fn in_form(listing: Option<Listing>, form: Form) -> Option<Printout>
@@ -202,5 +157,57 @@ pub(crate) fn printout_at(path: &str) -> Option<Printout>
     match path.strip_suffix(".json") {
         Some(stem) => in_form(rows_at(stem), Form::Json),
         None => in_form(rows_at(path), Form::Text),
+    }
+}
+
+fn report_path(report: Report) -> &'static str
+    ensures { result.now ≡ report_path report }
+{
+    match report {
+        Report::Stock => "/v1/reports/stock",
+        Report::Shed => "/v1/reports/shed",
+        Report::Flights => "/v1/reports/flights",
+        Report::Expected => "/v1/reports/expected",
+        Report::Irregularities => "/v1/reports/irregularities",
+        Report::Movements => "/v1/reports/movements",
+        Report::Trail => "/v1/reports/trail",
+        Report::Pending => "/v1/outbox",
+        Report::Sent => "/v1/reports/sent",
+        Report::Station => "/v1/reports/station",
+    }
+}
+
+fn listing_path(alloc: Global, listing: &Listing) -> Result<String, AllocError>
+    ensures { IfOk result (λ path. string_bytes path ≡ listing_path listing.now) }
+{
+    match listing {
+        Listing::All(report) => String::from_str(alloc, report_path(*report)),
+        Listing::OpenFlights => String::from_str(alloc, "/v1/reports/open-flights"),
+        Listing::OpenExpected => String::from_str(alloc, "/v1/reports/open-expected"),
+        Listing::AgentStock(code) => {
+            let code = code.as_str();
+            format!(in alloc; "/v1/agents/{code}/stock")
+        }
+        Listing::Movements(number) => format!(in alloc; "/v1/waybills/{number}/movements"),
+        Listing::MovementsAfter(row) => format!(in alloc; "/v1/movements/after/{row}"),
+        Listing::MovementsLast(rows) => format!(in alloc; "/v1/movements/last/{rows}"),
+        Listing::Trail(number) => format!(in alloc; "/v1/waybills/{number}/trail"),
+        Listing::TrailAfter(row) => format!(in alloc; "/v1/trail/after/{row}"),
+        Listing::TrailLast(rows) => format!(in alloc; "/v1/trail/last/{rows}"),
+        Listing::PendingAfter(row) => format!(in alloc; "/v1/outbox/after/{row}"),
+        Listing::SentAfter(row) => format!(in alloc; "/v1/sent/after/{row}"),
+        Listing::Sent(number) => format!(in alloc; "/v1/waybills/{number}/sent"),
+        Listing::Manifest(flight) => format!(in alloc; "/v1/flights/{flight}"),
+    }
+}
+
+/// Returns the path of rows in a form.
+pub fn rows_path(alloc: Global, listing: &Listing, form: Form) -> Result<String, AllocError>
+    ensures { IfOk result (λ path. string_bytes path ≡ rows_path listing.now form) }
+{
+    let path = listing_path(alloc, listing)?;
+    match form {
+        Form::Text => Ok(path),
+        Form::Json => format!(in alloc; "{path}.json"),
     }
 }

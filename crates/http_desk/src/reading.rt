@@ -16,7 +16,7 @@ const MOST_READS: u32 = 100_000;
 const CHUNK: usize = 4096;
 
 /// The reason why a request is incomplete.
-#[derive(Clone, Copy, Debug, PartialEq, Eq)]
+#[derive(Clone, Copy)]
 pub(crate) enum ReadEnd {
     /// The reader failed, the input ended, or the limit of reads was reached.
     Read,

@@ -114,7 +114,7 @@ pub fn refusal_line(
     }
     let mut reader = Counted::new(bytes);
     let mut received = Vec::new(alloc);
-    match read_request(alloc, &mut reader, &mut received) {
+    match read_request(&mut reader, &mut received) {
         Ok(came) => request_line(alloc, &came, received.as_slice()),
         Err(ReadEnd::Memory) => Err(AllocError),
         Err(_) => Ok(None),

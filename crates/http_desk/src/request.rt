@@ -30,20 +30,15 @@ pub(crate) enum Came {
 }
 
 /// Returns the request of the head at the start of the bytes, and its key.
-fn wants_at(
-    alloc: Global,
-    bytes: &[u8],
-    spans: &RequestSpans,
-    headers: &[HeaderSpan],
-) -> Result<(HeadWants, Option<Key>), AllocError>
+fn wants_at(bytes: &[u8], spans: &RequestSpans, headers: &[HeaderSpan]) -> (HeadWants, Option<Key>)
     requires within { IsRequestWithin bytes.now headers.now spans.now }
     requires head { IsRequestOf bytes.now headers.now spans.now }
     requires room { length bytes.now ≤ 16_384 }
     requires few { length headers.now ≡ 64 }
-    ensures { IfOk result (λ told. BeginsWith bytes.now told.0 told.1 spans.now.len) }
+    ensures { BeginsWith bytes.now result.0 result.1 spans.now.len }
 {
-    let wants = head_wants(alloc, bytes, spans, headers)?;
-    Ok((wants, key_of(bytes, &headers[..spans.headers])))
+    let wants = head_wants(bytes, spans, headers);
+    (wants, key_of(bytes, &headers[..spans.headers]))
 }
 
 /// Reads until the body is complete.
@@ -74,11 +69,7 @@ fn read_body<I: ByteIn>(
     read_on(reader, bytes, whole, turns)
 }
 
-pub(crate) fn read_request<I: ByteIn>(
-    alloc: Global,
-    reader: &mut I,
-    bytes: &mut Vec<u8>,
-) -> Result<Came, ReadEnd>
+pub(crate) fn read_request<I: ByteIn>(reader: &mut I, bytes: &mut Vec<u8>) -> Result<Came, ReadEnd>
     requires { bytes.old.items ≡ [] }
     ensures come { OnOk result
         ((I.given reader.new).bytes ≡ (I.given reader.old).bytes ++ bytes.new.items) }
@@ -97,9 +88,7 @@ pub(crate) fn read_request<I: ByteIn>(
         Err(ReadEnd::Head) => return Ok(Came::NoHead),
         Err(end) => return Err(end),
     };
-    let Ok((wants, key)) = wants_at(alloc, bytes.as_slice(), &spans, &headers) else {
-        return Err(ReadEnd::Memory);
-    };
+    let (wants, key) = wants_at(bytes.as_slice(), &spans, &headers);
     match read_body(reader, bytes, &wants, spans.len, turns) {
         Ok(()) => Ok(Came::Head(wants, key, spans.len)),
         Err(end) => Err(end),

@@ -104,7 +104,7 @@ pub fn serve_one<K: Keeper, I: ByteIn, O: ByteOut>(
         result }
 {
     let mut bytes = Vec::new(alloc);
-    match read_request(alloc, reader, &mut bytes) {
+    match read_request(reader, &mut bytes) {
         Ok(came) => {
             let told = told_for(alloc, keeper, bytes.as_slice(), came, at);
             write_told(alloc, keeper, writer, &told)

@@ -1,14 +1,12 @@
 //! Decoding a request.
-ghost use Rattle.std.specs.Prelude.{◌≡◌, drop, IfOk, option_map};
-ghost use Rattle.std.specs.Result.{result_ok};
-ghost use Rattle.awb_number.specs.Number.{number_of};
+ghost use Rattle.std.specs.Prelude.{◌≡◌, IfOk, option_map};
 ghost use Rattle.httparse.specs.Grammar.{RequestHead};
 ghost use Rattle.httparse.specs.Spans.{IsRequestAt, IsRequestOf, IsRequestWithin};
 ghost use Rattle.http_desk.specs.Answer.{head_of};
 ghost use Rattle.http_desk.specs.Asked.{body_meant};
 ghost use Rattle.http_desk.specs.HeadTold.{asks_meant, got_at};
-ghost use Rattle.http_desk.specs.Request.{head_asks, own_asks, IsAskedUnder};
-ghost use Rattle.http_desk.specs.Routes.{asked_place, path_of, place_told, routed};
+ghost use Rattle.http_desk.specs.Request.{head_asks, looks_up, own_asks, IsAskedUnder};
+ghost use Rattle.http_desk.specs.Routes.{got_holder, got_waybill, path_of, place_told};
 ghost use Rattle.http_desk.specs.Wanted.{WantsNow, HasWants, WantsAsked, BodyWants, posted_of};
 
 use crate::asked::{Body, check_asked, command_asked, look_asked, telegram_asked};
@@ -16,7 +14,7 @@ use crate::fault::FaultTold;
 use crate::fields::is_foreign;
 use crate::head::{Asks, NOT_FOUND, head_asks};
 use crate::printout::{Printout, number_in};
-use crate::route::{Route, behind, desk_router, route_of};
+use crate::route::{Route, route_of};
 use awb_number::Awb;
 use desk_commands::Verb;
 use httparse::spans::{HeaderSpan, RequestSpans};
@@ -40,7 +38,7 @@ pub(crate) enum Wanted<'a> {
 }
 
 /// The kind of body that a request posts.
-#[derive(Clone, Copy, Debug, PartialEq, Eq)]
+#[derive(Clone, Copy)]
 pub(crate) enum Post {
     Command(Verb),
     Check(Verb),
@@ -74,52 +72,35 @@ fn path_in(target: &str) -> &str
     }
 }
 
-/// Returns the waybill number after `count` bytes of a path.
-fn number_behind(path: &str, count: usize) -> Option<Awb>
-    ensures { result ≡ result_ok (number_of (drop count path.now)) }
+fn waybill_at(name: &str) -> Wanted<'static>
+    ensures { WantsNow (looks_up (got_waybill name.now)) result }
 {
-    number_in(behind(path, count))
-}
-
-fn waybill_at(path: &str) -> Wanted<'static>
-    ensures { WantsNow (got_at (place_told path.now Route.Waybill)) result }
-{
-    match number_behind(path, 13) {
+    match number_in(name.as_bytes()) {
         Some(number) => Wanted::Waybill(number),
         None => Wanted::Fault(NOT_FOUND),
     }
 }
 
-fn holder_at(path: &str) -> Wanted<'static>
-    ensures { WantsNow (got_at (place_told path.now Route.Stock)) result }
+fn holder_at(name: &str) -> Wanted<'static>
+    ensures { WantsNow (looks_up (got_holder name.now)) result }
 {
-    match number_behind(path, 10) {
+    match number_in(name.as_bytes()) {
         Some(number) => Wanted::Holder(number),
         None => Wanted::Fault(NOT_FOUND),
     }
 }
 
 /// Returns the request of a GET.
-fn got(route: Route, path: &str) -> Wanted<'static>
-    ensures { WantsNow (got_at (place_told path.now route)) result }
+fn got(route: &Route<'_>) -> Wanted<'static>
+    ensures { WantsNow (got_at (place_told route.now)) result }
 {
     match route {
-        Route::Waybill => waybill_at(path),
-        Route::Stock => holder_at(path),
-        Route::Report(printout) => Wanted::Report(printout),
+        Route::Waybill(name) => waybill_at(name),
+        Route::Stock(name) => holder_at(name),
+        Route::Report(printout) => Wanted::Report(*printout),
         Route::Command(_) => Wanted::Fault(NOT_FOUND),
         Route::Check(_) => Wanted::Fault(NOT_FOUND),
         Route::Telegrams | Route::Look => Wanted::Fault(NOT_FOUND),
-    }
-}
-
-fn routed(alloc: Global, path: &str) -> Result<Option<Route>, AllocError>
-    ensures { IfOk result (λ route. option_map (place_told path.now) route ≡ asked_place
-        (routed path.now) path.now) }
-{
-    match desk_router(alloc) {
-        Ok(router) => Ok(route_of(&router, path)),
-        Err(_) => Err(AllocError),
     }
 }
 
@@ -135,14 +116,17 @@ fn target_of<'a>(bytes: &'a [u8], spans: &RequestSpans, headers: &[HeaderSpan]) 
     }
 }
 
-/// Returns the decoded head for a request.
-fn wants_of(asks: &Asks, path: &str) -> HeadWants
-    ensures { HasWants (asks_meant path.now asks.now) result }
+/// Returns the decoded head for a request to a route.
+fn wants_of(asks: &Asks, route: &Option<Route<'_>>) -> HeadWants
+    ensures { HasWants (asks_meant (option_map place_told route.now) asks.now) result }
 {
+    let Some(route) = route else {
+        return HeadWants::Now(Wanted::Fault(NOT_FOUND));
+    };
     match asks {
         Asks::Refused(fault) => HeadWants::Now(Wanted::Fault(*fault)),
-        Asks::Got(route) => HeadWants::Now(got(*route, path)),
-        Asks::Posted(route, len) => match route {
+        Asks::Got => HeadWants::Now(got(route)),
+        Asks::Posted(len) => match route {
             Route::Command(verb) => HeadWants::Body(Post::Command(*verb), *len),
             Route::Check(verb) => HeadWants::Body(Post::Check(*verb), *len),
             Route::Telegrams => HeadWants::Body(Post::Telegram, *len),
@@ -153,39 +137,29 @@ fn wants_of(asks: &Asks, path: &str) -> HeadWants
 }
 
 /// Decodes a head that isn't from a page of another host.
-fn own_wants(
-    alloc: Global,
-    bytes: &[u8],
-    spans: &RequestSpans,
-    headers: &[HeaderSpan],
-) -> Result<HeadWants, AllocError>
+fn own_wants(bytes: &[u8], spans: &RequestSpans, headers: &[HeaderSpan]) -> HeadWants
     requires within { IsRequestWithin bytes.now headers.now spans.now }
     requires head { IsRequestOf bytes.now headers.now spans.now }
     ensures { (h : RequestHead) → IsRequestAt bytes.now headers.now spans.now h
-        → IfOk result (HasWants (own_asks (head_of h))) }
+        → HasWants (own_asks (head_of h)) result }
 {
     let path = path_in(target_of(bytes, spans, headers));
-    let route = routed(alloc, path)?;
+    let route = route_of(path);
     let method = spans.method.of(bytes);
-    let asks = head_asks(route, method, bytes, &headers[..spans.headers]);
-    Ok(wants_of(&asks, path))
+    let asks = head_asks(&route, method, bytes, &headers[..spans.headers]);
+    wants_of(&asks, &route)
 }
 
-pub(crate) fn head_wants(
-    alloc: Global,
-    bytes: &[u8],
-    spans: &RequestSpans,
-    headers: &[HeaderSpan],
-) -> Result<HeadWants, AllocError>
+pub(crate) fn head_wants(bytes: &[u8], spans: &RequestSpans, headers: &[HeaderSpan]) -> HeadWants
     requires within { IsRequestWithin bytes.now headers.now spans.now }
     requires head { IsRequestOf bytes.now headers.now spans.now }
     ensures { (h : RequestHead) → IsRequestAt bytes.now headers.now spans.now h
-        → IfOk result (HasWants (head_asks (head_of h))) }
+        → HasWants (head_asks (head_of h)) result }
 {
     if is_foreign(bytes, &headers[..spans.headers]) {
-        return Ok(HeadWants::Now(Wanted::Fault(BAD_ORIGIN)));
+        return HeadWants::Now(Wanted::Fault(BAD_ORIGIN));
     }
-    own_wants(alloc, bytes, spans, headers)
+    own_wants(bytes, spans, headers)
 }
 
 /// Returns the content of a body.

@@ -261,19 +261,6 @@ scanned_to_step source place n line old new h within run slice start end text se
           ∙ sym (append_assoc h.lines (line.text.now ∷ []) (map line_without_end (pieces_from source later)));
     }
 
-pub scanned_none : (source : List ℕ) (s : Scan) → IsScanned [] [] s → AreSlicesBefore source 0 s.lines.items → IsScannedTo source 0 s
-scanned_none source s h slices =
-    let all : pieces_from source 0 ≡ slice_split is_newline source = pieces_here source 0 (omega arith) in
-    record {
-      starts = [];
-      lines = [];
-      scanned = h;
-      slices = slices;
-      count = omega (arith, h.count);
-      starts_are = ap (starts_from 0) (sym all);
-      lines_are = ap (map line_without_end) (sym all);
-    }
-
 pub rest_is : (source : List ℕ) (place : ℕ) → slice_range source place (length source) ≡ drop place source
 rest_is source place = take_all (length source - place) (drop place source) (omega (arith, length-drop place source))
 

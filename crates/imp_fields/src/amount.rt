@@ -68,7 +68,7 @@ impl fmt::Display for Pieces {
 }
 
 /// The number of a part of a manifest, 1 to 9999.
-#[derive(Clone, Copy, Debug, PartialEq, Eq, PartialOrd, Ord)]
+#[derive(Clone, Copy, PartialEq, Eq, PartialOrd, Ord)]
 pub struct PartNumber {
     number: u32,
 }
@@ -155,7 +155,7 @@ pub const MOST_TENTHS: u32 = 999_999;
 
 /// A book weight in tenths of a kilogram, 0 to 999,999: at most what a written message has room
 /// for.
-#[derive(Clone, Copy, Debug, PartialEq, Eq, PartialOrd, Ord)]
+#[derive(Clone, Copy, PartialEq, Eq, PartialOrd, Ord)]
 pub struct BookTenths {
     number: u32,
 }
@@ -193,7 +193,7 @@ impl BookTenths {
 }
 
 /// The part of a consignment that a quantity counts, by its Cargo-IMP letter.
-#[derive(Clone, Copy, Debug, PartialEq, Eq)]
+#[derive(Clone, Copy, Debug)]
 pub enum ShipmentCode {
     /// T, the whole consignment.
     Total,
@@ -208,7 +208,7 @@ pub enum ShipmentCode {
 }
 
 /// The unit of a weight.
-#[derive(Clone, Copy, Debug, PartialEq, Eq)]
+#[derive(Clone, Copy)]
 pub enum WeightUnit {
     /// K, kilograms.
     Kilograms,
@@ -217,7 +217,7 @@ pub enum WeightUnit {
 }
 
 /// A quantity in a message: `T10K100MC0.5` (Cargo-IMP FWB, FFM and FSU).
-#[derive(Clone, Copy, Debug, PartialEq, Eq)]
+#[derive(Clone, Copy, Debug)]
 pub struct Quantity {
     pub code: ShipmentCode,
     /// The pieces of this quantity.

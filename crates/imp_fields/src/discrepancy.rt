@@ -1,5 +1,5 @@
 /// A discrepancy between goods and documents.
-#[derive(Clone, Copy, Debug, PartialEq, Eq)]
+#[derive(Clone, Copy, Debug)]
 pub enum Discrepancy {
     /// OFLD, offloaded.
     Offloaded,

@@ -66,7 +66,7 @@ impl fmt::Display for Why {
 }
 
 /// The first fault of a text, with its line, counted from 1. Line 0 is the whole text.
-#[derive(Clone, Copy, Debug, PartialEq, Eq)]
+#[derive(Clone, Copy, PartialEq, Eq)]
 pub struct TextFault {
     pub line: u32,
     pub why: Why,

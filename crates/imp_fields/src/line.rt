@@ -9,7 +9,7 @@ use crate::token::Token;
 use awb_number::Awb;
 
 /// The kind of a message.
-#[derive(Clone, Copy, Debug, PartialEq, Eq)]
+#[derive(Clone, Copy, Debug)]
 pub enum MessageKind {
     /// FWB, waybill data.
     Fwb,
@@ -21,7 +21,7 @@ pub enum MessageKind {
 
 /// The normal text of a telegram: its lines from the message line on, as slices of its bytes. There
 /// are at most 1,000, each of at most 255 bytes of printable ASCII.
-#[derive(Debug, Drop)]
+#[derive(Drop)]
 pub struct Lines<'a> {
     pub kind: MessageKind,
     pub lines: Vec<Token<'a>>,

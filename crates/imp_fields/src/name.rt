@@ -37,7 +37,7 @@ impl Model for Name {
 
 /// A description of goods of at most 15 bytes of printable ASCII, not ending in a space. It may be
 /// empty.
-#[derive(Clone, Copy, Debug, PartialEq, Eq)]
+#[derive(Clone, Copy, PartialEq, Eq)]
 pub struct Goods {
     bytes: [u8; 15],
     len: usize,

@@ -4,7 +4,7 @@ use awb_number::Awb;
 
 /// A waybill as written messages name it: its number and route, and the declared pieces and weight,
 /// without the goods.
-#[derive(Clone, Copy, Debug)]
+#[derive(Clone, Copy)]
 pub struct WaybillSummary {
     pub awb: Awb,
     pub origin: Airport,

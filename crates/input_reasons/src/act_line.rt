@@ -2,12 +2,12 @@
 ghost use Rattle.std.specs.Prelude.{IfOk, codes, string_bytes};
 ghost use Rattle.input_reasons.specs.Reason.{IsReason, numbered_head};
 
-use crate::body::value_words;
-use crate::member::kind_words;
+use crate::body::{json_words, value_words};
+use crate::member::{kind_words, no_text_words};
 use crate::shown::{numbered, quoted};
 use crate::telegram::refusal_words;
 use desk_commands::Verb;
-use serde_json::{Error, Value};
+use serde_json::Value;
 use shipment_machine::Refusal;
 use std::alloc::{AllocError, Global};
 
@@ -17,26 +17,12 @@ pub const MOST_LINE: usize = imp_fields::MOST_BYTES + 4_096;
 /// The members of a command's line.
 const COMMAND: &[&str] = &["verb", "key", "body"];
 
-/// The words for a text that isn't JSON.
-fn json_words(alloc: Global, error: &Error) -> Result<String, AllocError> {
-    if error.is_memory() {
-        return Err(AllocError);
-    }
-    let column = error.column();
-    if error.is_eof() {
-        format!(in alloc; "the JSON ends too early: column {column}")
-    } else {
-        format!(in alloc; "invalid JSON: column {column}")
-    }
-}
-
 /// The words for a malformed line that has a telegram.
 fn telegram_words(alloc: Global, telegram: &Value) -> Result<String, AllocError> {
     if telegram.as_str().is_some() {
         return String::from_str(alloc, "unexpected member besides \"telegram\"");
     }
-    let kind = kind_words(alloc, telegram)?;
-    format!(in alloc; "\"telegram\": expected a text in quotes, found {kind}")
+    no_text_words(alloc, "telegram", telegram)
 }
 
 /// The words for a missing member, or for one that no line has.
@@ -66,12 +52,6 @@ fn members_words(alloc: Global, line: &Value) -> Result<Option<String>, AllocErr
     Ok(None)
 }
 
-/// The words for a member that isn't a text.
-fn no_text(alloc: Global, name: &str, value: &Value) -> Result<String, AllocError> {
-    let kind = kind_words(alloc, value)?;
-    format!(in alloc; "\"{name}\": expected a text in quotes, found {kind}")
-}
-
 /// The words for a malformed line with a verb, a key and a body.
 fn command_words(
     alloc: Global,
@@ -80,14 +60,14 @@ fn command_words(
     body: &Value,
 ) -> Result<String, AllocError> {
     let Some(word) = verb.as_str() else {
-        return no_text(alloc, "verb", verb);
+        return no_text_words(alloc, "verb", verb);
     };
     let Some(verb) = Verb::read(word.as_bytes()) else {
         let word = quoted(alloc, word.as_bytes())?;
         return format!(in alloc; "unknown verb {word}; `cargo_desk act --help` lists the verbs");
     };
     let Some(key) = key.as_str() else {
-        return no_text(alloc, "key", key);
+        return no_text_words(alloc, "key", key);
     };
     if station_core::Key::read(key.as_bytes()).is_none() {
         let key = quoted(alloc, key.as_bytes())?;
@@ -119,7 +99,10 @@ fn line_words(alloc: Global, text: &[u8]) -> Result<String, AllocError> {
     }
     match Value::from_slice(alloc, text.trim_ascii_end()) {
         Ok(line) => object_words(alloc, &line),
-        Err(error) => json_words(alloc, &error),
+        Err(error) => {
+            let place = format!(in alloc; "column {}", error.column())?;
+            json_words(alloc, &error, place.as_str())
+        }
     }
 }
 

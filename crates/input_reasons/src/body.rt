@@ -12,16 +12,14 @@ use imp_fields::MOST_BYTES;
 use serde_json::{Error, Value};
 use std::alloc::{AllocError, Global};
 
-/// The words for a text that isn't JSON.
-fn json_words(alloc: Global, error: &Error) -> Result<String, AllocError> {
+/// Returns the words for a text that isn't JSON: `place` says where it is at fault.
+pub(crate) fn json_words(alloc: Global, error: &Error, place: &str) -> Result<String, AllocError> {
     if error.is_memory() {
-        return Err(AllocError);
-    }
-    let (line, column) = (error.line(), error.column());
-    if error.is_eof() {
-        format!(in alloc; "the JSON ends too early: line {line}, column {column}")
+        Err(AllocError)
+    } else if error.is_eof() {
+        format!(in alloc; "the JSON ends too early: {place}")
     } else {
-        format!(in alloc; "invalid JSON: line {line}, column {column}")
+        format!(in alloc; "invalid JSON: {place}")
     }
 }
 
@@ -105,7 +103,10 @@ fn body_words(alloc: Global, verb: Verb, bytes: &[u8]) -> Result<String, AllocEr
     }
     match Value::from_slice(alloc, bytes) {
         Ok(body) => value_words(alloc, verb, &body),
-        Err(error) => json_words(alloc, &error),
+        Err(error) => {
+            let place = format!(in alloc; "line {}, column {}", error.line(), error.column())?;
+            json_words(alloc, &error, place.as_str())
+        }
     }
 }
 

@@ -1,7 +1,7 @@
 //! The fields of a body, by its verb.
 use agent_stock::AgentCode;
 use awb_number::SERIALS;
-use desk_commands::{Field, Verb, read_command_text};
+use desk_commands::{Field, Verb, read_day};
 use imp_fields::{Airport, Flight, Goods, MOST_MESSAGE_TENTHS, MOST_PIECES, Name};
 use shipment_machine::Airline;
 use std::alloc::{AllocError, Global};
@@ -29,16 +29,6 @@ pub(crate) fn fields_words(alloc: Global, verb: Verb) -> Result<String, AllocErr
         words.push_str("; flight and date may be left out together")?;
     }
     Ok(words)
-}
-
-/// Whether ten bytes are a day, as a command's text has it.
-fn is_day(text: &[u8]) -> bool {
-    let Ok(day) = <[u8; 10]>::try_from(text) else {
-        return false;
-    };
-    let mut command = *b"depart\nLH400\n0000-00-00";
-    command[13..].copy_from_slice(&day);
-    read_command_text(&command).is_some()
 }
 
 /// The least and the greatest number that it may be, where it is a number.
@@ -78,7 +68,7 @@ pub(crate) fn reads(field: Field, text: &[u8]) -> bool {
         Field::Goods => Goods::read(text).is_some(),
         Field::Name => Name::read(text).is_some(),
         Field::Flight | Field::FlightIfAny => Flight::read(text).is_some(),
-        Field::Date | Field::DateIfAny => is_day(text),
+        Field::Date | Field::DateIfAny => read_day(text).is_some(),
         Field::Airline => Airline::read(text).is_some(),
         _ => true,
     }

@@ -76,25 +76,11 @@ fn other_words(alloc: Global, field: Field, text: &[u8]) -> Result<String, Alloc
     format!(in alloc; "\"{name}\": expected {wanted}, found {text}")
 }
 
-/// The words for a text that isn't `width` digits.
-fn code_words(
-    alloc: Global,
-    place: &str,
-    text: &[u8],
-    width: usize,
-) -> Result<Option<String>, AllocError> {
-    if text.len() == width && text.iter().all(|b| b.is_ascii_digit()) {
-        return Ok(None);
-    }
-    let wanted = format!(in alloc; "{width}")?;
-    Ok(Some(digits_words(alloc, place, text, wanted.as_str())?))
-}
-
 /// The words for a text, if its field doesn't take it.
 fn text_words(alloc: Global, field: Field, text: &[u8]) -> Result<Option<String>, AllocError> {
     match field {
-        Field::Prefix => code_words(alloc, "\"prefix\"", text, 3),
-        Field::Serial => code_words(alloc, "\"serial\"", text, 7),
+        Field::Prefix => digits_words(alloc, "\"prefix\"", text, 3, 3),
+        Field::Serial => digits_words(alloc, "\"serial\"", text, 7, 7),
         Field::Awb => awb_words(alloc, text),
         _ => {
             if reads(field, text) {
@@ -106,9 +92,13 @@ fn text_words(alloc: Global, field: Field, text: &[u8]) -> Result<Option<String>
     }
 }
 
-/// The words for a value that isn't a text.
-fn no_text_words(alloc: Global, field: Field, value: &Value) -> Result<String, AllocError> {
-    let (name, kind) = (field.name(), kind_words(alloc, value)?);
+/// Returns the words for a member that isn't a text.
+pub(crate) fn no_text_words(
+    alloc: Global,
+    name: &str,
+    value: &Value,
+) -> Result<String, AllocError> {
+    let kind = kind_words(alloc, value)?;
     format!(in alloc; "\"{name}\": expected a text in quotes, found {kind}")
 }
 
@@ -123,6 +113,6 @@ pub(crate) fn member_words(
     }
     match value.as_str() {
         Some(text) => text_words(alloc, field, text.as_bytes()),
-        None => Ok(Some(no_text_words(alloc, field, value)?)),
+        None => Ok(Some(no_text_words(alloc, field.name(), value)?)),
     }
 }

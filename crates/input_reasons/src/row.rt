@@ -5,6 +5,7 @@ ghost use Rattle.input_reasons.specs.Reason.{IsReason, numbered_head};
 use crate::shown::{cut, digits_words, numbered, quoted};
 use agent_stock::AgentCode;
 use csv::ByteRecord;
+use desk_commands::Verb;
 use station_core::Key;
 use std::alloc::{AllocError, Global};
 
@@ -42,36 +43,24 @@ fn agent_words(alloc: Global, agent: &[u8]) -> Result<String, AllocError> {
     format!(in alloc; "agent: expected 1 to 11 upper-case letters or digits, found {agent}")
 }
 
-/// Whether a text has from so many to so many digits, and nothing else.
-fn is_number(text: &[u8], least: usize, most: usize) -> bool {
-    least <= text.len() && text.len() <= most && text.iter().all(|b| b.is_ascii_digit())
-}
-
 /// Whether a verb of a row goes with an agent, where it is one.
 fn takes_agent(verb: &[u8]) -> Option<bool> {
-    if verb == b"issue".as_slice() || verb == b"return".as_slice() {
-        Some(true)
-    } else if verb == b"take-in".as_slice() || verb == b"void".as_slice() {
-        Some(false)
-    } else {
-        None
+    match Verb::read(verb)? {
+        Verb::Issue | Verb::Return => Some(true),
+        Verb::TakeIn | Verb::Void => Some(false),
+        _ => None,
     }
 }
 
 /// The words for prefix, serial or count, if one of them is malformed.
 fn run_words(alloc: Global, row: &ByteRecord) -> Result<Option<String>, AllocError> {
-    let (prefix, serial) = (field(row, 2), field(row, 3));
-    let count = field(row, 4);
-    if !is_number(prefix, 3, 3) {
-        return Ok(Some(digits_words(alloc, "prefix", prefix, "3")?));
+    if let Some(words) = digits_words(alloc, "prefix", field(row, 2), 3, 3)? {
+        return Ok(Some(words));
     }
-    if !is_number(serial, 7, 7) {
-        return Ok(Some(digits_words(alloc, "serial", serial, "7")?));
+    if let Some(words) = digits_words(alloc, "serial", field(row, 3), 7, 7)? {
+        return Ok(Some(words));
     }
-    if !is_number(count, 1, 7) {
-        return Ok(Some(digits_words(alloc, "count", count, "1 to 7")?));
-    }
-    Ok(None)
+    digits_words(alloc, "count", field(row, 4), 1, 7)
 }
 
 /// A field of a row; empty where it has none.

@@ -87,13 +87,22 @@ pub(crate) fn quoted(alloc: Global, text: &[u8]) -> Result<String, AllocError> {
     format!(in alloc; "\"{text}\"")
 }
 
-/// The words for a text at `place` that isn't `wanted` digits, such as `7`.
+/// Returns the words for a text at `place`, if it isn't `least` to `most` digits.
 pub(crate) fn digits_words(
     alloc: Global,
     place: &str,
     text: &[u8],
-    wanted: &str,
-) -> Result<String, AllocError> {
+    least: usize,
+    most: usize,
+) -> Result<Option<String>, AllocError> {
+    if least <= text.len() && text.len() <= most && text.iter().all(|b| b.is_ascii_digit()) {
+        return Ok(None);
+    }
     let text = quoted(alloc, text)?;
-    format!(in alloc; "{place}: expected {wanted} digits, found {text}")
+    let words = if least == most {
+        format!(in alloc; "{place}: expected {most} digits, found {text}")?
+    } else {
+        format!(in alloc; "{place}: expected {least} to {most} digits, found {text}")?
+    };
+    Ok(Some(words))
 }

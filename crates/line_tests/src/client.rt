@@ -4,7 +4,7 @@ ghost use Rattle.std.specs.Io.{ReadsAtMost};
 
 use crate::calls::{Parts, ended_said};
 use crate::words::{fault_said, words_of};
-use cli_run::{Feed, Turns};
+use cli_run::Feed;
 use cli_words::{Line, parse_words};
 use desk_client::{Connect, LastTry, Service, ask_command, end_asked};
 use station_core::Counted;
@@ -238,8 +238,7 @@ fn run(
     room: usize,
 ) -> Option<String> {
     let port = line.at?;
-    let turns = Turns::new();
-    let mut feed = Feed::new(Parts::new(input, false, &turns), &turns);
+    let mut feed = Feed::new(Parts::new(input, false));
     let wire = Wire::new(alloc);
     let mut service = Service {
         connections: Scripted {

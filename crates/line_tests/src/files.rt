@@ -2,7 +2,7 @@
 use crate::calls::{Parts, ended_said, now};
 use crate::words::{fault_said, words_of};
 use cli_call::{FileEnd, run_file, run_file_beside};
-use cli_run::{Feed, Turns, is_migration, is_opening};
+use cli_run::{Feed, is_migration, is_opening};
 use cli_words::{Line, parse_words};
 use sqlite::{Connection, FileStore, Files, Options};
 use sqlite_disk::{Disk, Memory};
@@ -159,8 +159,7 @@ fn call(alloc: Global, bytes: &mut FileBytes, text: &str) -> Option<String> {
 
 fn run(alloc: Global, bytes: &mut FileBytes, line: &Line<'_>, input: &str) -> Option<String> {
     let opened = bytes.open(alloc, line)?;
-    let turns = Turns::new();
-    let mut feed = Feed::new(Parts::new(input, false, &turns), &turns);
+    let mut feed = Feed::new(Parts::new(input, false));
     let mut output = Counted::new(Narrow::new(alloc, usize::MAX));
     let mut errors = Counted::new(Vec::new(alloc));
     let at = now()?;

@@ -3,10 +3,10 @@ use Rattle.std.proofs.Common.{◌≡◌, ◌∙◌, ℕ, ◌+◌, ◌<◌, ◌�
 use Rattle.std.proofs.lemmas.Bool.{cases_lt}
 use Rattle.std.proofs.lemmas.Bool.Decides.{nat_tests}
 use Rattle.agent_stock.specs.Stock.{Holders}
-use Rattle.agent_stock.specs.Runs.{AreStockRuns}
+use Rattle.agent_stock.specs.Runs.{AreStockRuns, IsNoneFrom, with_run}
 use Rattle.agent_stock.specs.declared.runs.StockRun.{StockRun}
 use Rattle.agent_stock.specs.declared.stock.Holder.{Holder}
-use Rattle.map_state.specs.Runs.{IsNoneFrom, below, named_by, with_numbers, with_run}
+use Rattle.map_state.specs.Runs.{below, named_by, with_numbers}
 use Rattle.map_state.proofs.Named.{AreAbove, Entries, Names, Rise, begins, named, one_name}
 
 -- ---- numbers of one holder, some more of them

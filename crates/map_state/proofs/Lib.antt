@@ -1,7 +1,6 @@
 mod Ahead
 mod BookLists
 mod Examples
-mod JoinedRuns
 mod KeptRows
 mod Named
 mod NotedOrder

@@ -23,7 +23,8 @@ use Rattle.shipment_machine.proofs.FlightKeys.{same-is, same-refl}
 use Rattle.station_core.specs.Step.{State, has_room}
 use Rattle.station_core.specs.Told.{on_cargo}
 use Rattle.state_store.specs.FlightKey.{by_key}
-use Rattle.map_state.specs.Maps.{declared_in, part_of, texts_in, trail_in, trail_line}
+use Rattle.map_state.specs.Maps.{declared_in, part_of, trail_in, trail_line}
+use Rattle.station_core.specs.Texts.{texts_in}
 use Rattle.map_state.specs.Shown.{Shows, state_of}
 use Rattle.map_state.specs.Summed.{IsSummed}
 use Rattle.state_store.specs.declared.flight_key.FlightKey.{FlightKey}

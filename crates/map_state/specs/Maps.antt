@@ -11,6 +11,7 @@ use Rattle.shipment_machine.specs.declared.moves.Declared.{Declared}
 use Rattle.shipment_machine.specs.declared.moves.Outbound.{Outbound}
 use Rattle.shipment_machine.specs.declared.moves.Part.{Part}
 use Rattle.state_store.specs.ExpectedLines.{lines_in}
+use Rattle.station_core.specs.Texts.{texts_in}
 use Rattle.map_state.specs.Stock.{holders_of}
 use Rattle.state_store.specs.declared.flight_key.FlightKey.{FlightKey}
 use Rattle.map_state.specs.declared.state.MapState.{MapState}
@@ -34,9 +35,6 @@ trail_line row = (row.awb, row.line.items)
 
 abbrev pub trail_in : List TrailEntry → List (ℕ × List ℕ)
 trail_in rows = map trail_line rows
-
-abbrev pub texts_in : {Z : Type 0} → List (Vec ℕ Z) → List (List ℕ)
-texts_in rows = map (λ text. text.items) rows
 
 abbrev pub cargo_of : MapState → Cargo
 cargo_of k = record {

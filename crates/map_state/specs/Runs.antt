@@ -1,16 +1,12 @@
 -- The holder of each number, by entries that hold up to the next one.
-use Rattle.std.specs.Prelude.{ℕ, ◌≡◌, ◌≤◌, ◌&&◌, nat_le, nat_lt, if◌then◌else◌, Option, Some, None, List, [], ◌∷◌}
-use Rattle.agent_stock.specs.Stock.{Holders, is_among}
+use Rattle.std.specs.Prelude.{ℕ, ◌&&◌, nat_le, nat_lt, if◌then◌else◌, Option, Some, None, List, [], ◌∷◌}
+use Rattle.agent_stock.specs.Stock.{Holders}
 use Rattle.agent_stock.specs.declared.stock.Holder.{Holder}
-use Rattle.agent_stock.specs.declared.runs.StockRun.{StockRun}
 
 -- the holder named by the last entry up to the number, `before` if there is none
 abbrev pub named_by : Option Holder → List (ℕ × Option Holder) → ℕ → Option Holder
 named_by before [] q = before
 named_by before (e ∷ es) q = named_by (if nat_le e.0 q then e.1 else before) es q
-
-abbrev pub with_run : Holders → StockRun → Holders
-with_run held row q = if is_among row.first row.count q then Some row.holder else held q
 
 -- the stock in which one holder has the numbers from one up to another
 abbrev pub with_numbers : Holders → ℕ → ℕ → Holder → Holders
@@ -18,7 +14,3 @@ with_numbers held from end holder q = if nat_le from q && nat_lt q end then Some
 
 abbrev pub below : ℕ → Holders → Holders
 below end held q = if nat_lt q end then held q else None
-
--- nobody holds a number from here on
-abbrev pub IsNoneFrom : ℕ → Holders → Type 0
-IsNoneFrom from held = (q : ℕ) → from ≤ q → held q ≡ None

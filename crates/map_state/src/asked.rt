@@ -2,7 +2,8 @@
 ghost use Rattle.std.specs.Prelude.{◌≡◌, ◌+◌, ◌≤◌, ◌++◌, ◌∷◌, [], drop, length, IfOk, OnOk};
 ghost use Rattle.station_core.specs.Readers.{book_row, is_of_flight, lines_for, message, movements_for, numbered, trail_row};
 ghost use Rattle.map_state.specs.Asked.{first_line, first_movement, if_line, if_movement, is_line_of, is_movement_of};
-ghost use Rattle.map_state.specs.Maps.{texts_in, trail_in, trail_line};
+ghost use Rattle.map_state.specs.Maps.{trail_in, trail_line};
+ghost use Rattle.station_core.specs.Texts.{texts_in};
 
 use crate::state::TrailEntry;
 use shipment_machine::{FlightDate, Move, Place};

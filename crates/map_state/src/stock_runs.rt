@@ -1,60 +1,15 @@
 //! The stock as its maximal runs.
-ghost use Rattle.std.specs.Prelude.{◌≡◌, ◌+◌, ◌≤◌, ◌↔◌, IsTrue, IfOk, OnOk};
-ghost use Rattle.awb_number.specs.Number.{prefix_of, serial_of, serials};
-ghost use Rattle.agent_stock.specs.Runs.{AreStockRuns};
+ghost use Rattle.std.specs.Prelude.{IfOk, OnOk};
+ghost use Rattle.agent_stock.specs.Runs.{AreStockRuns, IsNoneFrom};
 ghost use Rattle.agent_stock.specs.Stock.{Holders};
-ghost use Rattle.map_state.specs.Runs.{IsNoneFrom, with_numbers, with_run};
-ghost use Rattle.map_state.specs.Stock.{GoesOn, holders_of};
+ghost use Rattle.map_state.specs.Runs.{with_numbers};
+ghost use Rattle.map_state.specs.Stock.{holders_of};
 
 use crate::stock::MapStock;
-use agent_stock::{Holder, StockRun};
+use agent_stock::{Holder, StockRun, put_run};
 use awb_number::{Awb, SERIALS};
 use state_store::StoreFault;
 use std::alloc::Global;
-
-fn is_one(holder: &Holder, other: &Holder) -> bool
-    ensures { IsTrue result ↔ (holder.now ≡ other.now) }
-{
-    match (holder, other) {
-        (Holder::Desk, Holder::Desk) => true,
-        (Holder::Agent(code), Holder::Agent(other)) => code.as_bytes() == other.as_bytes(),
-        (Holder::Used, Holder::Used) => true,
-        (Holder::Void, Holder::Void) => true,
-        _ => false,
-    }
-}
-
-fn goes_on(row: &StockRun, next: &StockRun) -> bool
-    ensures { IsTrue result ↔ GoesOn row.now next.now }
-{
-    row.first.prefix() == next.first.prefix()
-        && row.first.key() + u64::from(row.count) == next.first.key()
-        && is_one(&row.holder, &next.holder)
-}
-
-/// Appends a run, or extends the last one by it.
-fn put_run(rows: &mut Vec<StockRun>, next: StockRun) -> Result<(), StoreFault>
-    requires some { 1 ≤ next.count }
-    requires one_prefix { serial_of next.first + next.count ≤ serials }
-    ensures { (held : Holders) → IsNoneFrom next.first held → AreStockRuns held rows.old.items
-        → OnOk result (AreStockRuns (with_run held next) rows.new.items) }
-{
-    let Some(last) = rows.pop() else {
-        rows.push(next)?;
-        return Ok(());
-    };
-    if goes_on(&last, &next) {
-        rows.push(StockRun {
-            first: last.first,
-            count: last.count + next.count,
-            holder: last.holder,
-        })?;
-    } else {
-        rows.push(last)?;
-        rows.push(next)?;
-    }
-    Ok(())
-}
 
 /// Appends the numbers from one key up to another, which one holder has: a run for each prefix. A
 /// key that isn't a number's is a fault.

@@ -2,8 +2,8 @@
 use crate::given::{agent, number, run};
 use crate::said::yes_or_no;
 use agent_stock::{
-    AgentCode, Held, Holder, Order, PlainRows, StockFault, StockRows, StockRun, carry_out,
-    give_back, issue, runs_of, take_in, void_run,
+    AgentCode, Holder, Order, PlainRows, StockFault, StockRows, StockRun, carry_out, give_back,
+    issue, maximal_runs, take_in, void_run,
 };
 use awb_number::Awb;
 use std::alloc::{AllocError, Global};
@@ -28,7 +28,7 @@ pub fn answer(alloc: Global, stock: &mut PlainRows, asked: &str, text: &[u8]) ->
         "runs" => runs_said(alloc, stock.runs(alloc).ok()?.as_slice()),
         "runs-of" => runs_said(
             alloc,
-            runs_of(alloc, &all_held(alloc, &mut words)?)
+            maximal_runs(alloc, &all_held(alloc, &mut words)?)
                 .ok()?
                 .as_slice(),
         ),
@@ -74,7 +74,7 @@ fn runs_said(alloc: Global, runs: &[StockRun]) -> Option<String> {
 }
 
 /// Reads numbers with their holders, each a serial of prefix 020 and a word.
-fn all_held(alloc: Global, words: &mut SplitWhitespace<'_>) -> Option<Vec<Held>> {
+fn all_held(alloc: Global, words: &mut SplitWhitespace<'_>) -> Option<Vec<StockRun>> {
     let mut all = Vec::new(alloc);
     for _ in 0..100 {
         let Some(number) = words.next() else {
@@ -86,7 +86,12 @@ fn all_held(alloc: Global, words: &mut SplitWhitespace<'_>) -> Option<Vec<Held>>
             "void" => Holder::Void,
             code => Holder::Agent(AgentCode::read(code.as_bytes())?),
         };
-        all.push(Held { number, holder }).ok()?;
+        let row = StockRun {
+            first: number,
+            count: 1,
+            holder,
+        };
+        all.push(row).ok()?;
     }
     None
 }

@@ -48,11 +48,6 @@ tie_same a b one other h =
     let is : a ≡ b = λ i. record { flight = flights i; day = days i } in
     ap (same_flight_date a) (sym is) ∙ same-refl a
 
-pub tie_expected : (a b : FlightDate) (v w : ℕ) → (by_flight a b ≡ Equal → same_flight_date a b ≡ true) → by_expectation (a, v) (b, w) ≡ Equal → (same_flight_date a b && (v == w)) ≡ true
-tie_expected a b v w same h =
-    let parts = both_equal _ _ h in
-    and_from _ _ (same parts.0) (eq-eqb v w (nat_cmp-IsAntisymmetric v w parts.1))
-
 pub same_back : (a b : FlightDate) (v w : ℕ) → (same_flight_date a b && (v == w)) ≡ true → (same_flight_date b a && (w == v)) ≡ true
 same_back a b v w h =
     let both = and_parts _ _ h in
@@ -70,9 +65,6 @@ any_at p (y ∷ xs) zero x d low read h = ap (λ b. b || list_any p xs) (sym (ap
 any_at p (y ∷ xs) (suc i) x d low read h = ap (λ b. p y || b) (any_at p xs i x d (omega arith) read h) ∙ or_true (p y)
 
 -- ---- flights
-
-pub none_noted : AreNoted (flights_in []) []
-none_noted = record { rising = refl; same = λ f. refl }
 
 abbrev noted : FlightRow → NotedFlight
 noted row = record { flight = row.flight; outbound = row.outbound }
@@ -103,9 +95,6 @@ flight_there seen row rows are listed =
     }
 
 -- ---- what flights are to bring
-
-pub none_expected : AreExpectations (expected_in []) []
-none_expected = record { rising = refl; same = λ f w. refl }
 
 abbrev expectation : ExpectedRow → Expectation
 expectation row = record { flight = row.flight; awb = row.awb; expected = row.expected }

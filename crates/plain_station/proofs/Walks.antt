@@ -1,8 +1,8 @@
 -- One more element of a list that is walked.
-use Rattle.std.proofs.Common.{◌≡◌, ℕ, ◌+◌, ◌<◌, ◌≤◌, Bool, true, false, List, [], ◌∷◌, ◌++◌, length, take, drop, map, refl, sym, ap, ◌∙◌, get_or, sum_by, All, append-nil, subst}
+use Rattle.std.proofs.Common.{◌≡◌, ℕ, ◌+◌, ◌<◌, ◌≤◌, Bool, true, false, List, [], ◌∷◌, ◌++◌, length, take, drop, sym, ap, ◌∙◌, get_or, sum_by, All, append-nil, subst}
 use Rattle.std.specs.List.{filter}
 use Rattle.std.proofs.lemmas.Bool.{cond-true, cond-false}
-use Rattle.std.proofs.lemmas.List.{map_more, take_more, drop_more, drop_all}
+use Rattle.std.proofs.lemmas.List.{take_more, drop_more, drop_all}
 use Rattle.std.proofs.lemmas.List.Sums.{sum_by_more}
 use Rattle.std.proofs.lemmas.List.Elements.{filter_more, All-get_or}
 use Rattle.std.proofs.Math.Bool.{cond}
@@ -18,14 +18,6 @@ passed_over p xs ys zs i x lt read before fails after =
     after ∙ before ∙ sym (append-nil (filter p (take i xs)))
     ∙ ap (λ l. filter p (take i xs) ++ l) (sym (cond-false (p x) (x ∷ []) [] fails) ∙ ap (λ y. cond (p y) (y ∷ []) []) read)
     ∙ sym (filter_more p xs i x lt)
-
-pub mapped : {X Y : Type 0} (f : X → Y) (xs : List X) (ys zs : List Y) (i : ℕ) (x : X) → i < length xs → x ≡ get_or xs i x → ys ≡ map f (take i xs) → zs ≡ ys ++ f x ∷ [] → zs ≡ map f (take (i + 1) xs)
-mapped f xs ys zs i x lt read before after =
-    after ∙ ap (λ l. l ++ f x ∷ []) before ∙ ap (λ y. map f (take i xs) ++ f y ∷ []) read ∙ sym (map_more f xs i x lt)
-
-pub map_twice : {X Y Z : Type 0} (g : Y → Z) (f : X → Y) (xs : List X) → map (λ x. g (f x)) xs ≡ map g (map f xs)
-map_twice g f [] = refl
-map_twice g f (x ∷ xs) = ap (λ l. g (f x) ∷ l) (map_twice g f xs)
 
 -- what holds of all elements holds of the one that was read
 pub holds_of : {X : Type 0} (P : X → Type 0) (xs ys : List X) (i : ℕ) (x : X) → ys ≡ xs → i < length ys → x ≡ get_or ys i x → All P xs → P x

@@ -1,5 +1,5 @@
 -- The cargo in lists of rows.
-use Rattle.std.specs.Prelude.{ℕ, ◌&&◌, ◌==◌, Option, List, Vec, map}
+use Rattle.std.specs.Prelude.{ℕ, ◌&&◌, ◌==◌, Option, List, map}
 use Rattle.std.specs.Option.{option_map}
 use Rattle.std.specs.List.{find}
 use Rattle.agent_stock.specs.Plain.{holders_of}
@@ -10,6 +10,7 @@ use Rattle.shipment_machine.specs.declared.moves.Expected.{Expected}
 use Rattle.shipment_machine.specs.declared.moves.Part.{Part}
 use Rattle.shipment_machine.specs.Flights.{same_flight_date}
 use Rattle.shipment_machine.specs.Cargo.{Cargo, same_part}
+use Rattle.station_core.specs.Texts.{texts_in}
 use Rattle.plain_station.specs.declared.rows.DeclaredRow.{DeclaredRow}
 use Rattle.plain_station.specs.declared.rows.FlightRow.{FlightRow}
 use Rattle.plain_station.specs.declared.rows.ExpectedRow.{ExpectedRow}
@@ -36,10 +37,6 @@ trail_row row = (row.awb, row.line.items)
 
 abbrev pub trail_in : List TrailRow → List (ℕ × List ℕ)
 trail_in rows = map trail_row rows
-
--- The messages, in order.
-abbrev pub texts_in : {Z : Type 0} → List (Vec ℕ Z) → List (List ℕ)
-texts_in rows = map (λ text. text.items) rows
 
 abbrev pub cargo_of : CargoLists → Cargo
 cargo_of c = record {

@@ -4,7 +4,8 @@ use Rattle.agent_stock.specs.Plain.{holders_of}
 use Rattle.shipment_machine.specs.Cargo.{Cargo}
 use Rattle.plain_station.specs.declared.lists.CargoLists.{CargoLists}
 use Rattle.plain_station.specs.declared.writing.Next.{Next}
-use Rattle.plain_station.specs.Lists.{declared_in, flights_in, expected_in, parts_in, trail_in, texts_in}
+use Rattle.plain_station.specs.Lists.{declared_in, flights_in, expected_in, parts_in, trail_in}
+use Rattle.station_core.specs.Texts.{texts_in}
 
 abbrev pub cargo_with : CargoLists → Next → Cargo
 cargo_with c next = record {

@@ -5,21 +5,21 @@ ghost use Rattle.shipment_machine.specs.Flights.{same_flight_date};
 use awb_number::Awb;
 use shipment_machine::{Declared, Expected, FlightDate, Outbound, Part};
 
-#[derive(Clone, Copy, Debug)]
+#[derive(Clone, Copy)]
 pub(crate) struct DeclaredRow {
     pub(crate) awb: Awb,
     pub(crate) declared: Declared,
 }
 
 /// The note of an outbound flight.
-#[derive(Clone, Copy, Debug)]
+#[derive(Clone, Copy)]
 pub(crate) struct FlightRow {
     pub(crate) flight: FlightDate,
     pub(crate) outbound: Outbound,
 }
 
 /// The expectation of a waybill on a flight.
-#[derive(Clone, Copy, Debug)]
+#[derive(Clone, Copy)]
 pub(crate) struct ExpectedRow {
     pub(crate) flight: FlightDate,
     pub(crate) awb: Awb,
@@ -37,7 +37,7 @@ impl ExpectedRow {
 }
 
 /// A part of a manifest, and its telegram.
-#[derive(Debug, Drop)]
+#[derive(Drop)]
 pub(crate) struct PartRow {
     pub(crate) part: Part,
     pub(crate) text: Vec<u8>,
@@ -54,7 +54,7 @@ impl PartRow {
 }
 
 /// A line of the trail of a waybill.
-#[derive(Debug, Drop)]
+#[derive(Drop)]
 pub(crate) struct TrailRow {
     pub(crate) awb: Awb,
     pub(crate) line: Vec<u8>,

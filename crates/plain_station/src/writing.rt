@@ -3,7 +3,8 @@ ghost use Rattle.std.specs.Prelude.{◌≡◌, ◌==◌, ◌+◌, if◌then◌el
 ghost use Rattle.agent_stock.specs.Plain.{holders_of};
 ghost use Rattle.agent_stock.specs.declared.stock.Holder.TheVariants.{Used};
 ghost use Rattle.shipment_machine.specs.Cargo.{written, written_all};
-ghost use Rattle.plain_station.specs.Lists.{cargo_of, texts_in};
+ghost use Rattle.plain_station.specs.Lists.{cargo_of};
+ghost use Rattle.station_core.specs.Texts.{texts_in};
 ghost use Rattle.plain_station.specs.Next.{cargo_with};
 ghost use Rattle.plain_station.specs.Doing.{Does};
 ghost use Rattle.station_core.specs.Step.{cargo_acted, sent, has_room, most_rows};
@@ -15,10 +16,9 @@ use crate::lists::CargoLists;
 use crate::rows::{DeclaredRow, ExpectedRow, FlightRow, PartRow, TrailRow};
 use agent_stock::{Holder, PlainRows, Run, StockRows};
 use awb_number::Awb;
-use shipment_machine::{Change, Move, Notice, Plan};
-use station_core::{ActFault, NO_NUMBERS_LEFT};
+use shipment_machine::{Change, Move, Plan};
+use station_core::{ActFault, NO_NUMBERS_LEFT, notice_texts};
 use std::alloc::{AllocError, Global};
-use telegrams::notice_text;
 
 /// Marks an agent's number as used.
 fn use_up(stock: &mut PlainRows, awb: &Awb) -> Result<(), AllocError>
@@ -124,25 +124,6 @@ impl Next {
     }
 }
 
-fn put_text(alloc: Global, texts: &mut Vec<Vec<u8>>, notice: &Notice) -> Result<(), AllocError>
-    ensures { OnOk result (texts_in texts.new.items ≡ texts_in texts.old.items ++ notice_text
-        notice.now ∷ []) }
-{
-    let text = notice_text(alloc, notice)?;
-    texts.push(text)?;
-    Ok(())
-}
-
-fn texts_of(alloc: Global, notices: &[Notice]) -> Result<Vec<Vec<u8>>, AllocError>
-    ensures { IfOk result (λ texts. texts_in texts.items ≡ map notice_text notices.now) }
-{
-    let mut texts = Vec::new(alloc);
-    for notice in notices {
-        put_text(alloc, &mut texts, notice)?;
-    }
-    Ok(texts)
-}
-
 /// Returns whether `rows` and `more` rows can be numbered.
 fn can_be_numbered(rows: usize, more: usize) -> bool
     ensures { result ≡ nat_le (rows + more) most_rows }
@@ -203,7 +184,7 @@ impl CargoLists {
         ensures { Does (cargo_acted text.now (cargo_of self.old) (Ok (outcome_of plan.now)))
             (cargo_of self.old) result (cargo_of self.new) }
     {
-        let Ok(messages) = texts_of(self.alloc, &plan.notices) else {
+        let Ok(messages) = notice_texts(self.alloc, &plan.notices) else {
             return Err(ActFault::Memory);
         };
         let Ok(next) = Next::after(self, text, &plan.changes) else {

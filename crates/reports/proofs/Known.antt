@@ -21,9 +21,6 @@ pub of_one : (Open May : Type 0) (Is : List ℕ → Type 0) (front text : List �
 of_one Open May Is front text old new (Ok x) is h = (text, is, h)
 of_one Open May Is front text old new (Err e) is h = (inl (text, is, h.0), have_gone (front ++ text) e.sent old new h.0.0, h.0.1, h.1)
 
-pub each_of_one : (Open May : Type 0) (Is : List ℕ → Type 0) (front text : List ℕ) (old new : Given) (r : Result (Unit {0}) ReportFault) → ((t : List ℕ) → Is t → t ≡ text) → HasEnded Open May (front ++ text) old new r → HasEndedEach Open May Is front old new r
-each_of_one Open May Is front text old new r only h = record { text = λ t is. subst (λ u. HasEnded Open May (front ++ u) old new r) (sym (only t is)) h }
-
 fault_of : (start : Given) (text : List ℕ) (n : ℕ) (p q : Progress) (e : ActFault) (r : Result (Unit {0}) ReportFault)
     → ((why : ReportCause) → p.cause ≡ Some why → (r ≡ Err (record { sent = p.sent; cause = why })) × (q ≡ p))
     → (p.cause ≡ None → (r ≡ Err (record { sent = p.sent; cause = cause.Act e })) × (q ≡ p))

@@ -1,5 +1,5 @@
 /// The form in which a listing is written.
-#[derive(Clone, Copy, Debug, PartialEq, Eq)]
+#[derive(Clone, Copy, PartialEq, Eq)]
 pub enum Form {
     /// A line for each row, and a last line `END` with the number of rows.
     Text,

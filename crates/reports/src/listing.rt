@@ -8,7 +8,7 @@ use awb_number::Awb;
 use shipment_machine::FlightDate;
 
 /// A listing of rows, in the order of the report that has all of them.
-#[derive(Clone, Copy, Debug, PartialEq, Eq)]
+#[derive(Clone, Copy, PartialEq, Eq)]
 pub enum Listing {
     /// All rows of a report.
     All(Report),

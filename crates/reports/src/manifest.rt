@@ -12,7 +12,7 @@ use station_core::{ActFault, BookQuery, Keeper, Sink, hand_out};
 use std::alloc::Global;
 
 /// A waybill on a flight.
-#[derive(Clone, Copy, Debug, PartialEq, Eq)]
+#[derive(Clone, Copy)]
 pub struct ManifestRow {
     pub awb: Awb,
     /// The amount built for the flight now.

@@ -3,7 +3,7 @@ ghost use Rattle.std.specs.Prelude.{◌≡◌};
 ghost use Rattle.reports.specs.Reports.{report_called};
 
 /// A report of a station.
-#[derive(Clone, Copy, Debug, PartialEq, Eq)]
+#[derive(Clone, Copy, PartialEq, Eq)]
 pub enum Report {
     /// The stock as maximal runs of one holder, ascending: `020 1234567 1234569        3 DESK`.
     Stock,

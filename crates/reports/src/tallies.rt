@@ -14,7 +14,7 @@ use std::alloc::Global;
 use std::collections::BTreeMap;
 
 /// The pieces and tenths of a kilogram of some movements.
-#[derive(Clone, Copy, Debug, PartialEq, Eq)]
+#[derive(Clone, Copy)]
 struct Count {
     pieces: u64,
     tenths: u64,
@@ -44,7 +44,7 @@ impl Count {
 }
 
 /// The sums of a waybill's movements on a flight.
-#[derive(Clone, Copy, Debug, PartialEq, Eq)]
+#[derive(Clone, Copy)]
 struct Tally {
     awb: Awb,
     /// The amount built for the flight.

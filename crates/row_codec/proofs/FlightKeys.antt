@@ -15,7 +15,7 @@ use Rattle.shipment_machine.specs.Cargo.{same_part}
 use Rattle.shipment_machine.specs.declared.flight.FlightDate.{FlightDate}
 use Rattle.shipment_machine.specs.declared.moves.Part.{Part}
 use Rattle.shipment_machine.proofs.FlightKeys.{same-is}
-use Rattle.row_laws.proofs.Keys.{pair_eq, int_tied}
+use Rattle.station_schema.proofs.OneRow.{pair_eq, int_tied}
 use Rattle.station_schema.specs.Tables.{flight_cmp, expected_cmp, part_cmp}
 use Rattle.row_codec.specs.Flights.{is_designator, is_flight_text, is_written, flight_key}
 use Rattle.row_codec.specs.Manifests.{expected_key, part_key}

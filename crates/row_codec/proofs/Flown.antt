@@ -15,7 +15,7 @@ use Rattle.shipment_machine.specs.declared.flight.FlightDate.{FlightDate}
 use Rattle.shipment_machine.specs.declared.moves.Place.TheVariants.{Hand, Surplus, Free, Built, Departed, Delivered, Missing, Transferred}
 use Rattle.station_core.specs.Readers.{is_named, is_of_flight}
 use Rattle.station_rows.specs.Meant.{is_flown}
-use Rattle.row_laws.proofs.Keys.{texts_total}
+use Rattle.station_schema.proofs.OneRow.{texts_total}
 use Rattle.station_schema.specs.Tables.{Move}
 use Rattle.row_codec.specs.Numbers.{natural, is_day, is_number, is_within}
 use Rattle.row_codec.specs.Flights.{flight_date_of, is_designator, is_flight_text}

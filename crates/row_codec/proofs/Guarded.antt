@@ -4,7 +4,7 @@ use Rattle.std.specs.Cmp.{IsTotalOrder}
 use Rattle.std.specs.Ordering.{eq_by_cmp}
 use Rattle.std.specs.FinMap.{FinMap, get, insert, get-insert}
 use Rattle.std.proofs.lemmas.Bool.{false_from_ne_true}
-use Rattle.row_laws.specs.Columns.{adjust}
+use Rattle.station_schema.specs.ColumnKeys.{adjust}
 
 -- where there is a row, changing it is writing it
 pub adjusted : {K V : Type 0} {R : K → K → Ordering} (m : FinMap R V) (k : K) (v was : V) → get m k ≡ Some was → adjust m k (λ _. v) ≡ insert m k v

@@ -7,7 +7,7 @@ use Rattle.std.specs.Ordering.{eq_by_cmp}
 use Rattle.std.specs.FinMap.{FinMap, IsAntisymmetric, find, entries, get, insert, get-insert, get-entries}
 use Rattle.sqlite.specs.Tree.{IsAscending}
 use Rattle.sqlite_keyed.proofs.ListLemmas.{all_weaker, all_both}
-use Rattle.row_laws.proofs.Maps.{entries_rise}
+use Rattle.station_schema.proofs.Maps.{entries_rise}
 
 is_tied : (o : Ordering) → is_eq o ≡ true → o ≡ Equal
 is_tied Less h = absurd (cc)

@@ -1,6 +1,6 @@
 -- The row of a move is within range, and is read as that move.
 use Rattle.std.proofs.Common.{◌≡◌, ℕ, ◌<◌, pos, Bool, true, false, Option, Some, is_some, unwrap_or, option_map, IsTrue, refl, ap, ◌∙◌, arith}
-use Rattle.std.proofs.lemmas.Bool.{and_parts, and_from, or_right}
+use Rattle.std.proofs.lemmas.Bool.{and_parts, and_from}
 use Rattle.imp_fields.specs.Amount.{IsPieces, IsBookTenths}
 use Rattle.imp_fields.specs.Flight.{Designator, flight_text}
 use Rattle.shipment_machine.specs.Flights.{same_flight_date}
@@ -13,7 +13,7 @@ use Rattle.station_schema.specs.Tables as table
 use Rattle.row_codec.specs.Numbers.{natural, is_within, is_number, is_day}
 use Rattle.row_codec.specs.Flights.{is_designator, flight_date_of}
 use Rattle.row_codec.specs.Moves.{place_code, place_of, move_by, move_row, flight_column, day_column, are_flight_columns, is_move_row}
-use Rattle.row_codec.proofs.FlightKeys.{read_again, written_reads}
+use Rattle.row_codec.proofs.FlightKeys.{read_again}
 use Rattle.row_codec.proofs.Fits.{within, pieces_fit, tenths_fit}
 
 pub built_again : (on flight : FlightDate) → same_flight_date flight on ≡ true → place_of (pos 3) (Some flight) ≡ Some (Built on)
@@ -21,9 +21,6 @@ built_again on flight e = ap (λ (f : FlightDate). Some (Built f)) (same-is flig
 
 pub columns_again : (f : FlightDate) → IsTrue (is_designator f.flight) → flight_date_of (flight_text f.flight) (pos f.day) ≡ Some f
 columns_again f is = ap (option_map (λ (d : Designator). let one : FlightDate = record { flight = d; day = f.day } in one)) (read_again f.flight is)
-
-pub columns_fit : (f : FlightDate) → IsTrue (is_designator f.flight) → IsTrue (is_day (pos f.day)) → IsTrue (are_flight_columns (flight_text f.flight) (pos f.day))
-columns_fit f is day = or_right _ _ (and_from _ _ (written_reads f.flight is) day)
 
 -- a move is read column by column
 pub move_is : (row : table.Move) (m : Move) → m.awb ≡ natural row.awb → m.from ≡ unwrap_or (place_of row.src m.flight) Hand → m.to ≡ unwrap_or (place_of row.dst m.flight) Hand → m.pieces ≡ natural row.pieces

@@ -3,7 +3,7 @@ use std::alloc::{AllocError, AllocFailed};
 /// A failed call of a store: a call of its database failed, or couldn't be made because no
 /// transaction was open for a write or an earlier call had failed, or memory ran out after the
 /// store was called.
-#[derive(Clone, Copy, Debug, PartialEq, Eq)]
+#[derive(Clone, Copy)]
 pub struct StoreFault;
 
 impl From<AllocError> for StoreFault {

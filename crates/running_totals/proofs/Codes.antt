@@ -6,7 +6,7 @@ use Rattle.shipment_machine.specs.declared.flight.FlightDate.{FlightDate}
 use Rattle.shipment_machine.specs.declared.moves.Place.{Place}
 use Rattle.shipment_machine.specs.declared.moves.Place.TheVariants.{Hand, Surplus, Free, Built, Departed, Delivered, Missing, Transferred}
 use Rattle.shipment_machine.proofs.FlightKeys.{same-is, same-refl}
-use Rattle.row_laws.proofs.Keys.{pair_eq, int_tied, first_true, second_true}
+use Rattle.station_schema.proofs.OneRow.{pair_eq, int_tied, first_true, second_true}
 use Rattle.station_schema.specs.Tables.{CountKey, count_cmp}
 use Rattle.row_codec.specs.Counts.{Running, unless_nothing, count_row}
 use Rattle.row_codec.specs.Moves.{place_code, plain_place}

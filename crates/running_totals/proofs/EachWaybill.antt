@@ -17,7 +17,7 @@ use Rattle.shipment_machine.specs.declared.moves.Move.{Move}
 use Rattle.shipment_machine.specs.declared.moves.Place.TheVariants.{Hand, Surplus, Free, Departed, Delivered, Missing, Transferred}
 use Rattle.station_core.specs.Told.{AreAllBalances, nothing}
 use Rattle.station_core.specs.declared.stored.WaybillBalances.{WaybillBalances}
-use Rattle.row_laws.proofs.Maps.{entries_rise}
+use Rattle.station_schema.proofs.Maps.{entries_rise}
 use Rattle.station_schema.proofs.Keys.{count_total}
 use Rattle.station_schema.specs.Tables.{Count, CountKey, count_cmp}
 use Rattle.station_rows.specs.Meant.{count_meant, counts_for}

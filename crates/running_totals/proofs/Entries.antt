@@ -6,7 +6,7 @@ use Rattle.std.specs.Ordering.{eq_by_cmp}
 use Rattle.std.specs.FinMap.{FinMap, find, entries, get, get-entries}
 use Rattle.sqlite.specs.Tree.{IsAscending}
 use Rattle.sqlite_keyed.proofs.ListLemmas.{all_weaker, all_both}
-use Rattle.row_laws.proofs.Maps.{entries_rise}
+use Rattle.station_schema.proofs.Maps.{entries_rise}
 
 turn : {K : Type 0} (R : K → K → Ordering) → IsTotalOrder R → (x y : K) → eq_by_cmp R x y ≡ eq_by_cmp R y x
 turn R total = (eq_by_cmp_equiv total).symm

@@ -22,8 +22,8 @@ use Rattle.shipment_machine.proofs.Rising.{Rising-filter, same_rising}
 use Rattle.shipment_machine.proofs.OnFlight.{Rising-waybills_of, is_in-waybills_on}
 use Rattle.station_core.specs.Told.{load_on, loads_on}
 use Rattle.station_core.specs.declared.stored.Load.{Load}
-use Rattle.row_laws.proofs.Keys.{texts_total, first_true, second_true}
-use Rattle.row_laws.proofs.Maps.{entries_rise, ascending_where, all_passed}
+use Rattle.station_schema.proofs.OneRow.{texts_total, first_true, second_true}
+use Rattle.station_schema.proofs.Maps.{entries_rise, ascending_where, all_passed}
 use Rattle.station_schema.specs.Tables.{Build, BuildKey, build_cmp}
 use Rattle.station_rows.specs.Meant.{is_on, pieces_in}
 use Rattle.row_codec.specs.Numbers.{natural}

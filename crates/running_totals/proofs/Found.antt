@@ -4,7 +4,7 @@ use Rattle.std.specs.List.{filter, find}
 use Rattle.std.specs.Ordering.{eq_by_cmp}
 use Rattle.std.specs.FinMap.{FinMap, entries, get, get-entries}
 use Rattle.std.specs.FinMap as map
-use Rattle.row_laws.proofs.Keys.{pair_eq, int_tied, int_turned}
+use Rattle.station_schema.proofs.OneRow.{pair_eq, int_tied, int_turned}
 use Rattle.station_schema.specs.Tables.{Count, CountKey, count_cmp}
 use Rattle.station_rows.specs.Meant.{count_meant, counts_for}
 use Rattle.station_rows.specs.declared.counts.CountRow.{CountRow}

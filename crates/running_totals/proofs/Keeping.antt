@@ -10,7 +10,7 @@ use Rattle.shipment_machine.specs.declared.flight.FlightDate.{FlightDate}
 use Rattle.shipment_machine.specs.declared.moves.Move.{Move}
 use Rattle.shipment_machine.specs.declared.moves.Place.{Place}
 use Rattle.shipment_machine.specs.declared.moves.Place.TheVariants.{Built}
-use Rattle.row_laws.proofs.Keys.{pair_total, pair_same, texts_total, texts_same}
+use Rattle.station_schema.proofs.OneRow.{pair_total, pair_same, texts_total, texts_same}
 use Rattle.station_schema.specs.Store.{View, inside, IsShowing}
 use Rattle.station_schema.specs.Tables.{Tables, CountKey, count_cmp, BuildKey, build_cmp}
 use Rattle.row_codec.specs.Counts.{Running, running, running_in, running_on, count_row, build_row, is_nothing, unless_nothing, AreCounts, AreBuilds}

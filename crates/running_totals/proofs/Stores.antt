@@ -2,7 +2,7 @@
 use Rattle.std.proofs.Common.{◌≡◌, Bool, true, false, is_some, Option, Some, None, Result, option_map, refl, sym, ap, ap₂, subst, ◌∙◌}
 use Rattle.std.specs.Prelude.{if◌then◌else◌, IfOk, OnOk, Ok, Err}
 use Rattle.std.specs.FinMap.{get, insert, remove}
-use Rattle.row_laws.specs.Columns.{adjust}
+use Rattle.station_schema.specs.ColumnKeys.{adjust}
 use Rattle.station_schema.specs.Store.{View, Seen, Survives, Displays, inside, IsShowing}
 use Rattle.station_schema.specs.Tables.{Tables, Count, CountKey, Build, BuildKey}
 use Rattle.station_rows.specs.Meant.{without_count, changing_count, with_count, without_build, changing_build, with_build}

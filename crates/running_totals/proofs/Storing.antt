@@ -3,7 +3,7 @@ use Rattle.std.proofs.Common.{◌≡◌, pos, Bool, true, false, cond, is_some, 
 use Rattle.std.specs.Cmp.{IsTotalOrder}
 use Rattle.std.specs.Ordering.{eq_by_cmp, int_eq}
 use Rattle.std.specs.FinMap.{FinMap, get, insert, get-insert, get-remove}
-use Rattle.row_laws.proofs.Keys.{first_true, second_true}
+use Rattle.station_schema.proofs.OneRow.{first_true, second_true}
 use Rattle.row_codec.specs.Counts.{Running, is_nothing, unless_nothing}
 use Rattle.running_totals.specs.Sums.{plus}
 use Rattle.running_totals.specs.Stored.{stored, come_to}

@@ -13,7 +13,7 @@ use Rattle.shipment_machine.specs.Book.{same_place}
 use Rattle.shipment_machine.specs.declared.flight.FlightDate.{FlightDate}
 use Rattle.shipment_machine.specs.declared.moves.Place.{Place}
 use Rattle.shipment_machine.specs.declared.moves.Place.TheVariants.{Hand, Surplus, Free, Built, Departed, Delivered, Missing, Transferred}
-use Rattle.row_laws.proofs.Keys.{pair_eq, int_tied, texts_total, texts_same, first_true, second_true}
+use Rattle.station_schema.proofs.OneRow.{pair_eq, int_tied, texts_total, texts_same, first_true, second_true}
 use Rattle.station_schema.specs.Tables.{BuildKey, build_cmp}
 use Rattle.row_codec.specs.Counts.{Running, unless_nothing, build_row, written_flight}
 use Rattle.row_codec.specs.Flights.{is_written, is_flight_text}

@@ -2,7 +2,7 @@
 use Rattle.std.specs.Prelude.{ℤ, pos, Bool, if◌then◌else◌, is_some, Option, Some, None}
 use Rattle.std.specs.declared.cmp.Ordering.{Ordering}
 use Rattle.std.specs.FinMap.{FinMap, get, insert, remove}
-use Rattle.row_laws.specs.Columns.{adjust}
+use Rattle.station_schema.specs.ColumnKeys.{adjust}
 use Rattle.station_schema.specs.Tables.{Tables, Count, CountKey, Build, BuildKey}
 use Rattle.row_codec.specs.Counts.{Running, is_nothing, running_in, running_on, count_row, build_row}
 use Rattle.running_totals.specs.Sums.{plus}

@@ -12,7 +12,7 @@ use awb_number::Awb;
 use shipment_machine::{FlightDate, Place};
 
 /// What a waybill has at each place but the built ones: what came, less what left.
-#[derive(Clone, Copy, Debug, PartialEq, Eq)]
+#[derive(Clone, Copy)]
 pub(crate) struct PlaceSums {
     pub(crate) hand: Tally,
     pub(crate) surplus: Tally,
@@ -87,14 +87,14 @@ impl PlaceSums {
 }
 
 /// The sums of a waybill at the places that aren't built.
-#[derive(Clone, Copy, Debug, PartialEq, Eq)]
+#[derive(Clone, Copy)]
 pub(crate) struct CountSums {
     pub(crate) awb: Awb,
     pub(crate) sums: PlaceSums,
 }
 
 /// The sum of a waybill on a flight.
-#[derive(Clone, Copy, Debug, PartialEq, Eq)]
+#[derive(Clone, Copy)]
 pub(crate) struct BuildSum {
     pub(crate) awb: Awb,
     pub(crate) flight: FlightDate,
@@ -113,7 +113,7 @@ impl BuildSum {
 
 /// The sums that were read last: of a waybill at all places but the built ones, and of one on a
 /// flight. What is written after them is told, so that it needn't be read again.
-#[derive(Clone, Copy, Debug, PartialEq, Eq)]
+#[derive(Clone, Copy)]
 pub struct KnownSums {
     pub(crate) counts: Option<CountSums>,
     pub(crate) build: Option<BuildSum>,

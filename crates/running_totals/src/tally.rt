@@ -8,7 +8,7 @@ use shipment_machine::Amount;
 use station_rows::{BuildRow, CountRow, StoreFault};
 
 /// Pieces and tenths of a row: what came, less what left.
-#[derive(Clone, Copy, Debug, PartialEq, Eq)]
+#[derive(Clone, Copy)]
 pub(crate) struct Tally {
     pub pieces: i64,
     pub tenths: i64,

@@ -1,7 +1,6 @@
 pub mod Examples
 pub mod Unlawful
 pub mod Crowd
-pub mod ByNumber
 pub mod BalanceLaws
 pub mod Keeps
 pub mod Rising

@@ -23,7 +23,7 @@ use station_days::{LocalDay, Moment};
 use std::alloc::AllocError;
 
 /// A proposed declaration. Its amounts may exceed the bounds.
-#[derive(Clone, Copy, Debug)]
+#[derive(Clone, Copy)]
 pub(crate) struct ProposedDeclaration {
     pub(crate) origin: Airport,
     pub(crate) destination: Airport,

@@ -5,7 +5,7 @@ ghost use Rattle.shipment_machine.specs.Airline.{airline_of};
 use std::marker::Model;
 
 /// An airline, by its designator: two upper-case letters or digits, at least one of them a letter.
-#[derive(Clone, Copy, Debug, PartialEq, Eq)]
+#[derive(Clone, Copy, PartialEq, Eq)]
 pub struct Airline {
     designator: [u8; 2],
 }

@@ -5,7 +5,7 @@ use imp_fields::{MOST_PIECES, MOST_TENTHS, share};
 use std::fmt;
 
 /// Pieces, with their weight in tenths of a kilogram. As a sum it has no bound.
-#[derive(Clone, Copy, Debug, PartialEq, Eq)]
+#[derive(Clone, Copy, PartialEq, Eq)]
 pub struct Amount {
     pub pieces: u32,
     pub tenths: u32,

@@ -15,7 +15,7 @@ use station_days::DayMonth;
 use std::marker::Model;
 
 /// A number of counted pieces, 0 to 9999.
-#[derive(Clone, Copy, Debug, PartialEq, Eq, PartialOrd, Ord)]
+#[derive(Clone, Copy, PartialEq, Eq, PartialOrd, Ord)]
 pub struct PieceCount {
     number: u32,
 }
@@ -56,7 +56,7 @@ impl PieceCount {
 }
 
 /// A consignment line of a telegram. A missing weight is 0.
-#[derive(Clone, Copy, Debug, PartialEq, Eq)]
+#[derive(Clone, Copy)]
 pub struct CargoLine {
     pub awb: Awb,
     pub origin: Airport,
@@ -68,7 +68,7 @@ pub struct CargoLine {
 }
 
 /// A consignment line of a flight manifest, and the airport above it.
-#[derive(Clone, Copy, Debug, PartialEq, Eq)]
+#[derive(Clone, Copy)]
 pub struct InboundLine {
     pub unload: Airport,
     pub cargo: CargoLine,
@@ -133,7 +133,7 @@ pub struct InboundStatus<'a> {
 }
 
 /// A command of the desk.
-#[derive(Clone, Copy, Debug, PartialEq, Eq)]
+#[derive(Clone, Copy, PartialEq, Eq)]
 pub enum DeskCommand {
     /// Declares a waybill.
     Book {

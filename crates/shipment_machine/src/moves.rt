@@ -8,7 +8,7 @@ use imp_fields::{Airport, BookTenths, Goods, PartNumber, Pieces};
 use station_days::{LocalDay, Moment};
 
 /// A place for pieces of a waybill. The first two are outside the station.
-#[derive(Clone, Copy, Debug, PartialEq, Eq)]
+#[derive(Clone, Copy)]
 pub enum Place {
     /// With the shipper, agent or airline that hands the pieces over.
     Hand,
@@ -46,7 +46,7 @@ impl Place {
 
 /// The balances of a waybill: what came from outside, and what is at each place except the built
 /// ones.
-#[derive(Clone, Copy, Debug, PartialEq, Eq)]
+#[derive(Clone, Copy)]
 pub struct Balances {
     /// The amount received from a shipper, an agent or an airline.
     pub taken: Amount,
@@ -60,7 +60,7 @@ pub struct Balances {
 }
 
 /// A row of the movement book.
-#[derive(Clone, Copy, Debug, PartialEq, Eq)]
+#[derive(Clone, Copy)]
 pub struct Move {
     pub awb: Awb,
     pub from: Place,
@@ -73,7 +73,7 @@ pub struct Move {
 }
 
 /// A waybill's declaration.
-#[derive(Clone, Copy, Debug, PartialEq, Eq)]
+#[derive(Clone, Copy, PartialEq, Eq)]
 pub struct Declared {
     pub origin: Airport,
     pub destination: Airport,
@@ -87,7 +87,7 @@ pub struct Declared {
 }
 
 /// An outbound flight.
-#[derive(Clone, Copy, Debug, PartialEq, Eq)]
+#[derive(Clone, Copy)]
 pub struct Outbound {
     /// The airport of unloading.
     pub unload: Airport,
@@ -96,7 +96,7 @@ pub struct Outbound {
 }
 
 /// The announced amount of a waybill on a flight.
-#[derive(Clone, Copy, Debug, PartialEq, Eq)]
+#[derive(Clone, Copy)]
 pub struct Expected {
     pub pieces: Pieces,
     pub tenths: BookTenths,
@@ -105,7 +105,7 @@ pub struct Expected {
 }
 
 /// A part of a flight manifest.
-#[derive(Clone, Copy, Debug, PartialEq, Eq)]
+#[derive(Clone, Copy, PartialEq, Eq)]
 pub struct Part {
     pub flight: FlightDate,
     /// The airport of departure.

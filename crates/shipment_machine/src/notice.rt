@@ -7,7 +7,7 @@ use station_days::Moment;
 use std::marker::Model;
 
 /// A status event.
-#[derive(Clone, Copy, Debug, PartialEq, Eq)]
+#[derive(Clone, Copy)]
 pub enum Event {
     /// RCS: received from the shipper or an agent.
     ReceivedFromShipper {
@@ -48,7 +48,7 @@ pub enum Event {
 }
 
 /// A waybill on a flight manifest, with the amount on the flight.
-#[derive(Clone, Copy, Debug)]
+#[derive(Clone, Copy)]
 pub struct ManifestLine {
     pub consigned: WaybillSummary,
     pub pieces: Pieces,

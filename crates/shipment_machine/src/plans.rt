@@ -11,7 +11,7 @@ use std::alloc::{AllocError, AllocFailed};
 use std::fmt;
 
 /// The subject of a refusal.
-#[derive(Clone, Copy, Debug, PartialEq, Eq)]
+#[derive(Clone, Copy, PartialEq, Eq)]
 pub enum Detail {
     Nothing,
     Waybill(Awb),
@@ -48,7 +48,7 @@ impl fmt::Display for Detail {
 }
 
 /// The refusal of a command: a number of the station's list, and its subject.
-#[derive(Clone, Copy, Debug, PartialEq, Eq)]
+#[derive(Clone, Copy, PartialEq, Eq)]
 pub struct Refusal {
     pub number: u16,
     pub detail: Detail,
@@ -118,7 +118,7 @@ pub struct Plan<'a> {
 }
 
 /// The reason why there is no plan.
-#[derive(Clone, Copy, Debug, PartialEq, Eq)]
+#[derive(Clone, Copy)]
 pub enum PlanFault {
     Refused(Refusal),
     /// Memory ran out. There is no guarantee about the command.

@@ -10,7 +10,7 @@ use imp_fields::Airport;
 use std::marker::Model;
 
 /// The view for declaring a waybill.
-#[derive(Clone, Copy, Debug)]
+#[derive(Clone, Copy)]
 pub struct DeclarationView {
     pub declared: Option<Declared>,
     /// True if the book has a move of the waybill. The balances don't show it: pieces may have
@@ -20,14 +20,14 @@ pub struct DeclarationView {
 }
 
 /// A waybill with its balances.
-#[derive(Clone, Copy, Debug)]
+#[derive(Clone, Copy)]
 pub struct WaybillView {
     pub declared: Option<Declared>,
     pub balances: Balances,
 }
 
 /// A flight, viewed from a waybill to be built on it.
-#[derive(Clone, Copy, Debug)]
+#[derive(Clone, Copy)]
 pub struct FlightView {
     pub outbound: Option<Outbound>,
     /// The number of waybills built on the flight.
@@ -37,7 +37,7 @@ pub struct FlightView {
 }
 
 /// A waybill built on a flight.
-#[derive(Clone, Copy, Debug)]
+#[derive(Clone, Copy)]
 pub struct FlightLoad {
     pub awb: Awb,
     pub declared: Declared,
@@ -85,7 +85,7 @@ impl Loads {
 }
 
 /// The rows stored for the waybill of a manifest line.
-#[derive(Clone, Copy, Debug)]
+#[derive(Clone, Copy)]
 pub struct LineView {
     pub declared: Option<Declared>,
     pub holder: Option<Holder>,
@@ -124,7 +124,7 @@ impl LineViews {
 }
 
 /// The key of the rows that a command of the desk reads.
-#[derive(Clone, Copy, Debug, PartialEq, Eq)]
+#[derive(Clone, Copy)]
 pub enum RowsKey {
     /// The declaration of a waybill.
     Declaration(Awb),

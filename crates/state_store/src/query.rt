@@ -6,7 +6,7 @@ ghost use Rattle.state_store.specs.Waybills.{is_asked_for};
 use shipment_machine::Balances;
 
 /// A query of waybills.
-#[derive(Clone, Copy, Debug, PartialEq, Eq)]
+#[derive(Clone, Copy)]
 pub enum WaybillQuery {
     /// The waybills with pieces in store.
     Stored,

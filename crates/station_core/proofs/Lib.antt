@@ -1,6 +1,7 @@
 pub mod Asked
 mod Examples
 mod Keys
+pub mod Mapped
 pub mod Premise
 mod RangeLaws
 mod Reading

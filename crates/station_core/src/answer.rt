@@ -7,7 +7,7 @@ pub const NO_NUMBERS_LEFT: Refusal = Refusal {
 };
 
 /// The reply to an accepted input.
-#[derive(Clone, Copy, Debug, PartialEq, Eq)]
+#[derive(Clone, Copy)]
 pub struct Reply {
     /// The numbers of an order's run, the pieces of a desk command, the newly confirmed messages,
     /// or the lines of a telegram.
@@ -15,14 +15,14 @@ pub struct Reply {
 }
 
 /// The answer to an input.
-#[derive(Clone, Copy, Debug, PartialEq, Eq)]
+#[derive(Clone, Copy)]
 pub enum Answer {
     Done(Reply),
     Refused(Refusal),
 }
 
 /// The reason why an input wasn't accepted, or a reader didn't answer.
-#[derive(Clone, Copy, Debug, PartialEq, Eq)]
+#[derive(Clone, Copy, PartialEq, Eq)]
 pub enum ActFault {
     /// Nothing changed.
     Refused(Refusal),
@@ -37,7 +37,7 @@ pub enum ActFault {
 
 /// The answers to a list of inputs, and the fault that ended it early. That fault is never
 /// `Refused`, which is an answer.
-#[derive(Debug, Drop)]
+#[derive(Drop)]
 pub struct AllAnswers {
     pub answers: Vec<Answer>,
     pub fault: Option<ActFault>,

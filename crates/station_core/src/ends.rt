@@ -6,10 +6,10 @@ ghost use Rattle.station_core.specs.Given.{Given, nothing_given};
 ghost use Rattle.station_core.specs.Ends.{ReadStep, WriteStep, Sent, HasCause, NoneFailed, OneFailed};
 
 use crate::tally::{Call, Tally};
-use std::io::{ErrorKind, Read, Write};
+use std::io::{ErrorKind, Read, Stdin, Write};
 
 /// The reason why a read moved nothing.
-#[derive(Clone, Copy, Debug, PartialEq, Eq)]
+#[derive(Clone, Copy)]
 pub enum ReadFault {
     /// Interrupted: call again.
     Interrupted,
@@ -18,7 +18,7 @@ pub enum ReadFault {
 }
 
 /// A write failed.
-#[derive(Clone, Copy, Debug, PartialEq, Eq)]
+#[derive(Clone, Copy)]
 pub struct WriteFault;
 
 /// A reader, described by what it gave: the bytes, the calls, the failures, and the calls that
@@ -47,6 +47,23 @@ pub trait ByteOut {
     {}
 }
 
+/// A reader of several inputs, one after another.
+pub trait InputReader: Read {
+    /// The relation of the reader to itself at the next input.
+    ghost begun: { Self → Self → Type 0 };
+
+    /// Begins the next input, also the first one. Nothing is read.
+    fn begin_input(&mut self)
+        ensures { begun self.old self.new };
+}
+
+/// Standard input is one input, whichever is begun.
+impl InputReader for Stdin {
+    ghost begun = { λ old new. new ≡ old };
+
+    fn begin_input(&mut self) {}
+}
+
 /// A reader or a writer of std, with a count of its calls that only contracts see.
 #[derive(Drop)]
 pub struct Counted<T> {
@@ -72,6 +89,16 @@ impl<T> Counted<T> {
     {
         let Counted { inner, tally: _ } = self;
         inner
+    }
+}
+
+impl<T: InputReader> Counted<T> {
+    /// Begins the next input of the reader, which isn't a call that counts.
+    pub fn begin_input(&mut self)
+        ensures begun { T.begun (inner_of self.old) (inner_of self.new) }
+        ensures unread { given_of self.new ≡ given_of self.old }
+    {
+        self.inner.begin_input();
     }
 }
 

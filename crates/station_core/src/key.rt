@@ -10,7 +10,7 @@ use std::marker::Model;
 const LONGEST: usize = 40;
 
 /// The key of a command: 1 to 40 bytes from 0x21 to 0x7E. Contracts see it as that text.
-#[derive(Clone, Copy, Debug, PartialEq, Eq)]
+#[derive(Clone, Copy, PartialEq, Eq)]
 pub struct Key {
     // Zeros pad the key.
     bytes: [u8; LONGEST],

@@ -21,7 +21,7 @@ mod texts;
 
 pub use all::{act_all, answer_one};
 pub use answer::{ActFault, AllAnswers, Answer, NO_NUMBERS_LEFT, Reply};
-pub use ends::{ByteIn, ByteOut, Counted, ReadFault, WriteFault, send};
+pub use ends::{ByteIn, ByteOut, Counted, InputReader, ReadFault, WriteFault, send};
 pub use expected_query::expectations_for;
 pub use gathered::Gathered;
 pub use input::Input;
@@ -37,4 +37,4 @@ pub use rows::{
 pub use shipment::shipment_of;
 pub use stock::{count_of_order, refusal_of_order};
 pub use stored::{KeptReply, Load, Sizes, Summary, WaybillBalances};
-pub use texts::{detail_text, refusal_text, reply_text};
+pub use texts::{detail_text, notice_texts, refusal_text, reply_text};

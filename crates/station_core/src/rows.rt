@@ -38,7 +38,7 @@ impl RowText {
 }
 
 /// The record of a waybill: its declaration and its balances.
-#[derive(Clone, Copy, Debug, PartialEq, Eq)]
+#[derive(Clone, Copy, PartialEq, Eq)]
 pub struct Waybill {
     pub declared: Declared,
     /// The amount received from a shipper, an agent or an airline.
@@ -55,7 +55,7 @@ pub struct Waybill {
 }
 
 /// A waybill with missing or found pieces.
-#[derive(Clone, Copy, Debug, PartialEq, Eq)]
+#[derive(Clone, Copy)]
 pub struct IrregularRow {
     pub awb: Awb,
     pub origin: Airport,
@@ -65,7 +65,7 @@ pub struct IrregularRow {
 }
 
 /// A waybill with pieces in store.
-#[derive(Clone, Copy, Debug, PartialEq, Eq)]
+#[derive(Clone, Copy)]
 pub struct ShedRow {
     pub awb: Awb,
     pub origin: Airport,
@@ -79,14 +79,14 @@ pub struct ShedRow {
 }
 
 /// A noted flight: something was built on it.
-#[derive(Clone, Copy, Debug, PartialEq, Eq)]
+#[derive(Clone, Copy)]
 pub struct NotedFlight {
     pub flight: FlightDate,
     pub outbound: Outbound,
 }
 
 /// A noted flight with its load.
-#[derive(Clone, Copy, Debug, PartialEq, Eq)]
+#[derive(Clone, Copy)]
 pub struct FlightRow {
     pub noted: NotedFlight,
     /// The number of waybills built on the flight.
@@ -98,7 +98,7 @@ pub struct FlightRow {
 }
 
 /// The expectation of a waybill on a flight.
-#[derive(Clone, Copy, Debug, PartialEq, Eq)]
+#[derive(Clone, Copy)]
 pub struct Expectation {
     pub flight: FlightDate,
     pub awb: Awb,
@@ -106,7 +106,7 @@ pub struct Expectation {
 }
 
 /// The expectation of a waybill on a flight, with the waybill's route.
-#[derive(Clone, Copy, Debug, PartialEq, Eq)]
+#[derive(Clone, Copy)]
 pub struct ExpectedRow {
     pub expectation: Expectation,
     pub origin: Airport,
@@ -114,7 +114,7 @@ pub struct ExpectedRow {
 }
 
 /// A query of expectations.
-#[derive(Clone, Copy, Debug, PartialEq, Eq)]
+#[derive(Clone, Copy)]
 pub enum ExpectedQuery {
     /// All expectations.
     All,
@@ -123,7 +123,7 @@ pub enum ExpectedQuery {
 }
 
 /// A row of the movement book.
-#[derive(Clone, Copy, Debug, PartialEq, Eq)]
+#[derive(Clone, Copy)]
 pub struct BookRow {
     /// The position in the book, from 1.
     pub number: u32,
@@ -131,7 +131,7 @@ pub struct BookRow {
 }
 
 /// A query of the movement book.
-#[derive(Clone, Copy, Debug, PartialEq, Eq)]
+#[derive(Clone, Copy)]
 pub enum BookQuery {
     /// All movements.
     All,
@@ -146,7 +146,7 @@ pub enum BookQuery {
 }
 
 /// A query of the outbox.
-#[derive(Clone, Copy, Debug, PartialEq, Eq)]
+#[derive(Clone, Copy)]
 pub enum MessageQuery {
     /// The unconfirmed messages.
     Pending,
@@ -187,7 +187,7 @@ pub struct TrailRow {
 }
 
 /// A query of the trail.
-#[derive(Clone, Copy, Debug, PartialEq, Eq)]
+#[derive(Clone, Copy)]
 pub enum TrailQuery {
     /// All lines.
     All,

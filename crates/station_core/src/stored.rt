@@ -4,7 +4,7 @@ use imp_fields::Airport;
 use shipment_machine::{Amount, Balances};
 
 /// The reply stored under a key.
-#[derive(Debug, Drop)]
+#[derive(Drop)]
 pub struct KeptReply {
     /// The command's text.
     pub request: String,
@@ -13,21 +13,21 @@ pub struct KeptReply {
 }
 
 /// The amount of a waybill built on a flight.
-#[derive(Clone, Copy, Debug, PartialEq, Eq)]
+#[derive(Clone, Copy)]
 pub struct Load {
     pub awb: Awb,
     pub amount: Amount,
 }
 
 /// The balances of a waybill.
-#[derive(Clone, Copy, Debug, PartialEq, Eq)]
+#[derive(Clone, Copy)]
 pub struct WaybillBalances {
     pub awb: Awb,
     pub balances: Balances,
 }
 
 /// The numbers of moves, trail lines and messages. Each of the three is numbered from 1.
-#[derive(Clone, Copy, Debug, PartialEq, Eq)]
+#[derive(Clone, Copy)]
 pub struct Sizes {
     pub moves: u32,
     pub lines: u32,
@@ -35,7 +35,7 @@ pub struct Sizes {
 }
 
 /// A station at a glance.
-#[derive(Clone, Copy, Debug, PartialEq, Eq)]
+#[derive(Clone, Copy)]
 pub struct Summary {
     pub here: Airport,
     pub sizes: Sizes,

@@ -1,10 +1,12 @@
-//! Replies and refusals as texts.
-ghost use Rattle.std.specs.Prelude.{◌≡◌, IfOk, string_bytes};
-ghost use Rattle.station_core.specs.Texts.{detail_text, refusal_text, reply_text};
+//! Replies, refusals and notices as texts.
+ghost use Rattle.std.specs.Prelude.{◌≡◌, ◌++◌, ◌∷◌, [], map, IfOk, OnOk, string_bytes};
+ghost use Rattle.telegrams.specs.NoticeText.{notice_text};
+ghost use Rattle.station_core.specs.Texts.{detail_text, refusal_text, reply_text, texts_in};
 
 use crate::answer::Reply;
-use shipment_machine::{Detail, Refusal};
+use shipment_machine::{Detail, Notice, Refusal};
 use std::alloc::{AllocError, Global};
+use telegrams::notice_text;
 
 /// Returns a text such as `ok 10`.
 pub fn reply_text(alloc: Global, reply: &Reply) -> Result<String, AllocError>
@@ -28,4 +30,24 @@ pub fn refusal_text(alloc: Global, refusal: &Refusal) -> Result<String, AllocErr
     ensures { IfOk result (λ text. string_bytes text ≡ refusal_text refusal.now) }
 {
     format!(in alloc; "{refusal}")
+}
+
+fn put_text(alloc: Global, texts: &mut Vec<Vec<u8>>, notice: &Notice) -> Result<(), AllocError>
+    ensures { OnOk result (texts_in texts.new.items
+        ≡ texts_in texts.old.items ++ notice_text notice.now ∷ []) }
+{
+    let text = notice_text(alloc, notice)?;
+    texts.push(text)?;
+    Ok(())
+}
+
+/// Returns the texts of notices, in order. Returns an error if memory runs out.
+pub fn notice_texts(alloc: Global, notices: &[Notice]) -> Result<Vec<Vec<u8>>, AllocError>
+    ensures { IfOk result (λ texts. texts_in texts.items ≡ map notice_text notices.now) }
+{
+    let mut texts = Vec::new(alloc);
+    for notice in notices {
+        put_text(alloc, &mut texts, notice)?;
+    }
+    Ok(texts)
 }

@@ -1,5 +1,5 @@
 -- Writing the effect of an accepted input.
-use Rattle.std.specs.Prelude.{ℕ, List, map, Vec}
+use Rattle.std.specs.Prelude.{ℕ, List}
 use Rattle.shipment_machine.specs.declared.plans.Change.{Change}
 use Rattle.shipment_machine.specs.declared.plans.Plan.{Plan}
 use Rattle.shipment_machine.specs.Agreement.{outcome_of}
@@ -10,9 +10,6 @@ use Rattle.station_core.specs.Told.{on_cargo}
 
 abbrev pub with_changes : List ℕ → List Change → State → State
 with_changes text changes = on_cargo (written_all text changes)
-
-abbrev pub texts_in : {Z : Type 0} → List (Vec ℕ Z) → List (List ℕ)
-texts_in rows = map (λ text. text.items) rows
 
 abbrev pub with_plan : List ℕ → Plan → List (List ℕ) → State → State
 with_plan text plan messages = on_cargo (λ c. sent messages (carried_out text (outcome_of plan) c))

@@ -10,40 +10,21 @@ ghost use Rattle.telegrams.specs.NoticeText.{notice_text};
 ghost use Rattle.station_core.specs.Step.{IsLawfulState, acted, stock_acted, cargo_acted};
 ghost use Rattle.station_engine.specs.Serving.{IfPlanned, IsEffect, IsNewTo, IsPlanned, IsRequestOf, Served};
 ghost use Rattle.state_store.specs.Store.{Reads};
-ghost use Rattle.station_engine.specs.Written.{texts_in};
+ghost use Rattle.station_core.specs.Texts.{texts_in};
 
 use crate::carrying::{commit_plan, keep_and_commit};
 use crate::replying::known;
 use crate::room::has_room;
 use agent_stock::{Order, StockFault};
 use desk_commands::Command;
-use shipment_machine::{DeskRef, Notice, Plan, PlanFault, Refusal, ShipmentCommand, plan};
+use shipment_machine::{DeskRef, Plan, PlanFault, Refusal, ShipmentCommand, plan};
 use state_store::{StateStore, StoreFault, view};
 use station_core::{
-    Answer, Input, NO_NUMBERS_LEFT, Reply, count_of_order, refusal_of_order, shipment_of,
+    Answer, Input, NO_NUMBERS_LEFT, Reply, count_of_order, notice_texts, refusal_of_order,
+    shipment_of,
 };
 use station_days::Moment;
 use std::alloc::{AllocError, Global};
-use telegrams::notice_text;
-
-fn put_text(alloc: Global, texts: &mut Vec<Vec<u8>>, notice: &Notice) -> Result<(), AllocError>
-    ensures { OnOk result (texts_in texts.new.items
-        ≡ texts_in texts.old.items ++ notice_text notice.now ∷ []) }
-{
-    let text = notice_text(alloc, notice)?;
-    texts.push(text)?;
-    Ok(())
-}
-
-fn texts_of(alloc: Global, notices: &[Notice]) -> Result<Vec<Vec<u8>>, AllocError>
-    ensures { IfOk result (λ texts. texts_in texts.items ≡ map notice_text notices.now) }
-{
-    let mut texts = Vec::new(alloc);
-    for notice in notices {
-        put_text(alloc, &mut texts, notice)?;
-    }
-    Ok(texts)
-}
 
 /// Plans a command from what the store shows, or refuses it.
 fn plan_on<'a, S: StateStore>(
@@ -79,7 +60,7 @@ fn do_plan<S: StateStore>(
     ensures { (at : LocalMinute) → Served S.storing store.old store.new result input.now at
         (λ s. IsPlanned s input.now at text.now plan.now) }
 {
-    let messages = texts_of(alloc, &plan.notices)?;
+    let messages = notice_texts(alloc, &plan.notices)?;
     if !has_room(&store.sizes(), plan, &messages) {
         return Ok(Answer::Refused(NO_NUMBERS_LEFT));
     }

@@ -5,7 +5,8 @@ ghost use Rattle.station_core.specs.Step.{State, kept_with};
 ghost use Rattle.station_engine.specs.Serving.{IsRequestOf};
 ghost use Rattle.state_store.specs.Store.{Changes, Commits, MayLeave, at_rest};
 ghost use Rattle.station_core.specs.Told.{with_moves, with_messages};
-ghost use Rattle.station_engine.specs.Written.{with_changes, with_plan, texts_in};
+ghost use Rattle.station_engine.specs.Written.{with_changes, with_plan};
+ghost use Rattle.station_core.specs.Texts.{texts_in};
 
 use crate::replying::keep;
 use shipment_machine::{Change, Move, Plan};

@@ -7,7 +7,7 @@ ghost use Rattle.shipment_machine.specs.Effect.{carried_out};
 ghost use Rattle.station_core.specs.Step.{has_room, sent, most_rows};
 ghost use Rattle.station_engine.specs.Room.{is_line};
 ghost use Rattle.station_core.specs.Told.{sizes_of};
-ghost use Rattle.station_engine.specs.Written.{texts_in};
+ghost use Rattle.station_core.specs.Texts.{texts_in};
 
 use shipment_machine::{Change, Plan};
 use station_core::Sizes;

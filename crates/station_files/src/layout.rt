@@ -3,7 +3,7 @@
 use sqlite_trees::store::Shape;
 
 /// The shape of a tree, and a bit for each column of type REAL.
-#[derive(Clone, Copy, Debug, PartialEq, Eq)]
+#[derive(Clone, Copy)]
 pub struct Layout {
     pub shape: Shape,
     pub reals: u64,

@@ -18,11 +18,11 @@ use Rattle.sqlite_keyed.proofs.SortLemmas.{pair_cmp}
 use Rattle.sqlite_keyed.proofs.ListLemmas.{map_back}
 use Rattle.sqlite_typed.proofs.TestLemmas.{at_ints, at_texts, last_key, last_term, then_term}
 use Rattle.sqlite_typed.specs.Tests.{bytes_cmp}
-use Rattle.row_laws.proofs.Keyed.{one_table}
-use Rattle.row_laws.proofs.Keys.{first_true, int_both, int_tied, pair_eq, second_true, texts_both}
-use Rattle.row_laws.proofs.Shared.{cast_int, cast_null}
-use Rattle.row_laws.proofs.Texts.{Asks, by_column}
-use Rattle.row_laws.specs.Calls.{Reads}
+use Rattle.station_schema.proofs.Keyed.{one_table}
+use Rattle.station_schema.proofs.OneRow.{first_true, int_both, int_tied, pair_eq, second_true, texts_both}
+use Rattle.station_schema.proofs.Shared.{cast_int, cast_null}
+use Rattle.station_schema.proofs.AnyTexts.{Asks, by_column}
+use Rattle.station_schema.specs.Effects.{Reads}
 use Rattle.station_schema.proofs.Keys.{build_same, build_total}
 use Rattle.station_schema.proofs.Stored.{edits_builds}
 use Rattle.station_schema.specs.Schema.{build, station_schema}

@@ -11,8 +11,8 @@ use Rattle.sqlite_value.specs.Keys.{first_key}
 use Rattle.sqlite_sql.specs.declared.ops.CompareOp.TheVariants.{Eq}
 use Rattle.sqlite_typed.proofs.AnswerLemmas.{unfiltered}
 use Rattle.sqlite_typed.proofs.TestLemmas.{at_ints, last_key, last_term, then_key, then_term}
-use Rattle.row_laws.proofs.Keys.{int_both, int_tied, pair_eq}
-use Rattle.row_laws.proofs.Shared.{cast_int, cast_null}
+use Rattle.station_schema.proofs.OneRow.{int_both, int_tied, pair_eq}
+use Rattle.station_schema.proofs.Shared.{cast_int, cast_null}
 use Rattle.station_schema.proofs.Keys.{count_same, count_total}
 use Rattle.station_schema.proofs.Stored.{edits_counts}
 use Rattle.station_schema.specs.Schema.{counts}

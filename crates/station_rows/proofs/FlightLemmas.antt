@@ -12,8 +12,8 @@ use Rattle.sqlite_sql.specs.declared.ops.CompareOp.TheVariants.{Eq}
 use Rattle.sqlite_typed.proofs.AnswerLemmas.{unfiltered}
 use Rattle.sqlite_typed.proofs.TestLemmas.{at_ints, at_texts, last_key, last_term, then_key, then_term}
 use Rattle.sqlite_typed.specs.Tests.{bytes_cmp}
-use Rattle.row_laws.proofs.Keys.{int_tied, pair_eq}
-use Rattle.row_laws.proofs.Shared.{cast_int, cast_null}
+use Rattle.station_schema.proofs.OneRow.{int_tied, pair_eq}
+use Rattle.station_schema.proofs.Shared.{cast_int, cast_null}
 use Rattle.station_schema.proofs.Keys.{flight_same, flight_total}
 use Rattle.station_schema.proofs.Stored.{edits_flights}
 use Rattle.station_schema.specs.Schema.{flight}

@@ -4,7 +4,7 @@ use Rattle.sqlite.specs.declared.types.Value.TheVariants.{Text}
 use Rattle.sqlite_value.specs.Keys.{first_key}
 use Rattle.sqlite_sql.specs.declared.ops.CompareOp.TheVariants.{Eq}
 use Rattle.sqlite_typed.proofs.TestLemmas.{at_texts, last_term}
-use Rattle.row_laws.proofs.Shared.{cast_int, cast_null}
+use Rattle.station_schema.proofs.Shared.{cast_int, cast_null}
 use Rattle.station_schema.proofs.Keys.{kept_text_same, kept_text_total}
 use Rattle.station_schema.proofs.Stored.{edits_kept_texts}
 use Rattle.station_schema.specs.Schema.{kept_text}

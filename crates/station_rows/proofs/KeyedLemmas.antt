@@ -25,11 +25,11 @@ use Rattle.sqlite_schema.specs.declared.schema.Constraint.TheVariants.{Unique}
 use Rattle.sqlite_typed.proofs.TestLemmas.{turn_eq}
 use Rattle.sqlite_value.specs.Keys.{plain}
 use Rattle.sqlite_value.specs.declared.keys.Key.{Key}
-use Rattle.row_laws.proofs.Columns.{Compares, IsMap, deleted_at, inserted, map_of, row_shown, rows_in_order, updated_at}
-use Rattle.row_laws.proofs.Keyed.{one_table}
-use Rattle.row_laws.proofs.Ran.{IsPlaced, delete_ran, insert_ran, update_ran}
-use Rattle.row_laws.proofs.Texts.{Asks, Means, asks}
-use Rattle.row_laws.specs.Columns.{AreEntries, adjust}
+use Rattle.station_schema.proofs.ColumnKeys.{Compares, IsMap, deleted_at, inserted, map_of, row_shown, rows_in_order, updated_at}
+use Rattle.station_schema.proofs.Keyed.{one_table}
+use Rattle.station_schema.proofs.Ran.{IsPlaced, delete_ran, insert_ran, update_ran}
+use Rattle.station_schema.proofs.AnyTexts.{Asks, Means, asks}
+use Rattle.station_schema.specs.ColumnKeys.{AreEntries, adjust}
 use Rattle.station_schema.specs.Calls.{Edits, IsInside}
 use Rattle.station_schema.specs.Schema.{station_schema}
 use Rattle.station_schema.specs.Tables.{IsStation, Tables, tables_of}

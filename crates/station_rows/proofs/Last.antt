@@ -19,10 +19,10 @@ use Rattle.sqlite_sql.proofs.QueryLemmas.{output_cmp_total}
 use Rattle.sqlite_keyed.proofs.SortLemmas.{sorted_unique}
 use Rattle.sqlite_keyed.proofs.ListLemmas.{all-append, map-map, map_same, filter-map, ascending-append, ascending-filter, ascending-map, IsPermutation-filter}
 use Rattle.sqlite_typed.proofs.AnswerLemmas.{at_end, last_table, matches_are}
-use Rattle.row_laws.specs.Columns.{numbered}
-use Rattle.row_laws.proofs.Keyed.{one_table, no_overlay}
-use Rattle.row_laws.proofs.Columns.{number, entry, IsMap, same_rows}
-use Rattle.row_laws.proofs.Maps.{all_passed, ascending_where, entries_rise}
+use Rattle.station_schema.specs.ColumnKeys.{numbered}
+use Rattle.station_schema.proofs.Keyed.{one_table, no_overlay}
+use Rattle.station_schema.proofs.ColumnKeys.{number, entry, IsMap, same_rows}
+use Rattle.station_schema.proofs.Maps.{all_passed, ascending_where, entries_rise}
 
 one_first : {X : Type 0} (ys : List X) (x : X) (rest : List X) → take 1 (ys ++ (x ∷ rest)) ≡ take 1 (ys ++ (x ∷ []))
 one_first [] x rest = refl

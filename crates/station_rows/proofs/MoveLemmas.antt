@@ -11,11 +11,11 @@ use Rattle.sqlite_keyed.proofs.KeyedLemmas.{IsKeyedBy-insert_by}
 use Rattle.sqlite_keyed.specs.Keyed.{insert_by}
 use Rattle.sqlite_typed.proofs.AnswerLemmas.{unfiltered}
 use Rattle.sqlite_typed.proofs.TestLemmas.{at_ints, at_texts, last_term, then_term}
-use Rattle.row_laws.proofs.Keyed.{one_table, puts}
-use Rattle.row_laws.proofs.Listed.{rows_by_key}
-use Rattle.row_laws.proofs.Ran.{IsPlaced, insert_ran}
-use Rattle.row_laws.proofs.Shared.{cast_int, cast_null}
-use Rattle.row_laws.proofs.Texts.{asks, by_column}
+use Rattle.station_schema.proofs.Keyed.{one_table, puts}
+use Rattle.station_schema.proofs.Listed.{rows_by_key}
+use Rattle.station_schema.proofs.Ran.{IsPlaced, insert_ran}
+use Rattle.station_schema.proofs.Shared.{cast_int, cast_null}
+use Rattle.station_schema.proofs.AnyTexts.{asks, by_column}
 use Rattle.station_schema.proofs.Stored.{edits_moves}
 use Rattle.station_schema.specs.Calls.{Edits, IsInside}
 use Rattle.station_schema.specs.Schema.{moves, station_schema}

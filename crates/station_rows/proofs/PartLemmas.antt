@@ -8,8 +8,8 @@ use Rattle.sqlite_sql.specs.declared.ops.CompareOp.TheVariants.{Eq}
 use Rattle.sqlite_keyed.proofs.SortLemmas.{pair_cmp}
 use Rattle.sqlite_typed.proofs.TestLemmas.{at_ints, at_texts, last_term, then_term}
 use Rattle.sqlite_typed.specs.Tests.{bytes_cmp}
-use Rattle.row_laws.proofs.Keys.{int_tied, pair_eq}
-use Rattle.row_laws.proofs.Shared.{cast_int, cast_null}
+use Rattle.station_schema.proofs.OneRow.{int_tied, pair_eq}
+use Rattle.station_schema.proofs.Shared.{cast_int, cast_null}
 use Rattle.station_schema.proofs.Keys.{part_same, part_total}
 use Rattle.station_schema.proofs.Stored.{edits_parts}
 use Rattle.station_schema.specs.Schema.{part}

@@ -13,10 +13,10 @@ use Rattle.sqlite.specs.declared.error.Error.{Error}
 use Rattle.sqlite_trees.specs.declared.store.Store.{Ghosts}
 use Rattle.sqlite_keyed.proofs.ListLemmas.{map_back}
 use Rattle.sqlite.specs.Query.{Query}
-use Rattle.row_laws.proofs.Handing.{hands}
-use Rattle.row_laws.proofs.Texts.{Asks}
-use Rattle.row_laws.specs.Calls.{Reads, Stops}
-use Rattle.row_laws.specs.Streams.{Streams, StreamsRows}
+use Rattle.station_schema.proofs.Handing.{hands}
+use Rattle.station_schema.proofs.AnyTexts.{Asks}
+use Rattle.station_schema.specs.Effects.{Reads, Stops}
+use Rattle.station_schema.specs.Streams.{Streams, StreamsRows}
 use Rattle.station_schema.proofs.Statements.{still_plain}
 use Rattle.station_schema.specs.Schema.{station_schema}
 use Rattle.station_schema.specs.Tables.{IsStation}

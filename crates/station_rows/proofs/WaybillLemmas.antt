@@ -14,11 +14,11 @@ use Rattle.sqlite_keyed.proofs.KeyedLemmas.{IsKeyedBy-insert_by}
 use Rattle.sqlite_keyed.specs.Keyed.{get_by, insert_by}
 use Rattle.sqlite_keyed.specs.Lists.{update_where}
 use Rattle.sqlite_typed.proofs.TestLemmas.{at_ints, last_term}
-use Rattle.row_laws.proofs.Keyed.{one_table, puts}
-use Rattle.row_laws.proofs.Listed.{changed_at, row_at}
-use Rattle.row_laws.proofs.Ran.{IsPlaced, insert_ran, update_ran}
-use Rattle.row_laws.proofs.Shared.{cast_int, cast_null}
-use Rattle.row_laws.proofs.Texts.{asks}
+use Rattle.station_schema.proofs.Keyed.{one_table, puts}
+use Rattle.station_schema.proofs.Listed.{changed_at, row_at}
+use Rattle.station_schema.proofs.Ran.{IsPlaced, insert_ran, update_ran}
+use Rattle.station_schema.proofs.Shared.{cast_int, cast_null}
+use Rattle.station_schema.proofs.AnyTexts.{asks}
 use Rattle.station_schema.proofs.Stored.{edits_waybills}
 use Rattle.station_schema.specs.Calls.{Edits, IsInside}
 use Rattle.station_schema.specs.Schema.{station_schema, waybill2}

@@ -8,7 +8,7 @@ use Rattle.sqlite.specs.State.{CommitsBy, Executes, HasCleanDisk, State, Survive
 use Rattle.sqlite.specs.declared.error.Error.{Error}
 use Rattle.sqlite_schema.specs.declared.program.Program.{Program}
 use Rattle.sqlite_trees.specs.declared.store.Store.{Ghosts}
-use Rattle.row_laws.proofs.Texts.{Means}
+use Rattle.station_schema.proofs.AnyTexts.{Means}
 use Rattle.station_schema.proofs.Statements.{changes, execute_survives}
 use Rattle.station_schema.specs.Calls.{Alters, Edits, IsInside}
 use Rattle.station_schema.specs.Schema.{station_schema}

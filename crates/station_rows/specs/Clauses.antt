@@ -2,7 +2,7 @@
 use Rattle.std.specs.Prelude.{◌≡◌, ◌⊎◌, Bool, true, List, OnOk, IfOk, IsErr, Result}
 use Rattle.station_schema.specs.Tables.{Tables}
 use Rattle.station_schema.specs.Store.{View, Seen, inside, IsShowing, Rests, Survives}
-use Rattle.row_laws.specs.Streams.{taking}
+use Rattle.station_schema.specs.Streams.{taking}
 use Rattle.row_sinks.specs.Handed.{Hands, HandedOut}
 
 -- a write in a transaction: whatever it showed, it now shows this with one change

@@ -5,7 +5,7 @@ use Rattle.sqlite.specs.Given.{IsPlain}
 use Rattle.sqlite.specs.Listing.{understood}
 use Rattle.sqlite.specs.Order.{Row}
 use Rattle.sqlite.specs.State.{State, Shown}
-use Rattle.row_laws.specs.Calls.{Reads}
+use Rattle.station_schema.specs.Effects.{Reads}
 
 -- each value is read from the row at its place
 abbrev pub AreRead : {X : Type 0} → (Row → X → Type 0) → List Row → List X → Type 0

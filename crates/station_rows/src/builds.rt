@@ -8,12 +8,12 @@ ghost use Rattle.station_rows.specs.Ran.{insert_build_text, update_build_text, d
 
 use crate::queries::{all_rows, first_row};
 use crate::statements::{Read, Write};
-use row_laws::ReadRow;
 use sqlite::{Alter, Connection, Error, Row, params};
+use station_schema::ReadRow;
 use std::alloc::Global;
 
 /// A row of `build`: what a flight carries of a waybill. Its key is flight, day and waybill.
-#[derive(Debug, Drop)]
+#[derive(Drop)]
 pub struct BuildRow {
     /// The flight.
     pub flight: String,

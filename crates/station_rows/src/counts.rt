@@ -7,11 +7,11 @@ ghost use Rattle.station_rows.specs.Ran.{insert_count_text, update_count_text, d
 
 use crate::queries::all_rows;
 use crate::statements::{Read, Write};
-use row_laws::ReadRow;
 use sqlite::{Alter, Connection, Error, Row, params};
+use station_schema::ReadRow;
 
 /// A row of `counts`: what a waybill has at a place. Its key is waybill and place.
-#[derive(Debug, Drop)]
+#[derive(Drop)]
 pub struct CountRow {
     /// The waybill's number.
     pub awb: i64,

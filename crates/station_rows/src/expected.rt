@@ -7,11 +7,11 @@ ghost use Rattle.station_rows.specs.Ran.{insert_expected_text, update_expected_t
 
 use crate::queries::{all_rows, first_row};
 use crate::statements::{Read, Write};
-use row_laws::ReadRow;
 use sqlite::{Alter, Connection, Error, Row, params};
+use station_schema::ReadRow;
 
 /// A row of `expected`, apart from its key: flight, day and waybill.
-#[derive(Debug, Drop)]
+#[derive(Drop)]
 pub struct ExpectedRow {
     /// The pieces that the manifest lists.
     pub pieces: i64,
@@ -22,7 +22,7 @@ pub struct ExpectedRow {
 }
 
 /// A row of `expected` with its key: flight, day and waybill.
-#[derive(Debug, Drop)]
+#[derive(Drop)]
 pub struct ListedWaybillRow {
     /// The flight.
     pub flight: String,

@@ -7,11 +7,11 @@ ghost use Rattle.station_rows.specs.Ran.{insert_flight_text, update_flight_text}
 
 use crate::queries::{all_rows, first_row};
 use crate::statements::{Read, Write};
-use row_laws::ReadRow;
 use sqlite::{Alter, Connection, Error, Row, params};
+use station_schema::ReadRow;
 
 /// A row of `flight`, apart from its key: flight and day.
-#[derive(Debug, Drop)]
+#[derive(Drop)]
 pub struct FlightRow {
     /// The airport of unloading.
     pub unload: String,
@@ -20,7 +20,7 @@ pub struct FlightRow {
 }
 
 /// A row of `flight` with its key: flight and day.
-#[derive(Debug, Drop)]
+#[derive(Drop)]
 pub struct NotedFlightRow {
     /// The flight.
     pub flight: String,

@@ -6,12 +6,12 @@ ghost use Rattle.station_rows.specs.Ran.{insert_move_text};
 
 use crate::queries::all_rows;
 use crate::statements::{Listing, Read, Write};
-use row_laws::{ReadRow, stream};
 use row_sinks::Sink;
 use sqlite::{Alter, Connection, Error, Row, params};
+use station_schema::{ReadRow, stream};
 
 /// A row of `moves`: pieces of a waybill that went from one place to another.
-#[derive(Debug, Drop)]
+#[derive(Drop)]
 pub struct MoveRow {
     /// Its number in the book, from 1. It is the key.
     pub number: i64,
@@ -36,7 +36,7 @@ pub struct MoveRow {
 }
 
 /// Which moves are asked for.
-#[derive(Debug, Drop)]
+#[derive(Drop)]
 pub enum MoveQuery {
     /// All of them.
     All,

@@ -5,12 +5,12 @@ ghost use Rattle.station_rows.specs.Shown.{message_shown, message_read};
 ghost use Rattle.station_rows.specs.Ran.{insert_message_text};
 
 use crate::statements::{Listing, Write};
-use row_laws::{ReadRow, stream};
 use row_sinks::Sink;
 use sqlite::{Alter, Connection, Error, Row, params};
+use station_schema::{ReadRow, stream};
 
 /// A row of `outbox`: a message that the station sent.
-#[derive(Debug, Drop)]
+#[derive(Drop)]
 pub struct MessageRow {
     /// Its number, from 1. It is the key.
     pub number: i64,

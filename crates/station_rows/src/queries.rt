@@ -4,9 +4,9 @@ ghost use Rattle.sqlite.specs.State.{CommitsShowing, HasCleanDisk, Survives};
 ghost use Rattle.sqlite.specs.Values.{bound};
 ghost use Rattle.station_rows.specs.Queries.{AreRead, Queries};
 
-use row_laws::ReadRow;
 use sqlite::types::ValueRef;
 use sqlite::{Alter, Connection, Error, Row};
+use station_schema::ReadRow;
 use std::alloc::Global;
 
 /// Returns the rows that a query shows.

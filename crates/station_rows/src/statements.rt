@@ -2,7 +2,7 @@ ghost use Rattle.std.specs.Prelude.{ℕ, List, Result};
 ghost use Rattle.sqlite.specs.Held.{state};
 ghost use Rattle.sqlite.specs.Order.{Row};
 ghost use Rattle.sqlite.specs.State.{Executes, HasCleanDisk};
-ghost use Rattle.row_laws.specs.Streams.{taking};
+ghost use Rattle.station_schema.specs.Streams.{taking};
 ghost use Rattle.row_sinks.specs.Handed.{HandedOut};
 ghost use Rattle.station_schema.specs.Tables.{Tables};
 ghost use Rattle.station_schema.specs.Calls.{Alters, CommitsNothing, HandsRows, LeavesAll, Tells};

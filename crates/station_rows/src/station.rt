@@ -7,11 +7,11 @@ ghost use Rattle.station_rows.specs.Ran.{confirm_text, confirm_params};
 
 use crate::queries::first_row;
 use crate::statements::{Read, Write};
-use row_laws::ReadRow;
 use sqlite::{Alter, Connection, Error, Row, params};
+use station_schema::ReadRow;
 
 /// The row of `station`.
-#[derive(Debug, Drop)]
+#[derive(Drop)]
 pub struct StationRow {
     /// Always 1.
     pub id: i64,

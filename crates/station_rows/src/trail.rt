@@ -5,12 +5,12 @@ ghost use Rattle.station_rows.specs.Shown.{trail_shown, trail_read};
 ghost use Rattle.station_rows.specs.Ran.{insert_trail_text};
 
 use crate::statements::{Listing, Write};
-use row_laws::{ReadRow, stream};
 use row_sinks::Sink;
 use sqlite::{Alter, Connection, Error, Row, params};
+use station_schema::{ReadRow, stream};
 
 /// A row of `trail`: what a line of a status message says of a waybill.
-#[derive(Debug, Drop)]
+#[derive(Drop)]
 pub struct TrailRow {
     /// Its number, from 1. It is the key.
     pub number: i64,
@@ -21,7 +21,7 @@ pub struct TrailRow {
 }
 
 /// Which lines of the trail are asked for.
-#[derive(Clone, Copy, Debug, PartialEq, Eq)]
+#[derive(Clone, Copy)]
 pub enum LineQuery {
     /// All of them.
     All,

@@ -7,11 +7,11 @@ ghost use Rattle.station_rows.specs.Ran.{insert_waybill_text, update_waybill_tex
 
 use crate::queries::first_row;
 use crate::statements::{Read, Write};
-use row_laws::ReadRow;
 use sqlite::{Alter, Connection, Error, Row, params};
+use station_schema::ReadRow;
 
 /// A row of `waybill2`: what is declared of a waybill.
-#[derive(Debug, Drop)]
+#[derive(Drop)]
 pub struct WaybillRow {
     /// The waybill's number, prefix and serial in one. It is the key.
     pub awb: i64,

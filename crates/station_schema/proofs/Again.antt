@@ -12,7 +12,7 @@ use Rattle.sqlite_trees.specs.View.{View, IsShaped, IsOrdered}
 use Rattle.sqlite_trees.specs.Objects.{catalog_tree, IsListed}
 use Rattle.sqlite_trees.specs.declared.store.Store.{Ghosts}
 use Rattle.sqlite_trees.specs.declared.store.Shape.TheVariants.{Table as Rows}
-use Rattle.row_laws.specs.Columns.{AreEntries, AreListed}
+use Rattle.station_schema.specs.ColumnKeys.{AreEntries, AreListed}
 use Rattle.station_schema.specs.Schema.{key_column, schema_with, old_schema, station_schema, station, waybill, waybill2, stock, flight, moves, expected, part, trail, outbox, kept_key, kept_text, counts, build}
 use Rattle.station_schema.specs.Tables as table
 use Rattle.station_schema.specs.Tables.{IsTyped, IsStation, IsOldStation}

@@ -7,8 +7,8 @@ use Rattle.sqlite_sql.specs.declared.ops.CompareOp.TheVariants.{Eq}
 use Rattle.sqlite_keyed.proofs.SortLemmas.{pair_cmp}
 use Rattle.sqlite_typed.proofs.TestLemmas.{at_ints, at_texts, last_term, then_term}
 use Rattle.sqlite_typed.specs.Tests.{bytes_cmp}
-use Rattle.row_laws.proofs.Columns.{Compares}
-use Rattle.row_laws.proofs.Keys.{int_tied, pair_eq}
+use Rattle.station_schema.proofs.ColumnKeys.{Compares}
+use Rattle.station_schema.proofs.OneRow.{int_tied, pair_eq}
 use Rattle.station_schema.proofs.Keys.{stock_total, flight_total, expected_total, part_total, kept_total, kept_text_total, count_total, build_total}
 use Rattle.station_schema.specs.Tables.{StockKey, FlightKey, ExpectedKey, PartKey, stock_cmp, stock_row, flight_cmp, flight_row, expected_cmp, expected_row, part_cmp, part_row, kept_cmp, kept_row, kept_text_cmp, kept_text_row, count_cmp, count_row, build_cmp, build_row}
 

@@ -12,9 +12,9 @@ use Rattle.sqlite.specs.State.{State, CommitsBy, Executes, KeepsCommit, Shows, S
 use Rattle.sqlite.specs.Table.{Table}
 use Rattle.sqlite.specs.Tree.{Trees}
 use Rattle.sqlite.specs.declared.error.Error.{Error}
-use Rattle.row_laws.specs.Calls.{IsMade, Makes}
-use Rattle.row_laws.proofs.Creating.{makes_it, create_survives, indexes_it, index_survives}
-use Rattle.row_laws.proofs.Texts.{IsCreate}
+use Rattle.station_schema.specs.Effects.{IsMade, Makes}
+use Rattle.station_schema.proofs.Making.{makes_it, create_survives, indexes_it, index_survives}
+use Rattle.station_schema.proofs.AnyTexts.{IsCreate}
 use Rattle.station_schema.specs.Calls.{IsInside}
 use Rattle.station_schema.specs.Schema.{no_schema, station_schema, station, waybill, waybill2, stock, flight, moves, expected, part, trail, outbox, kept_key, kept_text, counts, build, moves_index}
 use Rattle.station_schema.specs.declared.declarations.TheConstants.{DECLARATIONS, STATION, WAYBILL, STOCK, FLIGHT, MOVES, MOVES_AWB, EXPECTED, PART, TRAIL, OUTBOX, KEPT_KEY, KEPT_TEXT, COUNTS, BUILD, WAYBILL2}
@@ -143,9 +143,6 @@ pub record HasComeTo (old new : State) (count : ℕ) : Type 0 where
   pub made : IsMade (get_or stages count no_schema) new
   pub keeps : KeepsCommit old new
   pub is_open : 0 < count → IsTrue new.is_open
-
-pub come_first : (old : State) → IsMade no_schema old → HasComeTo old old 0
-come_first old was = record { made = was; keeps = record { was_open = λ o. o; committed = λ o. refl }; is_open = λ some. absurd (omega arith) }
 
 pub come_next : (old now new : State) (i : ℕ) → i < 15 → HasComeTo old now i → (count : ℕ) → Executes (get_or texts i []) [] now new (Ok count) → HasComeTo old new (i + 1)
 come_next old now new i low come count ran =

@@ -4,7 +4,7 @@ use Rattle.std.specs.Cmp.{IsTotalOrder, int_cmp_total}
 use Rattle.std.specs.FinMap.{IsAntisymmetric, int_cmp-IsAntisymmetric}
 use Rattle.sqlite_typed.specs.Tests.{bytes_cmp}
 use Rattle.sqlite_keyed.proofs.SortLemmas.{pair_cmp}
-use Rattle.row_laws.proofs.Keys.{pair_total, pair_same, texts_total, texts_same}
+use Rattle.station_schema.proofs.OneRow.{pair_total, pair_same, texts_total, texts_same}
 use Rattle.station_schema.specs.Tables.{stock_cmp, flight_cmp, expected_cmp, part_cmp, kept_cmp, kept_text_cmp, count_cmp, build_cmp}
 
 pub stock_total : IsTotalOrder stock_cmp

@@ -13,3 +13,16 @@ pub mod Stored
 pub mod TableLemmas
 pub mod Texts
 pub mod Typed
+pub mod Shared
+pub mod Many
+pub mod Keyed
+pub mod Maps
+pub mod ColumnKeys
+pub mod OneRow
+pub mod Listed
+pub mod AnyTexts
+pub mod Inside
+pub mod Ran
+pub mod Turns
+pub mod Making
+pub mod Handing

@@ -8,7 +8,7 @@ use Rattle.sqlite.specs.Listing.{understood}
 use Rattle.sqlite.specs.State.{State, Survives, Executes, CommitsBy, CommitsShowing}
 use Rattle.sqlite.proofs.StateLemmas.{survives_weaker}
 use Rattle.sqlite.proofs.Callers.{IsPlain, command_of, never_commits}
-use Rattle.row_laws.proofs.Inside.{commits_nothing, execute_stops, keeps}
+use Rattle.station_schema.proofs.Inside.{commits_nothing, execute_stops, keeps}
 use Rattle.station_schema.specs.Schema.{station_schema}
 use Rattle.station_schema.specs.Tables.{Tables, IsStation}
 use Rattle.station_schema.specs.Calls.{IsInside, Edits, Changes}

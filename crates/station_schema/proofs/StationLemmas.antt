@@ -6,9 +6,9 @@ use Rattle.sqlite.specs.Effect.{value_rows}
 use Rattle.sqlite.specs.State.{State, Executes, Survives, CommitsBy}
 use Rattle.sqlite_keyed.specs.Keyed.{insert_by}
 use Rattle.sqlite_keyed.proofs.KeyedLemmas.{IsKeyedBy-insert_by}
-use Rattle.row_laws.proofs.Shared.{cast_int, cast_null}
-use Rattle.row_laws.proofs.Keyed.{puts}
-use Rattle.row_laws.proofs.Ran.{IsPlaced, insert_ran}
+use Rattle.station_schema.proofs.Shared.{cast_int, cast_null}
+use Rattle.station_schema.proofs.Keyed.{puts}
+use Rattle.station_schema.proofs.Ran.{IsPlaced, insert_ran}
 use Rattle.station_schema.specs.Schema.{station_schema, station}
 use Rattle.station_schema.specs.Tables.{tables_of, typed_stations, station_row, station_id}
 use Rattle.station_schema.specs.Calls.{IsInside, Edits, new_station, with_station}

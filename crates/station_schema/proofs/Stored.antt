@@ -13,12 +13,12 @@ use Rattle.sqlite_keyed.specs.Keyed.{IsKeyedBy}
 use Rattle.sqlite_keyed.proofs.ListLemmas.{map_back}
 use Rattle.station_schema.specs.Schema.{station_schema}
 use Rattle.station_schema.specs.Calls.{IsInside, Edits}
-use Rattle.row_laws.specs.Columns.{AreEntries, AreListed}
+use Rattle.station_schema.specs.ColumnKeys.{AreEntries, AreListed}
 use Rattle.station_schema.specs.Tables.{Tables, rows_in, tables_in, tables_of, IsTyped, IsStation}
 use Rattle.station_schema.specs.Tables as table
-use Rattle.row_laws.proofs.Columns.{IsMap, reads_back, entries_by}
+use Rattle.station_schema.proofs.ColumnKeys.{IsMap, reads_back, entries_by}
 use Rattle.station_schema.proofs.Keys.{stock_total, flight_total, expected_total, part_total, kept_total, kept_text_total, count_total, build_total}
-use Rattle.row_laws.proofs.Inside.{transaction_stays}
+use Rattle.station_schema.proofs.Inside.{transaction_stays}
 
 -- ---- a table whose key is the rowid
 

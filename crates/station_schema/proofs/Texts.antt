@@ -7,7 +7,7 @@ use Rattle.sqlite.specs.Source.TheVariants.{Values}
 use Rattle.sqlite.specs.Command.TheVariants.{Insert}
 use Rattle.sqlite_tied.specs.Compute.{everything}
 use Rattle.sqlite.specs.Listing.{understood}
-use Rattle.row_laws.proofs.Texts.{IsCreate, IsIndex, Means}
+use Rattle.station_schema.proofs.AnyTexts.{IsCreate, IsIndex, Means}
 use Rattle.station_schema.specs.Schema.{station_schema, station, waybill, waybill2, stock, flight, moves, expected, part, trail, outbox, kept_key, kept_text, counts, build, moves_index}
 use Rattle.station_schema.specs.declared.declarations.TheConstants.{STATION, WAYBILL, STOCK, FLIGHT, MOVES, MOVES_AWB, EXPECTED, PART, TRAIL, OUTBOX, KEPT_KEY, KEPT_TEXT, COUNTS, BUILD, WAYBILL2}
 

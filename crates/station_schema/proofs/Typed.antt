@@ -29,8 +29,8 @@ use Rattle.sqlite_typed.specs.Columns.{int_of, bytes_of}
 use Rattle.sqlite_typed.proofs.TestLemmas.{at_ints}
 use Rattle.sqlite_value.proofs.OrderLemmas.{value_cmp-Int}
 use Rattle.sqlite_value.specs.Keys.{plain}
-use Rattle.row_laws.specs.Columns.{numbered, numbered_in, AreEntries, AreListed}
-use Rattle.row_laws.proofs.Columns.{Compares, number}
+use Rattle.station_schema.specs.ColumnKeys.{numbered, numbered_in, AreEntries, AreListed}
+use Rattle.station_schema.proofs.ColumnKeys.{Compares, number}
 use Rattle.station_schema.specs.Schema.{column_of}
 
 -- ---- columns of text and of integers

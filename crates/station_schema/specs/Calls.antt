@@ -4,8 +4,8 @@ use Rattle.sqlite.specs.declared.error.Error.{Error}
 use Rattle.sqlite.specs.State.{State, Shows, KeepsCommit, HasCleanDisk, Survives}
 use Rattle.sqlite.specs.Held.{Held, state}
 use Rattle.sqlite_trees.specs.declared.store.Store.{Ghosts}
-use Rattle.row_laws.specs.Calls.{Reads}
-use Rattle.row_laws.specs.Streams.{StreamsRows}
+use Rattle.station_schema.specs.Effects.{Reads}
+use Rattle.station_schema.specs.Streams.{StreamsRows}
 use Rattle.sqlite_keyed.specs.Keyed.{insert_by}
 use Rattle.station_schema.specs.Connection.{opening}
 use Rattle.station_schema.specs.Tables.{Tables, Station, station_id, tables_of, IsStation}

@@ -1,6 +1,5 @@
 pub mod Beside
 pub mod Calls
-pub mod Code
 pub mod Connection
 pub mod Names
 pub mod Once
@@ -10,3 +9,6 @@ pub mod Shapes
 pub mod Store
 pub mod Tables
 pub mod Wanted
+pub mod ColumnKeys
+pub mod Effects
+pub mod Streams

@@ -9,7 +9,7 @@ use Rattle.sqlite.specs.Effect.{Database}
 use Rattle.sqlite_trees.specs.Props.{IsAscending-prop, rows_set}
 use Rattle.sqlite_keyed.specs.Keyed.{IsKeyedBy}
 use Rattle.sqlite_schema.specs.contracts.schema.Schema.{the_row as schema_row}
-use Rattle.row_laws.specs.Columns.{AreEntries, AreListed}
+use Rattle.station_schema.specs.ColumnKeys.{AreEntries, AreListed}
 use Rattle.station_schema.specs.Tables.{IsTyped, IsStation}
 use base.Stored.{Coded-set}
 use lib.Dec.{T_prop}

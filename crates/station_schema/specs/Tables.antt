@@ -14,7 +14,7 @@ use Rattle.std.specs.Ordering.{int_cmp, int_eq}
 use Rattle.std.specs.FinMap.{FinMap, from_entries}
 use Rattle.sqlite_keyed.specs.Lists.{update_where}
 use Rattle.sqlite_keyed.proofs.SortLemmas.{pair_cmp}
-use Rattle.row_laws.specs.Columns.{AreEntries, AreListed}
+use Rattle.station_schema.specs.ColumnKeys.{AreEntries, AreListed}
 use Rattle.station_schema.specs.Schema.{old_schema, station_schema}
 
 -- For each table: a row (without a key of columns), the stored row, and the conversion back. A

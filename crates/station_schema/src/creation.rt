@@ -1,7 +1,7 @@
 ghost use Rattle.std.specs.Prelude.{◌≡◌, map, OnOk, OnErr};
 ghost use Rattle.sqlite.specs.State.{HasCleanDisk, Survives};
 ghost use Rattle.sqlite.specs.Held.{state};
-ghost use Rattle.row_laws.specs.Calls.{IsMade, IsSettled, IsUndone, Makes};
+ghost use Rattle.station_schema.specs.Effects.{IsMade, IsSettled, IsUndone, Makes};
 ghost use Rattle.station_schema.specs.Schema.{no_schema, station_schema};
 ghost use Rattle.station_schema.specs.Connection.{IsVacant};
 ghost use Rattle.station_schema.specs.Own.{IsNewStation};
@@ -9,7 +9,7 @@ ghost use Rattle.station_schema.specs.Calls.{IsInside, Changes, Fills, Founds, I
 
 use crate::declarations::DECLARATIONS;
 use crate::own::shows_own;
-use row_laws::{begin, commit, roll_back};
+use crate::transaction::{begin, commit, roll_back};
 use sqlite::{Alter, Connection, Error, params};
 
 /// Runs the declarations, up to the first that fails, inside a transaction.

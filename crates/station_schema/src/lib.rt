@@ -16,7 +16,9 @@ mod order;
 mod own;
 mod schema;
 mod shapes;
+mod streaming;
 mod tables;
+mod transaction;
 
 pub use beside::create_beside;
 pub use connection::{has_station, shows_old_station};
@@ -26,3 +28,5 @@ pub use names::takes_name;
 pub use order::{files_lie_in_order, memory_lies_in_order};
 pub use own::shows_own;
 pub use schema::is_declared;
+pub use streaming::{ReadRow, stream};
+pub use transaction::{begin, commit, is_live, roll_back};

@@ -25,7 +25,7 @@ use Rattle.table_audits.specs.declared.state.FoundState.{FoundState}
 use Rattle.table_audits.specs.declared.unfit.Unfit.{Unfit}
 use Rattle.table_audits.specs.declared.unfit.Unfit.TheVariants as unfit
 use Rattle.sqlite.specs.declared.error.Error.{Error}
-use Rattle.row_laws.specs.Calls.{Reads}
+use Rattle.station_schema.specs.Effects.{Reads}
 use Rattle.station_tables.specs.Attached.{IsStateOf, IsStateIn, IsOldStateIn, IsTypedState, IsFoundIn, IsJudged, RefusesAs, Refuses, IsBreakdown}
 use Rattle.station_tables.specs.declared.fault.AttachFault.{AttachFault}
 use Rattle.station_tables.specs.declared.fault.AttachFault.TheVariants as fault

@@ -11,7 +11,7 @@ use Rattle.sqlite.specs.State.{HasCleanDisk}
 use Rattle.sqlite.proofs.Callers.{unchanged_then}
 use Rattle.sqlite.proofs.StateLemmas.{survives_then}
 use Rattle.sqlite_trees.specs.View.{doubt}
-use Rattle.row_laws.specs.Calls.{Reads}
+use Rattle.station_schema.specs.Effects.{Reads}
 use Rattle.station_core.specs.Step.{State, IsLawfulState}
 use Rattle.station_schema.specs.Own.{IsOwn}
 use Rattle.station_schema.specs.Connection.{view_of}

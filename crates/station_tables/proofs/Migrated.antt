@@ -5,7 +5,7 @@ use Rattle.sqlite.specs.Effect.{Database}
 use Rattle.sqlite.specs.Tree.{Trees}
 use Rattle.sqlite.specs.State as sqlite
 use Rattle.sqlite.specs.State.{HasCleanDisk}
-use Rattle.row_laws.specs.Calls.{IsSettled, IsUndone, Stops}
+use Rattle.station_schema.specs.Effects.{IsSettled, IsUndone, Stops}
 use Rattle.table_load.specs.Reading.{read_as}
 use Rattle.table_load.specs.declared.station.FileVersion.TheVariants.{First}
 use Rattle.station_schema.specs.Own.{IsOwn, IsOldOwn}
@@ -16,7 +16,7 @@ use Rattle.station_core.specs.Step.{State}
 use Rattle.table_audits.proofs.Declared.{old_same_tables}
 use Rattle.table_audits.specs.declared.state.FoundState.{FoundState}
 use Rattle.table_audits.specs.declared.unfit.Unfit.{Unfit}
-use Rattle.table_upgrade.specs.Upgrade.{IsUpgraded, MeansUpgraded}
+use Rattle.table_load.specs.Upgrade.{IsUpgraded, MeansUpgraded}
 use Rattle.station_tables.specs.Attached.{IsOldStateIn, IsFoundIn, IsJudged, RefusesAs, IsBreakdown}
 use Rattle.station_tables.specs.Migrated.{IsMigrated, HasMigrated}
 use Rattle.station_tables.specs.declared.fault.AttachFault.{AttachFault}

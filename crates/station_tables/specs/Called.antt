@@ -1,11 +1,11 @@
 -- The effect of each call over a file, as records that a caller's contract can cite.
-use Rattle.std.specs.Prelude.{◌≡◌, ◌≢◌, ◌⊎◌, ◌↔◌, ℕ, Bool, true, false, IsTrue, Option, Some, None, Result, Err, IfOk, IfErr, OnOk, List}
+use Rattle.std.specs.Prelude.{◌≡◌, ◌≢◌, ◌⊎◌, ◌↔◌, ℕ, true, false, IsTrue, Option, Some, None, Result, Err, IfOk, IfErr, OnOk, List}
 use Rattle.sqlite.specs.Held.{Held, state}
 use Rattle.sqlite.specs.State as connection
 use Rattle.sqlite.specs.State.{HasCleanDisk, Survives}
 use Rattle.sqlite.specs.Tree.{Trees}
 use Rattle.sqlite_trees.specs.declared.store.Store.{Ghosts}
-use Rattle.row_laws.specs.Calls.{IsUndone}
+use Rattle.station_schema.specs.Effects.{IsUndone}
 use Rattle.station_schema.specs.Beside.{IsOneStep}
 use Rattle.station_schema.specs.Connection.{connection_view, IsVacant}
 use Rattle.station_schema.specs.Names.{takes_name}

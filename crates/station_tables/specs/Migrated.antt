@@ -3,7 +3,7 @@ use Rattle.std.specs.Prelude.{◌≡◌, Some, IsTrue}
 use Rattle.sqlite.specs.Effect.{Database}
 use Rattle.sqlite.specs.Tree.{Trees}
 use Rattle.sqlite.specs.State as sqlite
-use Rattle.row_laws.specs.Calls.{IsSettled}
+use Rattle.station_schema.specs.Effects.{IsSettled}
 use Rattle.station_schema.specs.Own.{IsOwn}
 use Rattle.station_schema.specs.Tables.{tables_of}
 use Rattle.row_codec.specs.Meaning.{Means}

@@ -1,6 +1,6 @@
 ghost use Rattle.std.specs.Prelude.{◌≡◌, ◌≢◌, true, false, Option, Some, Err, IsTrue, IfOk, IfErr};
 ghost use Rattle.sqlite.specs.State.{HasCleanDisk, IsUnchanged, Survives};
-ghost use Rattle.row_laws.specs.Calls.{IsSettled, IsUndone, Reads};
+ghost use Rattle.station_schema.specs.Effects.{IsSettled, IsUndone, Reads};
 ghost use Rattle.sqlite.specs.Held.{state};
 ghost use Rattle.sqlite.specs.Effect.{Database};
 ghost use Rattle.table_load.specs.Reading.{read_as};
@@ -252,7 +252,7 @@ fn find_over<S: Alter>(
     if !conn.is_autocommit() {
         return Err((conn, AttachFault::Store));
     }
-    if !row_laws::is_live(&mut conn) {
+    if !station_schema::is_live(&mut conn) {
         return Err((conn, AttachFault::Store));
     }
     match judge(alloc, &mut conn, FileVersion::Second) {

@@ -1,7 +1,7 @@
 use table_audits::TableName;
 
 /// The reason why there is no station. The connection is returned with it.
-#[derive(Clone, Copy, Debug, PartialEq, Eq)]
+#[derive(Clone, Copy, Debug)]
 pub enum AttachFault {
     /// The first table, in the order of `TableName`, that is missing or unlawful.
     Unlawful(TableName),

@@ -2,7 +2,7 @@
 ghost use Rattle.std.specs.Prelude.{◌≡◌, ◌≢◌, ◌⊎◌, true, false, Err, IsTrue, IfOk, IfErr};
 ghost use Rattle.table_load.specs.Reading.{read_as};
 ghost use Rattle.table_load.specs.declared.station.FileVersion.TheVariants.{First};
-ghost use Rattle.row_laws.specs.Calls.{IsSettled, IsUndone};
+ghost use Rattle.station_schema.specs.Effects.{IsSettled, IsUndone};
 ghost use Rattle.station_schema.specs.Connection.{connection_view};
 ghost use Rattle.station_schema.specs.Own.{IsOldOwn, LiesInOrder};
 ghost use Rattle.station_schema.specs.Tables.{IsOldStation};
@@ -15,7 +15,7 @@ ghost use Rattle.station_core.specs.Step.{State};
 ghost use Rattle.station_tables.specs.Attached.{IsBreakdown, IsJudged, IsOldStateIn, RefusesAs, old_name};
 ghost use Rattle.station_tables.specs.Called.{HasMoved};
 ghost use Rattle.station_tables.specs.Migrated.{HasMigrated, IsMigrated};
-ghost use Rattle.table_upgrade.specs.Upgrade.{MeansUpgraded};
+ghost use Rattle.table_load.specs.Upgrade.{MeansUpgraded};
 
 use crate::attaching::{breakdown, judge};
 use crate::fault::AttachFault;
@@ -23,8 +23,7 @@ use sqlite::{Alter, Connection};
 use station_schema::{shows_old_station, shows_own};
 use std::alloc::Global;
 use table_audits::{FoundState, TableName, Unfit};
-use table_load::FileVersion;
-use table_upgrade::upgrade_tables;
+use table_load::{FileVersion, upgrade_tables};
 
 fn old_name(name: TableName) -> TableName
     ensures { result ≡ old_name name }
@@ -167,7 +166,7 @@ fn upgrade_over<S: Alter>(
     if !conn.is_autocommit() {
         return Err((conn, AttachFault::Store));
     }
-    if !row_laws::is_live(&mut conn) {
+    if !station_schema::is_live(&mut conn) {
         return Err((conn, AttachFault::Store));
     }
     match judge(alloc, &mut conn, FileVersion::First) {

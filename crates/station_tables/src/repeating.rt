@@ -1,6 +1,6 @@
 ghost use Rattle.std.specs.Prelude.{◌≡◌, ◌≢◌, true, false, Err, Option, Some, IfOk, IfErr, OnOk};
 ghost use Rattle.sqlite.specs.State.{HasCleanDisk, Survives};
-ghost use Rattle.row_laws.specs.Calls.{IsUndone};
+ghost use Rattle.station_schema.specs.Effects.{IsUndone};
 ghost use Rattle.sqlite.specs.Held.{state};
 ghost use Rattle.station_schema.specs.Own.{IsOwn, LiesInOrder};
 ghost use Rattle.station_schema.specs.Connection.{connection_view};

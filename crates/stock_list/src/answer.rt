@@ -19,7 +19,7 @@ use station_days::Moment;
 use std::alloc::{AllocError, Global};
 
 /// The reason why a run of rows stopped early.
-#[derive(Clone, Copy, Debug, PartialEq, Eq)]
+#[derive(Clone, Copy)]
 pub enum RunFault {
     /// The reader failed.
     Read,
@@ -32,7 +32,7 @@ pub enum RunFault {
 }
 
 /// The position of a row in its list.
-#[derive(Clone, Copy, Debug, PartialEq, Eq)]
+#[derive(Clone, Copy)]
 pub struct RowPlace {
     /// The number of the record, from 1.
     pub number: u64,

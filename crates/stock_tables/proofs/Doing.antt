@@ -1,9 +1,8 @@
 -- Orders by their parts, and a number that is used up.
-use Rattle.std.proofs.Common.{◌≡◌, ℕ, ◌+◌, cond, Option, Some, sym, ap, subst, ◌∙◌, arith}
-use Rattle.std.specs.Prelude.{◌&&◌, ◌==◌, nat_le, nat_lt, OnOk, Result}
+use Rattle.std.proofs.Common.{◌≡◌, ℕ, ◌+◌, cond, Option, Some, ap, ◌∙◌, arith}
+use Rattle.std.specs.Prelude.{◌&&◌, ◌==◌, nat_le, nat_lt}
 use Rattle.std.proofs.lemmas.Bool.Decides.{nat_tests}
-use Rattle.agent_stock.specs.Stock.{assigned, after_order}
-use Rattle.agent_stock.specs.declared.stock.Order.{Order}
+use Rattle.agent_stock.specs.Stock.{assigned}
 use Rattle.agent_stock.specs.declared.stock.Run.{Run}
 use Rattle.agent_stock.specs.declared.stock.Holder.{Holder}
 use Rattle.agent_stock.specs.declared.stock.Holder.TheVariants.{Used}
@@ -23,8 +22,3 @@ uses_up v before t run w is given = record {
   rows = given.rows;
   held = given.held ∙ ap (λ (r : Run). assigned (holders_in t.stock) r Used) is ∙ (λ i q. one_of w q (Some Used) (holders_in t.stock q) i);
 }
-
--- an order by its parts
-pub does_order : {X E : Type 0} (result : Result X E) (v : View) (t : Tables) (order parts : Order) → order ≡ parts
-    → OnOk result (v.IsSound → Restocked v t t (after_order (holders_in t.stock) parts)) → OnOk result (v.IsSound → Restocked v t t (after_order (holders_in t.stock) order))
-does_order result v t order parts is done = subst (λ (o : Order). OnOk result (v.IsSound → Restocked v t t (after_order (holders_in t.stock) o))) (sym is) done

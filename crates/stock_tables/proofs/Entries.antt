@@ -15,7 +15,7 @@ use Rattle.agent_stock.specs.declared.runs.StockRun.{StockRun}
 use Rattle.station_schema.specs.Tables.{Stock, StockKey, stock_cmp}
 use Rattle.row_codec.specs.Numbers.{natural}
 use Rattle.row_codec.specs.Stock.{holder_by, unnamed_holder, is_stock_row, is_behind, are_apart, run_in, named}
-use Rattle.stock_tables.specs.Rows.{end_of, IsRunRow, StandFrom}
+use Rattle.agent_stock.specs.Runs.{end_of, IsRunRow, StandFrom}
 use Rattle.stock_tables.specs.Runs.{holder_number, code_of, key_of, entry_of, IsWritable}
 use Rattle.stock_tables.proofs.Meant.{fits, low_fits, natural_is, bounds, row_fits, has_holder}
 

@@ -3,7 +3,6 @@ mod Held
 mod Restocking
 mod Showing
 pub mod Entries
-pub mod Longest
 pub mod Lowest
 pub mod Meant
 pub mod Parted

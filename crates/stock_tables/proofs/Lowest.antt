@@ -10,7 +10,7 @@ use Rattle.agent_stock.specs.declared.stock.Run.{Run}
 use Rattle.agent_stock.specs.declared.stock.Test.{Test}
 use Rattle.agent_stock.specs.declared.runs.StockRun.{StockRun}
 use Rattle.agent_stock.proofs.Serials.{find_next, find_here}
-use Rattle.stock_tables.specs.Rows.{holders_by, end_of, StandFrom}
+use Rattle.agent_stock.specs.Runs.{holders_by, end_of, StandFrom}
 use Rattle.stock_tables.proofs.Standing.{inside, here, passed, ahead, none_below, stand_lower}
 
 abbrev pub fails_at : Holders → Test → ℕ → Bool

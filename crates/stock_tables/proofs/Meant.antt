@@ -13,7 +13,7 @@ use Rattle.agent_stock.specs.declared.stock.Holder.{Holder}
 use Rattle.station_schema.specs.Tables.{Stock, StockKey, stock_cmp}
 use Rattle.row_codec.specs.Numbers.{natural, is_within}
 use Rattle.row_codec.specs.Stock.{holder_by, holders_in, stands_for, is_stock_row, is_behind, are_apart, run_in, named}
-use Rattle.stock_tables.specs.Rows.{holders_by, end_of, IsRunRow, StandFrom, AreRuns}
+use Rattle.agent_stock.specs.Runs.{holders_by, end_of, IsRunRow, StandFrom, AreRuns}
 
 abbrev pub fits : ℤ → ℤ → ℤ → Bool
 fits p low high = is_within 0 999 p && is_within 0 9_999_999 low && int_le low high && int_le high (pos 9_999_999)

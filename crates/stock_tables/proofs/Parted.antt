@@ -5,7 +5,8 @@ use Rattle.std.proofs.lemmas.Bool.Decides.{nat_tests}
 use Rattle.awb_number.specs.Number.{prefix_of, serial_of}
 use Rattle.agent_stock.specs.declared.stock.Run.{Run}
 use Rattle.agent_stock.specs.declared.runs.StockRun.{StockRun}
-use Rattle.stock_tables.specs.Rows.{holders_by, end_of, IsRunRow, StandFrom, AreRuns, Touches, AreNear, AreAround, touches, lies_ahead, lies_behind, rows_near, rows_ahead, rows_behind}
+use Rattle.stock_tables.specs.Rows.{Touches, AreNear, AreAround, touches, lies_ahead, lies_behind, rows_near, rows_ahead, rows_behind}
+use Rattle.agent_stock.specs.Runs.{holders_by, end_of, IsRunRow, StandFrom, AreRuns}
 use Rattle.stock_tables.proofs.Standing.{by_first, by_second, ahead}
 use Rattle.stock_tables.proofs.Places.{none_all}
 

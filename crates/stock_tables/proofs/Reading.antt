@@ -16,7 +16,8 @@ use Rattle.agent_stock.specs.declared.runs.StockRun.{StockRun}
 use Rattle.station_schema.specs.Tables.{Stock, StockKey}
 use Rattle.row_codec.specs.Numbers.{natural}
 use Rattle.row_codec.specs.Stock.{is_stock_row, run_in}
-use Rattle.stock_tables.specs.Rows.{holders_by, end_of, IsRunRow, StandFrom, touches, rows_near}
+use Rattle.stock_tables.specs.Rows.{touches, rows_near}
+use Rattle.agent_stock.specs.Runs.{holders_by, end_of, IsRunRow, StandFrom}
 use Rattle.stock_tables.proofs.Standing.{last_end, ends_up, stand_split, stand_lower}
 use Rattle.station_rows.specs.Meant.{is_between, is_up_to, last_up_to, last_rows_up_to}
 use Rattle.stock_tables.specs.Reads.{is_below, last_below, is_from, reaches, reaching, last_to_end, begins_before, are_enough, holder_at}

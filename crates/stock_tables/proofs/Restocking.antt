@@ -12,7 +12,8 @@ use Rattle.agent_stock.specs.declared.runs.StockRun.{StockRun}
 use Rattle.station_schema.specs.Store.{View, Displays, inside}
 use Rattle.station_schema.specs.Tables.{Tables, Stock, stock_cmp}
 use Rattle.row_codec.specs.Stock.{holders_in, run_in}
-use Rattle.stock_tables.specs.Rows.{holders_by, StandFrom, AreRuns, AreAround, AreNear, Touches, rows_ahead, rows_near, rows_behind, end_of}
+use Rattle.stock_tables.specs.Rows.{AreAround, AreNear, Touches, rows_ahead, rows_near, rows_behind}
+use Rattle.agent_stock.specs.Runs.{holders_by, StandFrom, AreRuns, end_of}
 use Rattle.stock_tables.proofs.Places.{run_parts}
 use Rattle.stock_tables.proofs.Parted.{parted, around, near_holders, touched}
 use Rattle.stock_tables.proofs.Standing.{stand_split, stand_lower, last_end, each_split, each_join}

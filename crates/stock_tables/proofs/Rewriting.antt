@@ -10,11 +10,11 @@ use Rattle.std.proofs.lemmas.Bool.{and_parts, and_from, eqb-true}
 use Rattle.std.proofs.lemmas.Bool.Decides.{nat_tests}
 use Rattle.awb_number.specs.Number.{prefix_of, serial_of}
 use Rattle.agent_stock.specs.declared.runs.StockRun.{StockRun}
-use Rattle.row_laws.proofs.Keys.{pair_eq, int_tied}
+use Rattle.station_schema.proofs.OneRow.{pair_eq, int_tied}
 use Rattle.station_schema.proofs.Keys.{stock_total, stock_same}
 use Rattle.station_schema.specs.Tables.{Stock, StockKey, stock_cmp}
 use Rattle.row_codec.specs.Stock.{holders_in, is_stock_row, are_apart, AreStockRows, run_in}
-use Rattle.stock_tables.specs.Rows.{holders_by, IsRunRow, AreRuns}
+use Rattle.agent_stock.specs.Runs.{holders_by, IsRunRow, AreRuns}
 use Rattle.stock_tables.proofs.Standing.{each_split, each_join}
 use Rattle.stock_tables.specs.Runs.{key_of, row_in, entry_of, IsWritable}
 use Rattle.stock_tables.specs.Writes.{begins, without, cleared, put_in}

@@ -6,7 +6,7 @@ use Rattle.std.proofs.lemmas.Bool.Decides.{nat_tests}
 use Rattle.agent_stock.specs.Stock.{is_among}
 use Rattle.agent_stock.specs.declared.stock.Holder.{Holder}
 use Rattle.agent_stock.specs.declared.runs.StockRun.{StockRun}
-use Rattle.stock_tables.specs.Rows.{holders_by, end_of, StandFrom}
+use Rattle.agent_stock.specs.Runs.{holders_by, end_of, StandFrom}
 
 -- the number behind the last row, or the one that they stand from
 abbrev pub last_end : ℕ → List StockRun → ℕ
@@ -45,12 +45,6 @@ ahead row rows q h = ap (λ b. cond b (Some row.holder) (holders_by rows q)) (be
 pub none_below : (low : ℕ) (rows : List StockRun) (q : ℕ) → StandFrom low rows → q < low → holders_by rows q ≡ None
 none_below low [] q h lt = refl
 none_below low (row ∷ rows) q h lt = ahead row rows q (omega (arith, h.0, lt)) ∙ none_below (end_of row) rows q h.1 (omega (arith, h.0, lt))
-
-pub none_above : (low : ℕ) (rows : List StockRun) (q : ℕ) → StandFrom low rows → last_end low rows ≤ q → holders_by rows q ≡ None
-none_above low [] q h le = refl
-none_above low (row ∷ rows) q h le =
-    let up = ends_up (end_of row) rows h.1 in
-    passed row rows q (omega (arith, up, le)) ∙ none_above (end_of row) rows q h.1 le
 
 -- who has a number by two lists
 abbrev or_else : Option Holder → Option Holder → Option Holder

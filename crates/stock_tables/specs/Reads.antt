@@ -5,7 +5,7 @@ use Rattle.awb_number.specs.Number.{prefix_of}
 use Rattle.agent_stock.specs.declared.stock.Holder.{Holder}
 use Rattle.agent_stock.specs.declared.stock.Run.{Run}
 use Rattle.agent_stock.specs.declared.runs.StockRun.{StockRun}
-use Rattle.stock_tables.specs.Rows.{end_of}
+use Rattle.agent_stock.specs.Runs.{end_of}
 
 -- a row of a prefix begins below a number
 abbrev pub is_below : ℕ → ℕ → StockRun → Bool

@@ -1,36 +1,12 @@
 -- The stock as rows, one for a run of numbers that one holder has.
-use Rattle.std.specs.Prelude.{ℕ, ◌≡◌, ◌≢◌, ◌+◌, ◌-◌, ◌≤◌, ◌<◌, ◌⊎◌, if◌then◌else◌, Bool, not, ◌&&◌, nat_eq, nat_le, nat_lt, Option, Some, None, IfSome, List, [], ◌∷◌, ◌++◌, filter}
+use Rattle.std.specs.Prelude.{ℕ, ◌≡◌, ◌≢◌, ◌+◌, ◌-◌, ◌≤◌, ◌<◌, ◌⊎◌, Bool, not, ◌&&◌, nat_eq, nat_le, nat_lt, Option, Some, None, IfSome, List, [], ◌∷◌, ◌++◌, filter}
 use Rattle.std.specs.List.{AllByRecursion}
-use Rattle.awb_number.specs.Number.{prefix_of, serial_of, serials}
-use Rattle.agent_stock.specs.Stock.{Holders, is_among}
+use Rattle.awb_number.specs.Number.{prefix_of}
 use Rattle.agent_stock.specs.declared.stock.Holder.{Holder}
 use Rattle.agent_stock.specs.declared.stock.Run.{Run}
 use Rattle.agent_stock.specs.declared.runs.StockRun.{StockRun}
+use Rattle.agent_stock.specs.Runs.{end_of}
 use Rattle.stock_tables.specs.declared.joining.Joined.{Joined}
-
--- who has each number, by the rows
-abbrev pub holders_by : List StockRun → Holders
-holders_by [] q = None
-holders_by (row ∷ rows) q = if is_among row.first row.count q then Some row.holder else holders_by rows q
-
--- the number behind a row
-abbrev pub end_of : StockRun → ℕ
-end_of row = row.first + row.count
-
--- a row has a number at least, and stays within its prefix
-pub record IsRunRow (row : StockRun) : Type 0 where
-  pub some : 1 ≤ row.count
-  pub one_prefix : serial_of row.first + row.count ≤ serials
-
--- each row begins there at least, and behind the one before it
-abbrev pub StandFrom : ℕ → List StockRun → Type 0
-StandFrom low [] = Unit {0}
-StandFrom low (row ∷ rows) = (low ≤ row.first) × StandFrom (end_of row) rows
-
--- rows that rise, and none has a number of another
-pub record AreRuns (rows : List StockRun) : Type 0 where
-  pub stand : StandFrom 0 rows
-  pub each : AllByRecursion IsRunRow rows
 
 -- a row of the run's prefix that has a number of the run, or of those beside it
 pub record Touches (run : Run) (row : StockRun) : Type 0 where
@@ -65,14 +41,6 @@ AreNear run near = AllByRecursion (Touches run) near
 pub record AreAround (run : Run) (ahead after : List StockRun) : Type 0 where
   pub ends : AllByRecursion (λ row. end_of row ≤ run.first) ahead
   pub begins : AllByRecursion (λ row. run.first + run.count ≤ row.first) after
-
--- the next row begins where this one ends, in its prefix, and has its holder
-abbrev pub Follows : StockRun → StockRun → Type 0
-Follows row next = (prefix_of row.first ≡ prefix_of next.first) × (end_of row ≡ next.first) × (row.holder ≡ next.holder)
-
--- two rows as one
-abbrev pub both_as_one : StockRun → StockRun → StockRun
-both_as_one row next = record { first = row.first; count = row.count + next.count; holder = row.holder }
 
 abbrev pub listed : Option StockRun → List StockRun
 listed None = []

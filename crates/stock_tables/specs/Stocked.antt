@@ -9,7 +9,8 @@ use Rattle.agent_stock.specs.declared.runs.StockRun.{StockRun}
 use Rattle.station_schema.specs.Store.{View, Displays, inside}
 use Rattle.station_schema.specs.Tables.{Tables, Stock, stock_cmp}
 use Rattle.row_codec.specs.Stock.{holders_in, AreStockRows}
-use Rattle.stock_tables.specs.Rows.{AreAround, end_of}
+use Rattle.stock_tables.specs.Rows.{AreAround}
+use Rattle.agent_stock.specs.Runs.{end_of}
 use Rattle.stock_tables.specs.Runs.{key_of}
 use Rattle.stock_tables.specs.Writes.{begins}
 

@@ -1,9 +1,9 @@
 //! What stays of the rows at the ends of a run.
 ghost use Rattle.std.specs.Prelude.{◌≡◌, ◌≤◌, ◌+◌, IsSome, IfSome};
 ghost use Rattle.std.specs.List.{AllByRecursion};
-ghost use Rattle.stock_tables.specs.Rows.{Before, Behind, IsRunRow};
+ghost use Rattle.stock_tables.specs.Rows.{Before, Behind};
+ghost use Rattle.agent_stock.specs.Runs.{IsRunRow};
 
-use crate::holders::is_same;
 use agent_stock::{Holder, StockRun};
 use awb_number::Awb;
 
@@ -27,7 +27,7 @@ pub(crate) fn before(near: &[StockRun], first: u64, to: &Holder) -> Option<(u64,
     if first <= low {
         return Some((first, None));
     }
-    if is_same(&row.holder, to) {
+    if row.holder.is_same(to) {
         return Some((low, None));
     }
     let over = first - low;
@@ -58,7 +58,7 @@ pub(crate) fn behind(near: &[StockRun], end: u64, to: &Holder) -> Option<(u64, O
     if high <= end {
         return Some((end, None));
     }
-    if is_same(&row.holder, to) {
+    if row.holder.is_same(to) {
         return Some((high, None));
     }
     if low > end {

@@ -2,7 +2,8 @@
 ghost use Rattle.std.specs.Prelude.{◌≡◌, ◌++◌, true, List, IsSome, IfSome};
 ghost use Rattle.agent_stock.specs.Stock.{is_run, assigned};
 ghost use Rattle.agent_stock.specs.declared.runs.StockRun.{StockRun as Row};
-ghost use Rattle.stock_tables.specs.Rows.{AreRuns, AreAround, AreNear, holders_by, written, IsJoined};
+ghost use Rattle.stock_tables.specs.Rows.{AreAround, AreNear, written, IsJoined};
+ghost use Rattle.agent_stock.specs.Runs.{AreRuns, holders_by};
 
 use crate::edges::{before, behind};
 use agent_stock::{Holder, Run, StockRun};
@@ -12,7 +13,7 @@ use awb_number::Awb;
 pub(crate) const SERIALS: u64 = awb_number::SERIALS as u64;
 
 /// The rows that are written in place of those that a run touches, in ascending order.
-#[derive(Clone, Copy, Debug, PartialEq, Eq)]
+#[derive(Clone, Copy)]
 pub struct Joined {
     /// What stays of a row of another holder that begins before the run.
     pub left: Option<StockRun>,

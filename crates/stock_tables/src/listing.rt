@@ -1,15 +1,13 @@
 //! The stock as its runs.
 ghost use Rattle.std.specs.Prelude.{map, IfOk};
-ghost use Rattle.agent_stock.specs.Runs.{AreStockRuns};
+ghost use Rattle.agent_stock.specs.Runs.{AreStockRuns, AreRuns, holders_by};
 ghost use Rattle.row_codec.specs.Stock.{holders_in, run_in};
 ghost use Rattle.station_rows.specs.Clauses.{Reads};
 ghost use Rattle.station_rows.specs.Meant.{stock_meant};
-ghost use Rattle.stock_tables.specs.Rows.{AreRuns, holders_by};
 ghost use Rattle.stock_tables.specs.Stocked.{Stocked};
 
-use crate::maximal_runs;
 use crate::near::with_rows;
-use agent_stock::StockRun;
+use agent_stock::{StockRun, maximal_runs};
 use station_rows::{AllStock, StockRow, StoreFault, TableStore};
 use std::alloc::Global;
 

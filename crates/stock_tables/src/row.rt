@@ -2,7 +2,7 @@
 ghost use Rattle.std.specs.Prelude.{◌≡◌, ℤ, Some, IfOk, OnOk};
 ghost use Rattle.row_codec.specs.Stock.{holder_by};
 ghost use Rattle.station_rows.specs.Meant.{stock_meant};
-ghost use Rattle.stock_tables.specs.Rows.{end_of};
+ghost use Rattle.agent_stock.specs.Runs.{end_of};
 ghost use Rattle.stock_tables.specs.Runs.{holder_number, code_of, entry_of, IsWritable};
 
 use agent_stock::{Holder, StockRun};

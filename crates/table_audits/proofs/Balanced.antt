@@ -22,7 +22,7 @@ use Rattle.shipment_machine.specs.Book.{built, taken_and_found, waybills_on}
 use Rattle.shipment_machine.specs.Effect.{is_closed}
 use Rattle.shipment_machine.specs.Lawful.{is_outside, IsStocked, IsCovered}
 use Rattle.shipment_machine.proofs.FlightKeys.{same-is}
-use Rattle.row_laws.proofs.Keys.{pair_total, pair_same, texts_total}
+use Rattle.station_schema.proofs.OneRow.{pair_total, pair_same, texts_total}
 use Rattle.station_schema.specs.Tables.{Tables, Count, Build, Flight, FlightKey, flight_cmp}
 use Rattle.row_codec.specs.Counts.{running, unless_nothing}
 use Rattle.row_codec.specs.Flights.{is_designator, flight_key, flights_in, outbound_by}

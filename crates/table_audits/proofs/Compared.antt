@@ -8,7 +8,7 @@ use Rattle.std.specs.BTreeMap.{is_at}
 use Rattle.std.specs.Map.{lookup, keys_of}
 use Rattle.shipment_machine.specs.declared.flight.FlightDate.{FlightDate}
 use Rattle.shipment_machine.specs.declared.moves.Move.{Move}
-use Rattle.row_laws.proofs.Keys.{pair_same}
+use Rattle.station_schema.proofs.OneRow.{pair_same}
 use Rattle.station_schema.specs.Tables.{Tables, Count, CountKey, count_cmp}
 use Rattle.row_codec.specs.Counts.{running, counted, AreCounts}
 use Rattle.running_totals.proofs.Keeping.{counts_total}

@@ -18,7 +18,7 @@ use Rattle.table_load.specs.Verdict.{station_name, station_columns, station_foun
 use Rattle.table_load.proofs.Declared.{old_waybill_typed, waybill_typed, stock_typed, flight_typed, moves_typed, expected_typed, part_typed, trail_typed, outbox_typed, kept_key_typed, kept_text_typed, counts_typed, build_typed, old_waybill_old, stock_old, flight_old, moves_old, expected_old, part_old, trail_old, outbox_old, kept_key_old, kept_text_old, counts_old, build_old}
 use Rattle.table_audits.specs.declared.name.TableName.{TableName}
 use Rattle.table_audits.specs.Lawful.{IsLawfulTable}
-use Rattle.row_laws.specs.Columns.{AreListed}
+use Rattle.station_schema.specs.ColumnKeys.{AreListed}
 use Rattle.table_load.specs.declared.station.FileVersion.{FileVersion}
 use Rattle.table_load.specs.declared.station.FileVersion.TheVariants.{First, Second}
 use Rattle.table_load.specs.Reading.{Reading, read_as}

@@ -7,7 +7,7 @@ use Rattle.sqlite_trees.specs.declared.store.Store.{Ghosts}
 use Rattle.sqlite.proofs.Callers.{unchanged_then}
 use Rattle.sqlite.proofs.StreamLemmas.{rolled_back_since}
 use Rattle.sqlite.specs.declared.error.Error.{Error}
-use Rattle.row_laws.specs.Calls.{Reads, Stops}
+use Rattle.station_schema.specs.Effects.{Reads, Stops}
 use Rattle.station_schema.specs.Connection.{opening}
 use Rattle.station_schema.specs.Tables.{Tables}
 use Rattle.row_codec.specs.Meaning.{airport_in, confirmed_in}

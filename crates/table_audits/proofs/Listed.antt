@@ -7,7 +7,7 @@ use Rattle.std.specs.FinMap.{FinMap, entries, get}
 use Rattle.std.proofs.lemmas.Bool.{and_parts, cond-true}
 use Rattle.sqlite.specs.Tree.{IsAscending}
 use Rattle.sqlite_keyed.proofs.ListLemmas.{ascending-map, ascending_from_map}
-use Rattle.row_laws.proofs.Maps.{entries_rise}
+use Rattle.station_schema.proofs.Maps.{entries_rise}
 use Rattle.shipment_machine.specs.declared.flight.FlightDate.{FlightDate}
 use Rattle.shipment_machine.specs.declared.moves.Outbound.{Outbound}
 use Rattle.station_schema.specs.Tables.{Flight, FlightKey, flight_cmp}

@@ -14,7 +14,7 @@ use Rattle.sqlite_typed.specs.Tests.{bytes_cmp}
 use Rattle.imp_fields.specs.Flight.{flight_text}
 use Rattle.shipment_machine.specs.declared.flight.FlightDate.{FlightDate}
 use Rattle.shipment_machine.specs.declared.moves.Move.{Move}
-use Rattle.row_laws.proofs.Keys.{pair_total, pair_same, texts_total, texts_same}
+use Rattle.station_schema.proofs.OneRow.{pair_total, pair_same, texts_total, texts_same}
 use Rattle.station_schema.specs.Tables.{Tables, Build, BuildKey, build_cmp, Flight, FlightKey, flight_cmp}
 use Rattle.row_codec.specs.Counts.{running, AreBuilds}
 use Rattle.row_codec.specs.Flights.{flight_key}

@@ -12,7 +12,7 @@ use Rattle.shipment_machine.specs.Flights.{same_flight_date}
 use Rattle.shipment_machine.specs.declared.flight.FlightDate.{FlightDate}
 use Rattle.shipment_machine.specs.declared.moves.Move.{Move}
 use Rattle.shipment_machine.proofs.FlightKeys.{same-is, same-refl}
-use Rattle.row_laws.proofs.Keys.{first_true, second_true}
+use Rattle.station_schema.proofs.OneRow.{first_true, second_true}
 use Rattle.station_schema.specs.Tables.{Build, BuildKey, build_cmp, Flight, FlightKey}
 use Rattle.row_codec.specs.Counts.{running, build_row, build_at, built_up, written_flight}
 use Rattle.row_codec.specs.Flights.{is_designator, flight_key}

@@ -11,7 +11,7 @@ use Rattle.shipment_machine.specs.declared.moves.Move.{Move}
 use Rattle.shipment_machine.specs.declared.moves.Place.{Place}
 use Rattle.shipment_machine.specs.declared.moves.Place.TheVariants.{Hand, Surplus, Free, Built, Departed, Delivered, Missing, Transferred}
 use Rattle.shipment_machine.proofs.FlightKeys.{same-is, same-refl}
-use Rattle.row_laws.proofs.Keys.{pair_eq, int_tied, first_true, second_true}
+use Rattle.station_schema.proofs.OneRow.{pair_eq, int_tied, first_true, second_true}
 use Rattle.station_schema.specs.Tables.{Count, CountKey, count_cmp, Build}
 use Rattle.row_codec.specs.Counts.{Running, running, is_nothing, unless_nothing, running_in, running_on, count_row, build_row}
 use Rattle.row_codec.specs.Moves.{place_code, plain_place}

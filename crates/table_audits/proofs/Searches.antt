@@ -13,12 +13,12 @@ use Rattle.std.proofs.lemmas.Bool.Decides.{nat_tests}
 use Rattle.std.specs.FinMap.{FinMap, IsAntisymmetric, entries, get, contains_key, get-entries}
 use Rattle.std.specs.FinMap.{find as find_entry}
 use Rattle.std.specs.Cmp.{eq_by_cmp_equiv}
-use Rattle.row_laws.proofs.Maps.{entries_rise}
+use Rattle.station_schema.proofs.Maps.{entries_rise}
 use Rattle.row_codec.proofs.MapLaws.{each_entry}
 use Rattle.sqlite.specs.Tree.{IsAscending}
 use Rattle.sqlite_keyed.specs.Keyed.{has_key}
 use Rattle.table_load.proofs.TableLemmas.{ascending_sorted}
-use Rattle.row_laws.proofs.Keys.{int_tied}
+use Rattle.station_schema.proofs.OneRow.{int_tied}
 use Rattle.station_schema.specs.Tables.{waybill_id}
 use Rattle.station_rows.specs.declared.waybills.WaybillRow.{WaybillRow}
 use Rattle.station_rows.specs.Meant.{waybill_meant}

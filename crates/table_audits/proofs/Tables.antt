@@ -11,7 +11,7 @@ use Rattle.sqlite.specs.Tree.{IsAscending}
 use Rattle.sqlite.specs.Effect.{Database}
 use Rattle.sqlite_keyed.proofs.ListLemmas.{all_weaker, ascending-map, ascending_weaker}
 use Rattle.sqlite_keyed.proofs.SortLemmas.{sorted_unique}
-use Rattle.row_laws.proofs.Maps.{entries_of, entries_rise}
+use Rattle.station_schema.proofs.Maps.{entries_of, entries_rise}
 use Rattle.shipment_machine.specs.declared.moves.Move as cargo
 use Rattle.shipment_machine.specs.declared.moves.Place.{Place}
 use Rattle.shipment_machine.specs.declared.moves.Place.TheVariants as place

@@ -5,7 +5,7 @@ use Rattle.sqlite.specs.declared.error.Error.{Error}
 use Rattle.sqlite.specs.State.{HasCleanDisk}
 use Rattle.sqlite.specs.Held.{Held, state}
 use Rattle.sqlite_trees.specs.declared.store.Store.{Ghosts}
-use Rattle.row_laws.specs.Calls.{Reads}
+use Rattle.station_schema.specs.Effects.{Reads}
 use Rattle.station_schema.specs.Tables.{Tables}
 use Rattle.station_rows.specs.Meant.{waybill_meant}
 use Rattle.row_codec.specs.Counts.{running}

@@ -6,7 +6,7 @@ ghost use Rattle.table_audits.specs.declared.name.TableName.TheVariants as table
 use std::fmt;
 
 /// The tables of a station, in the order of their audits: each is tested against those before it.
-#[derive(Clone, Copy, Debug, PartialEq, Eq)]
+#[derive(Clone, Copy, Debug)]
 pub enum TableName {
     /// The station's one row: its airport, the version of the file, and the number of the last
     /// confirmed message.

@@ -2,7 +2,7 @@ ghost use Rattle.std.specs.Prelude.{◌≡◌, IsTrue};
 ghost use Rattle.table_load.specs.Reading.{station_read, read_as};
 ghost use Rattle.sqlite.specs.State.{HasCleanDisk, Survives};
 ghost use Rattle.sqlite.specs.Held.{state};
-ghost use Rattle.row_laws.specs.Calls.{Reads};
+ghost use Rattle.station_schema.specs.Effects.{Reads};
 ghost use Rattle.table_load.specs.Verdict.{one_row};
 ghost use Rattle.table_audits.specs.Verdict.{Judges};
 
@@ -17,7 +17,7 @@ use std::alloc::Global;
 use table_load::{FileVersion, StationFound, found_station};
 
 /// The findings about a station besides its rows.
-#[derive(Clone, Copy, Debug, PartialEq, Eq)]
+#[derive(Clone, Copy)]
 pub struct FoundState {
     /// The airport of the station.
     pub here: Airport,

@@ -14,21 +14,21 @@ use std::alloc::Global;
 use std::collections::BTreeMap;
 
 /// A waybill and the code of a place that isn't built.
-#[derive(Clone, Copy, Debug, PartialEq, Eq, PartialOrd, Ord)]
+#[derive(Clone, Copy, PartialEq, Eq, PartialOrd, Ord)]
 pub(crate) struct CountPlace {
     pub(crate) awb: i64,
     pub(crate) place: i64,
 }
 
 /// A flight, by its index in a list of flights, and a waybill built on it.
-#[derive(Clone, Copy, Debug, PartialEq, Eq, PartialOrd, Ord)]
+#[derive(Clone, Copy, PartialEq, Eq, PartialOrd, Ord)]
 pub(crate) struct BuildPlace {
     pub(crate) flight: usize,
     pub(crate) awb: i64,
 }
 
 /// A place from which or to which pieces move.
-#[derive(Clone, Copy, Debug, PartialEq, Eq)]
+#[derive(Clone, Copy)]
 pub(crate) enum Spot {
     /// A place that isn't built, by its code.
     Plain(i64),
@@ -37,7 +37,7 @@ pub(crate) enum Spot {
 }
 
 /// A move for posting.
-#[derive(Clone, Copy, Debug, PartialEq, Eq)]
+#[derive(Clone, Copy)]
 pub(crate) struct Posting {
     /// The waybill's number.
     pub(crate) awb: i64,

@@ -4,11 +4,11 @@ ghost use Rattle.table_audits.specs.Sums.{meant, plus_tally};
 
 /// Memory ran out for a book's sums, or a sum doesn't fit into 64 bits, which takes more than 10^12
 /// moves.
-#[derive(Clone, Copy, Debug, PartialEq, Eq)]
+#[derive(Clone, Copy)]
 pub(crate) struct NoRoom;
 
 /// The pieces and tenths of a kilogram that came to a place, less those that left it.
-#[derive(Clone, Copy, Debug, PartialEq, Eq)]
+#[derive(Clone, Copy)]
 pub(crate) struct Tally {
     pub(crate) pieces: i64,
     pub(crate) tenths: i64,

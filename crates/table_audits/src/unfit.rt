@@ -1,7 +1,7 @@
 use crate::TableName;
 
 /// The reason why a database isn't a station's.
-#[derive(Clone, Copy, Debug, PartialEq, Eq)]
+#[derive(Clone, Copy)]
 pub enum Unfit {
     /// The table `station` is missing or has no row.
     NoStation,

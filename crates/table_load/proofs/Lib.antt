@@ -6,7 +6,10 @@ pub mod StationLemmas
 pub mod TableLemmas
 pub mod Texts
 pub mod TypedLemmas
-pub mod ValueLemmas
 pub mod WalkLemmas
 pub mod WalkLoops
 pub mod WholeLemmas
+mod UpgradeTexts
+mod Adding
+mod Copying
+mod Upgrading

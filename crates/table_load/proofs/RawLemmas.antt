@@ -37,9 +37,9 @@ use Rattle.sqlite.proofs.Callers.{IsPlain, command_of, reads_as, never_commits}
 use Rattle.sqlite_resolve.specs.declared.compiled.Compiled.{Compiled}
 use Rattle.sqlite_resolve.specs.declared.error.CompileError.TheVariants.{Mismatch}
 use Rattle.sqlite_resolve.specs.Lowering.{Checked}
-use Rattle.row_laws.specs.Calls.{Stops}
-use Rattle.row_laws.proofs.Inside.{not_run, query_stops, query_keeps}
-use Rattle.row_laws.proofs.Keyed.{no_overlay}
+use Rattle.station_schema.specs.Effects.{Stops}
+use Rattle.station_schema.proofs.Inside.{not_run, query_stops, query_keeps}
+use Rattle.station_schema.proofs.Keyed.{no_overlay}
 use Rattle.table_load.specs.Selects.{IsSelect}
 use Rattle.table_load.specs.Walks.{IsReadOnly}
 use Rattle.table_load.proofs.AnySchema.{InTable, Means, means, names_of, term_in, by_in, asks_of, program_of}

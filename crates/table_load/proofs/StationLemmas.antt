@@ -12,7 +12,7 @@ use Rattle.sqlite.specs.Order.{Row, column}
 use Rattle.sqlite.specs.Effect.{Database}
 use Rattle.sqlite.specs.State.{State, IsUnchanged}
 use Rattle.sqlite.proofs.Callers.{one_permutation}
-use Rattle.row_laws.specs.Calls.{Reads}
+use Rattle.station_schema.specs.Effects.{Reads}
 use Rattle.table_load.specs.Raw.{found}
 use Rattle.table_load.specs.Whole.{ShowsWhole}
 use Rattle.table_load.proofs.TableLemmas.{all_columns}

@@ -13,7 +13,7 @@ use Rattle.sqlite.specs.declared.error.Error.{Error}
 use Rattle.sqlite_sql.proofs.QueryLemmas.{key_cmp_total}
 use Rattle.sqlite_keyed.proofs.SortLemmas.{sorted_unique}
 use Rattle.sqlite_keyed.proofs.ListLemmas.{map_back, ascending-map, ascending_weaker}
-use Rattle.row_laws.specs.Calls.{Reads, Stops}
+use Rattle.station_schema.specs.Effects.{Reads, Stops}
 use Rattle.table_load.specs.Raw.{found, rows_of, rising_keys, key_order, AreInOrder}
 use Rattle.table_load.specs.Whole.{AreLawful, AreRowsOf, HoldsTable, Agrees}
 use Rattle.table_load.specs.Walks.{TellsFold, TellsRows}

@@ -16,9 +16,9 @@ use Rattle.std.specs.declared.cmp.Ordering.{Ordering}
 use Rattle.sqlite.proofs.Callers.{unchanged_then}
 use Rattle.sqlite.proofs.StateLemmas.{survives_then}
 use Rattle.sqlite.proofs.StreamLemmas.{given_plain, rolled_back_since}
-use Rattle.row_laws.specs.Calls.{Stops}
-use Rattle.row_laws.specs.Streams.{Moves}
-use Rattle.row_laws.proofs.Inside.{not_run, query_stops}
+use Rattle.station_schema.specs.Effects.{Stops}
+use Rattle.station_schema.specs.Streams.{Moves}
+use Rattle.station_schema.proofs.Inside.{not_run, query_stops}
 use Rattle.table_load.specs.Whole.{Agrees, AreLawful}
 use Rattle.table_load.specs.Walks.{IsTyped, IsWalked, IsReadOnly, Walks}
 use Rattle.table_load.specs.declared.walk.Walk.{Walk}

@@ -1,6 +1,5 @@
 -- From the names in a schema to the rows that a query shows.
-use Rattle.std.proofs.Common.{◌≡◌, ◌≢◌, ℕ, ◌≤◌, List, [], map, length, Bool, true, false, None, Some, Option, IsTrue, refl, sym, ap, ◌∙◌, take, arith, Bor}
-use Rattle.std.proofs.lemmas.List.{length-map}
+use Rattle.std.proofs.Common.{◌≡◌, ◌≢◌, ℕ, List, [], map, Bool, true, false, None, Some, Option, IsTrue, refl, sym, ap, ◌∙◌}
 use Rattle.sqlite.specs.Schema.{Schema}
 use Rattle.std.specs.Prelude.{Vec, is_some}
 use Rattle.std.specs.declared.alloc.Global.{Global}
@@ -10,10 +9,11 @@ use Rattle.sqlite.specs.Tree.{Trees}
 use Rattle.sqlite.specs.Table.{Table}
 use Rattle.sqlite.specs.State.{State, Survives, IsUnchanged, FailsToQuery, Shown, CommitsShowing}
 use Rattle.sqlite.specs.declared.error.Error.{Error}
-use Rattle.row_laws.specs.Calls.{Stops}
+use Rattle.station_schema.specs.Effects.{Stops}
 use Rattle.std.specs.List.Sorted.{IsPermutation}
 use Rattle.table_load.specs.Raw.{AreInOrder, rows_of, found, found_at, found_in, table_by_name, places_by_name}
-use Rattle.table_load.specs.Selects.{IsSelect}
+use Rattle.table_load.specs.Selects.{IsQuery, column_names}
+use Rattle.table_load.specs.declared.query.TableQuery.{TableQuery}
 use Rattle.table_load.specs.Walks.{IsReadOnly}
 use Rattle.table_load.specs.Whole.{is_whole, is_whole_in, ShowsWhole}
 use Rattle.table_load.proofs.RawLemmas.{plain_whole, reads_whole, stops_whole, survives_whole}
@@ -38,40 +38,43 @@ lost trees names (Some table) h raw e = lost_in trees table (places_by_name tabl
 
 -- ---- as a call returns it
 
-pub is_there : (schema now : Schema) (name : List ℕ) (names : List (List ℕ)) (told : Bool) → schema ≡ now → told ≡ is_whole schema name names → told ≡ true → is_whole now name names ≡ true
+is_there : (schema now : Schema) (name : List ℕ) (names : List (List ℕ)) (told : Bool) → schema ≡ now → told ≡ is_whole schema name names → told ≡ true → is_whole now name names ≡ true
 is_there schema now name names told same is h = ap (λ s. is_whole s name names) (sym same) ∙ sym is ∙ h
-
-pub few_names : (columns : List (Bor (List ℕ))) (n : ℕ) → n ≤ length columns → n ≤ length (map (λ c. c.now) columns)
-few_names columns n few = let e : length (map (λ c. c.now) columns) ≡ length columns = length-map columns (λ c. c.now) in omega arith
 
 -- ---- the query for a whole table
 
-module _ (text name : List ℕ) (names : List (List ℕ)) (n : ℕ) (low : n ≤ length names) (select : IsSelect text name names (take n names)) (old new : State) (whole : is_whole old.now.schema name names ≡ true) where
-  abbrev there : (raw : List Row) × (found old.now name names ≡ rows_of raw)
-  there = held old.now.trees names (table_by_name old.now.schema name) whole
+module _ (query : TableQuery) (is : IsQuery query) (old new : State) {schema : Schema} {told : Bool} (same : schema ≡ old.now.schema) (tested : told ≡ is_whole schema query.name.now (column_names query)) (yes : told ≡ true) where
+  abbrev text : List ℕ
+  text = query.text.now
 
-  pub shows_whole : (rows : Vec Row Global) → Shown text [] old new rows.items → ShowsWhole (found old.now name names) n (Some rows) × IsUnchanged old new
+  abbrev names : List (List ℕ)
+  names = column_names query
+
+  abbrev there : (raw : List Row) × (found old.now query.name.now names ≡ rows_of raw)
+  there = held old.now.trees names (table_by_name old.now.schema query.name.now) (is_there schema old.now.schema query.name.now names told same tested yes)
+
+  pub shows_whole : (rows : Vec Row Global) → Shown text [] old new rows.items → ShowsWhole (found old.now query.name.now names) query.keys (Some rows) × IsUnchanged old new
   shows_whole rows h =
-      let got = reads_whole text name names n low select old new there.0 there.1 rows.items h in
+      let got = reads_whole text query.name.now names query.keys is.few is.selects old new there.0 there.1 rows.items h in
       ((there.0, there.1, got.0.same, got.0.sorted), got.1)
 
   pub plain : IsReadOnly old.now.schema text
-  plain = plain_whole text name names n low select old new there.0 there.1
+  plain = plain_whole text query.name.now names query.keys is.few is.selects old new there.0 there.1
 
   -- the rows that were given are those of the table
   abbrev pub IsGiven : List Row → Type 0
-  IsGiven rows = (raw : List Row) × (found old.now name names ≡ rows_of raw) × IsPermutation raw rows × AreInOrder n rows
+  IsGiven rows = (raw : List Row) × (found old.now query.name.now names ≡ rows_of raw) × IsPermutation raw rows × AreInOrder query.keys rows
 
   pub given_whole : (rows : List Row) → Shown text [] old new rows → IsGiven rows
   given_whole rows h =
-      let got = reads_whole text name names n low select old new there.0 there.1 rows h in
+      let got = reads_whole text query.name.now names query.keys is.few is.selects old new there.0 there.1 rows h in
       (there.0, there.1, got.0.same, got.0.sorted)
 
   pub stops : (e : Error) → FailsToQuery text [] old new e → Stops old new
-  stops e h = stops_whole text name names n low select old new there.0 there.1 e h
+  stops e h = stops_whole text query.name.now names query.keys is.few is.selects old new there.0 there.1 e h
 
   pub survives : Survives old new (CommitsShowing text [] old) → Survives old new (λ _. ⊥)
-  survives h = survives_whole text name names n low select old new there.0 there.1 h
+  survives h = survives_whole text query.name.now names query.keys is.few is.selects old new there.0 there.1 h
 
 pub at_rest : (s : State) → IsTrue s.is_open → IsUnchanged s s
 at_rest s up = (record { was_open = up; is_open = up; now_is = refl; committed_is = refl; mode = refl }, record { changes = refl; last_rowid = refl }, refl)

@@ -6,3 +6,4 @@ pub mod Typed
 pub mod Verdict
 pub mod Walks
 pub mod Whole
+pub mod Upgrade

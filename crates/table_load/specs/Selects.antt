@@ -1,5 +1,5 @@
 -- SQL texts that select columns of one table, ordered by the first of them.
-use Rattle.std.specs.Prelude.{◌≡◌, ◌<◌, ℕ, List, [], ◌∷◌, length, false, None, Ok}
+use Rattle.std.specs.Prelude.{◌≡◌, ◌<◌, ◌≤◌, ℕ, List, [], ◌∷◌, map, take, length, false, None, Ok}
 use Rattle.sqlite_ast.specs.declared.Expr.{Expr, out-Expr}
 use Rattle.sqlite_ast.specs.declared.Expr.TheOpen.{Expr-F, Shown-F}
 use Rattle.sqlite_ast.specs.declared.Shown.{Shown, out-Shown}
@@ -11,6 +11,7 @@ use Rattle.sqlite_ast.specs.declared.Origin.TheVariants as origin
 use Rattle.sqlite_ast.specs.declared.Statement.TheVariants as written
 use Rattle.sqlite_syntax.specs.declared.statement.Parsed.{Parsed}
 use Rattle.sqlite_resolve.specs.Compile.{first}
+use Rattle.table_load.specs.declared.query.TableQuery.{TableQuery}
 
 -- exactly these columns are shown, without AS
 abbrev pub AreShown : List Shown → List (List ℕ) → Type 0
@@ -61,3 +62,11 @@ pub record IsSelect (text name : List ℕ) (names keys : List (List ℕ)) : Type
   pub select_is : IsPlainSelect name names keys sel
   pub few : length names < 1000
   pub few_keys : length keys < 1000
+
+abbrev pub column_names : TableQuery → List (List ℕ)
+column_names query = map (λ n. n.now) query.columns.now
+
+-- the text selects the columns of the table, ordered by those of the key
+pub record IsQuery (query : TableQuery) : Type 0 where
+  pub few : query.keys ≤ length (column_names query)
+  pub selects : IsSelect query.text.now query.name.now (column_names query) (take query.keys (column_names query))

@@ -12,7 +12,7 @@ use Rattle.sqlite.specs.State.{State, HasCleanDisk, IsUnchanged, Shown}
 use Rattle.sqlite.specs.declared.error.Error.{Error}
 use Rattle.sqlite_resolve.specs.declared.compiled.Compiled.{Compiled}
 use Rattle.sqlite_trees.specs.declared.store.Store.{Ghosts}
-use Rattle.row_laws.specs.Calls.{Reads, Stops}
+use Rattle.station_schema.specs.Effects.{Reads, Stops}
 use Rattle.table_load.specs.Whole.{AreRowsOf}
 use Rattle.table_load.specs.declared.walk.Walk.{Walk}
 

@@ -14,7 +14,7 @@ use Rattle.sqlite.specs.declared.error.Error.{Error}
 use Rattle.sqlite.specs.State.{HasCleanDisk}
 use Rattle.sqlite.specs.Held.{Held, state}
 use Rattle.sqlite_trees.specs.declared.store.Store.{Ghosts}
-use Rattle.row_laws.specs.Calls.{Reads}
+use Rattle.station_schema.specs.Effects.{Reads}
 use Rattle.table_load.specs.Raw.{Found, found, rows_of, table_by_name, places_by_name, key_order, AreInOrder}
 
 -- ---- the schema

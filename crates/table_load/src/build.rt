@@ -4,22 +4,16 @@ ghost use Rattle.table_load.specs.Whole.{FindsTable};
 ghost use Rattle.station_rows.specs.Meant.{build_meant};
 ghost use Rattle.table_load.specs.Held.{HoldsBuild};
 
-use crate::{KeyedTable, found_rows, number, words};
-use sqlite::{Alter, Connection, Error, Row};
+use crate::{Cells, KeyedRow, RowError, TableQuery, found_rows};
+use sqlite::{Alter, Connection, Error};
 use station_rows::BuildRow;
 use std::alloc::Global;
-use std::cmp::Ordering;
 
-/// The table `build`. Its key is `flight`, `day` and `awb`.
-struct BuildTable;
-
-impl KeyedTable for BuildTable {
+impl KeyedRow for BuildRow {
     ghost use Rattle.std.specs.Prelude.{ℕ, ℤ, List, refl};
     ghost use Rattle.station_schema.specs.Tables.{Build, BuildKey, build_cmp, build_row};
     ghost use Rattle.station_rows.specs.Shown.{build_read};
     ghost use Rattle.table_load.specs.Held.{by_key, HasBuildTexts};
-
-    type Row = BuildRow;
 
     ghost Entry = { BuildKey × Build };
 
@@ -35,40 +29,20 @@ impl KeyedTable for BuildTable {
 
     ghost back = { λ _. refl };
 
-    fn typed(alloc: Global, row: &Row) -> Result<Option<BuildRow>, Error> {
-        if row.column_count() != 5 {
-            return Ok(None);
-        }
-        let Some(flight) = words(alloc, row, 0)? else {
-            return Ok(None);
+    fn typed(cells: &mut Cells<'_>) -> Result<BuildRow, RowError> {
+        let row = BuildRow {
+            flight: cells.text()?,
+            day: cells.number()?,
+            awb: cells.number()?,
+            pieces: cells.number()?,
+            tenths: cells.number()?,
         };
-        let Some(day) = number(row, 1) else {
-            return Ok(None);
-        };
-        let Some(awb) = number(row, 2) else {
-            return Ok(None);
-        };
-        let Some(pieces) = number(row, 3) else {
-            return Ok(None);
-        };
-        let Some(tenths) = number(row, 4) else {
-            return Ok(None);
-        };
-        Ok(Some(BuildRow {
-            flight,
-            day,
-            awb,
-            pieces,
-            tenths,
-        }))
+        cells.end()?;
+        Ok(row)
     }
 
-    fn is_below(row: &BuildRow, next: &BuildRow) -> bool {
-        match row.flight.as_str().cmp(next.flight.as_str()) {
-            Ordering::Less => true,
-            Ordering::Equal => row.day < next.day || (row.day == next.day && row.awb < next.awb),
-            Ordering::Greater => false
-        }
+    fn is_below(&self, next: &BuildRow) -> bool {
+        (self.flight.as_str(), (self.day, self.awb)) < (next.flight.as_str(), (next.day, next.awb))
     }
 }
 
@@ -82,12 +56,11 @@ pub fn found_builds<S: Alter>(
     ensures read { FindsTable S.Store conn.old conn.new result build_meant HoldsBuild }
     ensures survives { Survives (state S.Store conn.old) (state S.Store conn.new) (λ _. ⊥) }
 {
-    found_rows::<S, BuildTable>(
-        alloc,
-        conn,
-        "SELECT flight, day, awb, pieces, tenths FROM build ORDER BY flight, day, awb",
-        "build",
-        &["flight", "day", "awb", "pieces", "tenths"],
-        3,
-    )
+    let query = TableQuery {
+        text: "SELECT flight, day, awb, pieces, tenths FROM build ORDER BY flight, day, awb",
+        name: "build",
+        columns: &["flight", "day", "awb", "pieces", "tenths"],
+        keys: 3,
+    };
+    found_rows(alloc, conn, &query)
 }

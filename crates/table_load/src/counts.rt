@@ -4,21 +4,16 @@ ghost use Rattle.table_load.specs.Whole.{FindsTable};
 ghost use Rattle.station_rows.specs.Meant.{count_meant};
 ghost use Rattle.table_load.specs.Held.{HoldsCounts};
 
-use crate::{KeyedTable, found_rows, number};
-use sqlite::{Alter, Connection, Error, Row};
+use crate::{Cells, KeyedRow, RowError, TableQuery, found_rows};
+use sqlite::{Alter, Connection, Error};
 use station_rows::CountRow;
 use std::alloc::Global;
 
-/// The table `counts`. Its key is `awb` and `place`.
-struct CountsTable;
-
-impl KeyedTable for CountsTable {
+impl KeyedRow for CountRow {
     ghost use Rattle.std.specs.Prelude.{ℕ, ℤ, List, refl};
     ghost use Rattle.station_schema.specs.Tables.{Count, CountKey, count_cmp, count_row};
     ghost use Rattle.station_rows.specs.Shown.{count_read};
     ghost use Rattle.table_load.specs.Held.{by_key, HasCountsTexts};
-
-    type Row = CountRow;
 
     ghost Entry = { CountKey × Count };
 
@@ -34,32 +29,19 @@ impl KeyedTable for CountsTable {
 
     ghost back = { λ _. refl };
 
-    fn typed(_alloc: Global, row: &Row) -> Result<Option<CountRow>, Error> {
-        if row.column_count() != 4 {
-            return Ok(None);
-        }
-        let Some(awb) = number(row, 0) else {
-            return Ok(None);
+    fn typed(cells: &mut Cells<'_>) -> Result<CountRow, RowError> {
+        let row = CountRow {
+            awb: cells.number()?,
+            place: cells.number()?,
+            pieces: cells.number()?,
+            tenths: cells.number()?,
         };
-        let Some(place) = number(row, 1) else {
-            return Ok(None);
-        };
-        let Some(pieces) = number(row, 2) else {
-            return Ok(None);
-        };
-        let Some(tenths) = number(row, 3) else {
-            return Ok(None);
-        };
-        Ok(Some(CountRow {
-            awb,
-            place,
-            pieces,
-            tenths,
-        }))
+        cells.end()?;
+        Ok(row)
     }
 
-    fn is_below(row: &CountRow, next: &CountRow) -> bool {
-        row.awb < next.awb || (row.awb == next.awb && row.place < next.place)
+    fn is_below(&self, next: &CountRow) -> bool {
+        (self.awb, self.place) < (next.awb, next.place)
     }
 }
 
@@ -73,12 +55,11 @@ pub fn found_counts<S: Alter>(
     ensures read { FindsTable S.Store conn.old conn.new result count_meant HoldsCounts }
     ensures survives { Survives (state S.Store conn.old) (state S.Store conn.new) (λ _. ⊥) }
 {
-    found_rows::<S, CountsTable>(
-        alloc,
-        conn,
-        "SELECT awb, place, pieces, tenths FROM counts ORDER BY awb, place",
-        "counts",
-        &["awb", "place", "pieces", "tenths"],
-        2,
-    )
+    let query = TableQuery {
+        text: "SELECT awb, place, pieces, tenths FROM counts ORDER BY awb, place",
+        name: "counts",
+        columns: &["awb", "place", "pieces", "tenths"],
+        keys: 2,
+    };
+    found_rows(alloc, conn, &query)
 }

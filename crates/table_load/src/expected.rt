@@ -3,13 +3,12 @@ ghost use Rattle.sqlite.specs.Held.{state};
 ghost use Rattle.table_load.specs.Whole.{FindsTable};
 ghost use Rattle.table_load.specs.Held.{HoldsExpected, expected_entry};
 
-use crate::{KeyedTable, found_rows, number, words};
-use sqlite::{Alter, Connection, Error, Row};
+use crate::{Cells, KeyedRow, RowError, TableQuery, found_rows};
+use sqlite::{Alter, Connection, Error};
 use std::alloc::Global;
-use std::cmp::Ordering;
 
 /// A row of `expected`. Its key is `flight`, `day` and `awb`.
-#[derive(Debug, Drop)]
+#[derive(Drop)]
 pub struct ExpectedEntry {
     /// The flight, in its written form.
     pub flight: String,
@@ -25,15 +24,10 @@ pub struct ExpectedEntry {
     pub checked: i64,
 }
 
-/// The table `expected`. Its key is `flight`, `day` and `awb`.
-struct ExpectedTable;
-
-impl KeyedTable for ExpectedTable {
+impl KeyedRow for ExpectedEntry {
     ghost use Rattle.std.specs.Prelude.{ℕ, ℤ, List, refl};
     ghost use Rattle.station_schema.specs.Tables.{Expected, ExpectedKey, expected_cmp, expected_row};
     ghost use Rattle.table_load.specs.Held.{by_key, HasExpectedTexts, expected_back};
-
-    type Row = ExpectedEntry;
 
     ghost Entry = { ExpectedKey × Expected };
 
@@ -49,44 +43,21 @@ impl KeyedTable for ExpectedTable {
 
     ghost back = { λ _. refl };
 
-    fn typed(alloc: Global, row: &Row) -> Result<Option<ExpectedEntry>, Error> {
-        if row.column_count() != 6 {
-            return Ok(None);
-        }
-        let Some(flight) = words(alloc, row, 0)? else {
-            return Ok(None);
+    fn typed(cells: &mut Cells<'_>) -> Result<ExpectedEntry, RowError> {
+        let row = ExpectedEntry {
+            flight: cells.text()?,
+            day: cells.number()?,
+            awb: cells.number()?,
+            pieces: cells.number()?,
+            tenths: cells.number()?,
+            checked: cells.number()?,
         };
-        let Some(day) = number(row, 1) else {
-            return Ok(None);
-        };
-        let Some(awb) = number(row, 2) else {
-            return Ok(None);
-        };
-        let Some(pieces) = number(row, 3) else {
-            return Ok(None);
-        };
-        let Some(tenths) = number(row, 4) else {
-            return Ok(None);
-        };
-        let Some(checked) = number(row, 5) else {
-            return Ok(None);
-        };
-        Ok(Some(ExpectedEntry {
-            flight,
-            day,
-            awb,
-            pieces,
-            tenths,
-            checked,
-        }))
+        cells.end()?;
+        Ok(row)
     }
 
-    fn is_below(row: &ExpectedEntry, next: &ExpectedEntry) -> bool {
-        match row.flight.as_str().cmp(next.flight.as_str()) {
-            Ordering::Less => true,
-            Ordering::Equal => row.day < next.day || (row.day == next.day && row.awb < next.awb),
-            Ordering::Greater => false
-        }
+    fn is_below(&self, next: &ExpectedEntry) -> bool {
+        (self.flight.as_str(), (self.day, self.awb)) < (next.flight.as_str(), (next.day, next.awb))
     }
 }
 
@@ -100,12 +71,11 @@ pub fn found_expected<S: Alter>(
     ensures read { FindsTable S.Store conn.old conn.new result expected_entry HoldsExpected }
     ensures survives { Survives (state S.Store conn.old) (state S.Store conn.new) (λ _. ⊥) }
 {
-    found_rows::<S, ExpectedTable>(
-        alloc,
-        conn,
-        "SELECT flight, day, awb, pieces, tenths, checked FROM expected ORDER BY flight, day, awb",
-        "expected",
-        &["flight", "day", "awb", "pieces", "tenths", "checked"],
-        3,
-    )
+    let query = TableQuery {
+        text: "SELECT flight, day, awb, pieces, tenths, checked FROM expected ORDER BY flight, day, awb",
+        name: "expected",
+        columns: &["flight", "day", "awb", "pieces", "tenths", "checked"],
+        keys: 3,
+    };
+    found_rows(alloc, conn, &query)
 }

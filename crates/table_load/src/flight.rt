@@ -3,13 +3,12 @@ ghost use Rattle.sqlite.specs.Held.{state};
 ghost use Rattle.table_load.specs.Whole.{FindsTable};
 ghost use Rattle.table_load.specs.Held.{HoldsFlight, flight_entry};
 
-use crate::{KeyedTable, found_rows, number, words};
-use sqlite::{Alter, Connection, Error, Row};
+use crate::{Cells, KeyedRow, RowError, TableQuery, found_rows};
+use sqlite::{Alter, Connection, Error};
 use std::alloc::Global;
-use std::cmp::Ordering;
 
 /// A row of `flight`. Its key is `flight` and `day`.
-#[derive(Debug, Drop)]
+#[derive(Drop)]
 pub struct FlightEntry {
     /// The flight, in its written form.
     pub flight: String,
@@ -21,15 +20,10 @@ pub struct FlightEntry {
     pub closed: i64,
 }
 
-/// The table `flight`. Its key is `flight` and `day`.
-struct FlightTable;
-
-impl KeyedTable for FlightTable {
+impl KeyedRow for FlightEntry {
     ghost use Rattle.std.specs.Prelude.{ℕ, ℤ, List, refl};
     ghost use Rattle.station_schema.specs.Tables.{Flight, FlightKey, flight_cmp, flight_row};
     ghost use Rattle.table_load.specs.Held.{by_key, HasFlightTexts, flight_back};
-
-    type Row = FlightEntry;
 
     ghost Entry = { FlightKey × Flight };
 
@@ -45,36 +39,19 @@ impl KeyedTable for FlightTable {
 
     ghost back = { λ _. refl };
 
-    fn typed(alloc: Global, row: &Row) -> Result<Option<FlightEntry>, Error> {
-        if row.column_count() != 4 {
-            return Ok(None);
-        }
-        let Some(flight) = words(alloc, row, 0)? else {
-            return Ok(None);
+    fn typed(cells: &mut Cells<'_>) -> Result<FlightEntry, RowError> {
+        let row = FlightEntry {
+            flight: cells.text()?,
+            day: cells.number()?,
+            unload: cells.text()?,
+            closed: cells.number()?,
         };
-        let Some(day) = number(row, 1) else {
-            return Ok(None);
-        };
-        let Some(unload) = words(alloc, row, 2)? else {
-            return Ok(None);
-        };
-        let Some(closed) = number(row, 3) else {
-            return Ok(None);
-        };
-        Ok(Some(FlightEntry {
-            flight,
-            day,
-            unload,
-            closed,
-        }))
+        cells.end()?;
+        Ok(row)
     }
 
-    fn is_below(row: &FlightEntry, next: &FlightEntry) -> bool {
-        match row.flight.as_str().cmp(next.flight.as_str()) {
-            Ordering::Less => true,
-            Ordering::Equal => row.day < next.day,
-            Ordering::Greater => false
-        }
+    fn is_below(&self, next: &FlightEntry) -> bool {
+        (self.flight.as_str(), self.day) < (next.flight.as_str(), next.day)
     }
 }
 
@@ -88,12 +65,11 @@ pub fn found_flights<S: Alter>(
     ensures read { FindsTable S.Store conn.old conn.new result flight_entry HoldsFlight }
     ensures survives { Survives (state S.Store conn.old) (state S.Store conn.new) (λ _. ⊥) }
 {
-    found_rows::<S, FlightTable>(
-        alloc,
-        conn,
-        "SELECT flight, day, unload, closed FROM flight ORDER BY flight, day",
-        "flight",
-        &["flight", "day", "unload", "closed"],
-        2,
-    )
+    let query = TableQuery {
+        text: "SELECT flight, day, unload, closed FROM flight ORDER BY flight, day",
+        name: "flight",
+        columns: &["flight", "day", "unload", "closed"],
+        keys: 2,
+    };
+    found_rows(alloc, conn, &query)
 }

@@ -4,12 +4,12 @@ ghost use Rattle.sqlite.specs.Held.{state};
 ghost use Rattle.table_load.specs.Walks.{FoldsTable};
 ghost use Rattle.table_load.specs.Held.{HoldsKeptKey, kept_key_entry};
 
-use crate::{KeyedTable, RowFold, fold_rows, number, words};
-use sqlite::{Alter, Connection, Error, Row};
+use crate::{Cells, KeyedRow, RowError, RowFold, TableQuery, fold_rows};
+use sqlite::{Alter, Connection, Error};
 use std::alloc::Global;
 
 /// A row of `kept_key`. Its key is `id`.
-#[derive(Debug, Drop)]
+#[derive(Drop)]
 pub struct KeptKeyEntry {
     /// The key of the request.
     pub id: String,
@@ -19,15 +19,10 @@ pub struct KeptKeyEntry {
     pub count: i64,
 }
 
-/// The table `kept_key`. Its key is `id`.
-struct KeptKeyTable;
-
-impl KeyedTable for KeptKeyTable {
+impl KeyedRow for KeptKeyEntry {
     ghost use Rattle.std.specs.Prelude.{ℕ, ℤ, List, refl};
     ghost use Rattle.station_schema.specs.Tables.{Kept, kept_cmp, kept_row};
     ghost use Rattle.table_load.specs.Held.{by_key, HasKeptKeyTexts, kept_key_back};
-
-    type Row = KeptKeyEntry;
 
     ghost Entry = { List ℕ × Kept };
 
@@ -43,24 +38,18 @@ impl KeyedTable for KeptKeyTable {
 
     ghost back = { λ _. refl };
 
-    fn typed(alloc: Global, row: &Row) -> Result<Option<KeptKeyEntry>, Error> {
-        if row.column_count() != 3 {
-            return Ok(None);
-        }
-        let Some(id) = words(alloc, row, 0)? else {
-            return Ok(None);
+    fn typed(cells: &mut Cells<'_>) -> Result<KeptKeyEntry, RowError> {
+        let row = KeptKeyEntry {
+            id: cells.text()?,
+            command: cells.text()?,
+            count: cells.number()?,
         };
-        let Some(command) = words(alloc, row, 1)? else {
-            return Ok(None);
-        };
-        let Some(count) = number(row, 2) else {
-            return Ok(None);
-        };
-        Ok(Some(KeptKeyEntry { id, command, count }))
+        cells.end()?;
+        Ok(row)
     }
 
-    fn is_below(row: &KeptKeyEntry, next: &KeptKeyEntry) -> bool {
-        row.id.as_str() < next.id.as_str()
+    fn is_below(&self, next: &KeptKeyEntry) -> bool {
+        self.id.as_str() < next.id.as_str()
     }
 }
 
@@ -78,14 +67,11 @@ pub fn fold_kept_keys<S: Alter, F: RowFold<KeptKeyEntry> + Drop>(
         HoldsKeptKey }
     ensures survives { Survives (state S.Store conn.old) (state S.Store conn.new) (λ _. ⊥) }
 {
-    fold_rows::<S, KeptKeyTable, F>(
-        alloc,
-        conn,
-        "SELECT id, command, count FROM kept_key ORDER BY id",
-        "kept_key",
-        &["id", "command", "count"],
-        1,
-        beside,
-        fold,
-    )
+    let query = TableQuery {
+        text: "SELECT id, command, count FROM kept_key ORDER BY id",
+        name: "kept_key",
+        columns: &["id", "command", "count"],
+        keys: 1,
+    };
+    fold_rows::<S, KeptKeyEntry, F>(alloc, conn, &query, beside, fold)
 }

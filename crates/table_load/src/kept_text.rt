@@ -3,12 +3,12 @@ ghost use Rattle.sqlite.specs.Held.{state};
 ghost use Rattle.table_load.specs.Whole.{FindsTable};
 ghost use Rattle.table_load.specs.Held.{HoldsKeptText, kept_text_entry};
 
-use crate::{KeyedTable, found_rows, number, words};
-use sqlite::{Alter, Connection, Error, Row};
+use crate::{Cells, KeyedRow, RowError, TableQuery, found_rows};
+use sqlite::{Alter, Connection, Error};
 use std::alloc::Global;
 
 /// A row of `kept_text`. Its key is `body`.
-#[derive(Debug, Drop)]
+#[derive(Drop)]
 pub struct KeptTextEntry {
     /// The text that was accepted.
     pub body: String,
@@ -16,15 +16,10 @@ pub struct KeptTextEntry {
     pub count: i64,
 }
 
-/// The table `kept_text`. Its key is `body`.
-struct KeptTextTable;
-
-impl KeyedTable for KeptTextTable {
+impl KeyedRow for KeptTextEntry {
     ghost use Rattle.std.specs.Prelude.{ℕ, ℤ, List, refl};
     ghost use Rattle.station_schema.specs.Tables.{kept_text_cmp, kept_text_row};
     ghost use Rattle.table_load.specs.Held.{by_key, HasKeptTextTexts, kept_text_back};
-
-    type Row = KeptTextEntry;
 
     ghost Entry = { List ℕ × ℤ };
 
@@ -40,21 +35,17 @@ impl KeyedTable for KeptTextTable {
 
     ghost back = { λ _. refl };
 
-    fn typed(alloc: Global, row: &Row) -> Result<Option<KeptTextEntry>, Error> {
-        if row.column_count() != 2 {
-            return Ok(None);
-        }
-        let Some(body) = words(alloc, row, 0)? else {
-            return Ok(None);
+    fn typed(cells: &mut Cells<'_>) -> Result<KeptTextEntry, RowError> {
+        let row = KeptTextEntry {
+            body: cells.text()?,
+            count: cells.number()?,
         };
-        let Some(count) = number(row, 1) else {
-            return Ok(None);
-        };
-        Ok(Some(KeptTextEntry { body, count }))
+        cells.end()?;
+        Ok(row)
     }
 
-    fn is_below(row: &KeptTextEntry, next: &KeptTextEntry) -> bool {
-        row.body.as_str() < next.body.as_str()
+    fn is_below(&self, next: &KeptTextEntry) -> bool {
+        self.body.as_str() < next.body.as_str()
     }
 }
 
@@ -68,12 +59,11 @@ pub fn found_kept_texts<S: Alter>(
     ensures read { FindsTable S.Store conn.old conn.new result kept_text_entry HoldsKeptText }
     ensures survives { Survives (state S.Store conn.old) (state S.Store conn.new) (λ _. ⊥) }
 {
-    found_rows::<S, KeptTextTable>(
-        alloc,
-        conn,
-        "SELECT body, count FROM kept_text ORDER BY body",
-        "kept_text",
-        &["body", "count"],
-        1,
-    )
+    let query = TableQuery {
+        text: "SELECT body, count FROM kept_text ORDER BY body",
+        name: "kept_text",
+        columns: &["body", "count"],
+        keys: 1,
+    };
+    found_rows(alloc, conn, &query)
 }

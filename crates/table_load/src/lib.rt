@@ -4,6 +4,7 @@
 #![tactic(auto)]
 
 mod build;
+mod cells;
 mod counts;
 mod expected;
 mod flight;
@@ -20,11 +21,13 @@ mod station;
 mod stock;
 mod tables;
 mod trail;
+mod upgrade;
 mod values;
 mod walk;
 mod waybill;
 
 pub use build::found_builds;
+pub use cells::{Cells, RowError};
 pub use counts::found_counts;
 pub use expected::{ExpectedEntry, found_expected};
 pub use flight::{FlightEntry, found_flights};
@@ -36,10 +39,11 @@ pub use old_waybill::{OldWaybillEntry, found_old_waybills};
 pub use outbox::fold_outbox;
 pub use own_tables::{held_is_old, held_is_typed};
 pub use part::{PartEntry, found_parts};
-pub use query::table_rows;
+pub use query::{TableQuery, table_rows};
 pub use station::{FileVersion, StationFound, found_station};
 pub use stock::found_stock;
-pub use tables::{KeyedTable, fold_rows, found_rows, held_once};
+pub use tables::{KeyedRow, fold_rows, found_rows, held_once};
 pub use trail::fold_trail;
+pub use upgrade::upgrade_tables;
 pub use values::{number, words};
 pub use waybill::found_waybills;

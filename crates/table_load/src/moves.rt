@@ -3,27 +3,18 @@ ghost use Rattle.sqlite.specs.Held.{state};
 ghost use Rattle.table_load.specs.Walks.{FoldsTable};
 ghost use Rattle.station_rows.specs.Meant.{move_meant};
 ghost use Rattle.table_load.specs.Held.{HoldsMoves};
-ghost use Rattle.std.specs.Prelude.{◌≡◌, ◌≢◌, [], length, IfSome, None, string_bytes};
-ghost use Rattle.sqlite.specs.declared.types.Value.TheVariants.{Text};
-ghost use Rattle.sqlite.specs.Order.{column};
-ghost use Rattle.station_schema.specs.Tables.{Move};
-ghost use Rattle.station_rows.specs.Shown.{move_shown};
+ghost use Rattle.std.specs.Prelude.{[]};
 
-use crate::{KeyedTable, RowFold, fold_rows, number, words};
-use sqlite::{Alter, Connection, Error, Row};
+use crate::{Cells, KeyedRow, RowError, RowFold, TableQuery, fold_rows};
+use sqlite::{Alter, Connection, Error};
 use station_rows::MoveRow;
 use std::alloc::Global;
 
-/// The table `moves`. Its key is `number`.
-struct MovesTable;
-
-impl KeyedTable for MovesTable {
+impl KeyedRow for MoveRow {
     ghost use Rattle.std.specs.Prelude.{ℕ, ℤ, List, refl};
     ghost use Rattle.station_schema.specs.Tables.{Move, move_id};
     ghost use Rattle.station_rows.specs.Shown.{move_shown, move_read};
     ghost use Rattle.table_load.specs.Held.{by_number, HasMovesTexts};
-
-    type Row = MoveRow;
 
     ghost Entry = { Move };
 
@@ -39,41 +30,26 @@ impl KeyedTable for MovesTable {
 
     ghost back = { λ _. refl };
 
-    fn typed(alloc: Global, row: &Row) -> Result<Option<MoveRow>, Error> {
-        if row.column_count() != 10 {
-            return Ok(None);
-        }
-        let Some(flight) = words(alloc, row, 6)? else {
-            return Ok(None);
+    fn typed(cells: &mut Cells<'_>) -> Result<MoveRow, RowError> {
+        let row = MoveRow {
+            number: cells.number()?,
+            awb: cells.number()?,
+            src: cells.number()?,
+            dst: cells.number()?,
+            pieces: cells.number()?,
+            tenths: cells.number()?,
+            flight: cells.text()?,
+            fday: cells.number()?,
+            day: cells.number()?,
+            minute: cells.number()?,
         };
-        Ok(move_on(row, flight))
+        cells.end()?;
+        Ok(row)
     }
 
-    fn is_below(row: &MoveRow, next: &MoveRow) -> bool {
-        row.number < next.number
+    fn is_below(&self, next: &MoveRow) -> bool {
+        self.number < next.number
     }
-}
-
-/// Returns the row of ten values with this flight, if the others are whole numbers.
-fn move_on(row: &Row, flight: String) -> Option<MoveRow>
-    requires wide { length row.now ≡ 10 }
-    requires flies { column row.now 6 ≡ Text (string_bytes flight) }
-    ensures some { IfSome result (λ r. row.now ≡ move_shown (move_meant r)) }
-    ensures flight { IfSome result (λ r. (move_meant r).flight ≡ string_bytes flight) }
-    ensures none { result ≡ None → (e : Move) → row.now ≢ move_shown e }
-{
-    Some(MoveRow {
-        number: number(row, 0)?,
-        awb: number(row, 1)?,
-        src: number(row, 2)?,
-        dst: number(row, 3)?,
-        pieces: number(row, 4)?,
-        tenths: number(row, 5)?,
-        flight,
-        fday: number(row, 7)?,
-        day: number(row, 8)?,
-        minute: number(row, 9)?,
-    })
 }
 
 /// Folds the rows of `moves` in any database, ordered by `number`. For `None` and errors see
@@ -90,16 +66,13 @@ pub fn fold_moves<S: Alter, F: RowFold<MoveRow> + Drop>(
         HoldsMoves }
     ensures survives { Survives (state S.Store conn.old) (state S.Store conn.new) (λ _. ⊥) }
 {
-    fold_rows::<S, MovesTable, F>(
-        alloc,
-        conn,
-        "SELECT number, awb, src, dst, pieces, tenths, flight, fday, day, minute FROM moves ORDER BY number",
-        "moves",
-        &[
+    let query = TableQuery {
+        text: "SELECT number, awb, src, dst, pieces, tenths, flight, fday, day, minute FROM moves ORDER BY number",
+        name: "moves",
+        columns: &[
             "number", "awb", "src", "dst", "pieces", "tenths", "flight", "fday", "day", "minute",
         ],
-        1,
-        beside,
-        fold,
-    )
+        keys: 1,
+    };
+    fold_rows::<S, MoveRow, F>(alloc, conn, &query, beside, fold)
 }

@@ -3,12 +3,12 @@ ghost use Rattle.sqlite.specs.Held.{state};
 ghost use Rattle.table_load.specs.Whole.{FindsTable};
 ghost use Rattle.table_load.specs.Held.{HoldsOldWaybill, old_waybill_entry};
 
-use crate::{KeyedTable, found_rows, number, words};
-use sqlite::{Alter, Connection, Error, Row};
+use crate::{Cells, KeyedRow, RowError, TableQuery, found_rows};
+use sqlite::{Alter, Connection, Error};
 use std::alloc::Global;
 
 /// A row of `waybill`, in a file of version 1. Its key is `awb`.
-#[derive(Debug, Drop)]
+#[derive(Drop)]
 pub struct OldWaybillEntry {
     /// The waybill's number without its check digit.
     pub awb: i64,
@@ -22,15 +22,10 @@ pub struct OldWaybillEntry {
     pub notified: i64,
 }
 
-/// The table `waybill`. Its key is `awb`.
-struct OldWaybillTable;
-
-impl KeyedTable for OldWaybillTable {
+impl KeyedRow for OldWaybillEntry {
     ghost use Rattle.std.specs.Prelude.{ℕ, ℤ, List, refl};
     ghost use Rattle.station_schema.specs.Tables.{OldWaybill, old_waybill_id};
     ghost use Rattle.table_load.specs.Held.{by_number, HasOldWaybillTexts, old_waybill_shown, old_waybill_back};
-
-    type Row = OldWaybillEntry;
 
     ghost Entry = { OldWaybill };
 
@@ -46,44 +41,22 @@ impl KeyedTable for OldWaybillTable {
 
     ghost back = { λ _. refl };
 
-    fn typed(alloc: Global, row: &Row) -> Result<Option<OldWaybillEntry>, Error> {
-        if row.column_count() != 7 {
-            return Ok(None);
-        }
-        let Some(awb) = number(row, 0) else {
-            return Ok(None);
+    fn typed(cells: &mut Cells<'_>) -> Result<OldWaybillEntry, RowError> {
+        let row = OldWaybillEntry {
+            awb: cells.number()?,
+            origin: cells.text()?,
+            destination: cells.text()?,
+            pieces: cells.number()?,
+            tenths: cells.number()?,
+            goods: cells.text()?,
+            notified: cells.number()?,
         };
-        let Some(origin) = words(alloc, row, 1)? else {
-            return Ok(None);
-        };
-        let Some(destination) = words(alloc, row, 2)? else {
-            return Ok(None);
-        };
-        let Some(pieces) = number(row, 3) else {
-            return Ok(None);
-        };
-        let Some(tenths) = number(row, 4) else {
-            return Ok(None);
-        };
-        let Some(goods) = words(alloc, row, 5)? else {
-            return Ok(None);
-        };
-        let Some(notified) = number(row, 6) else {
-            return Ok(None);
-        };
-        Ok(Some(OldWaybillEntry {
-            awb,
-            origin,
-            destination,
-            pieces,
-            tenths,
-            goods,
-            notified,
-        }))
+        cells.end()?;
+        Ok(row)
     }
 
-    fn is_below(row: &OldWaybillEntry, next: &OldWaybillEntry) -> bool {
-        row.awb < next.awb
+    fn is_below(&self, next: &OldWaybillEntry) -> bool {
+        self.awb < next.awb
     }
 }
 
@@ -97,12 +70,10 @@ pub fn found_old_waybills<S: Alter>(
     ensures read { FindsTable S.Store conn.old conn.new result old_waybill_entry HoldsOldWaybill }
     ensures survives { Survives (state S.Store conn.old) (state S.Store conn.new) (λ _. ⊥) }
 {
-    found_rows::<S, OldWaybillTable>(
-        alloc,
-        conn,
-        "SELECT awb, origin, destination, pieces, tenths, goods, notified FROM waybill ORDER BY awb",
-        "waybill",
-        &[
+    let query = TableQuery {
+        text: "SELECT awb, origin, destination, pieces, tenths, goods, notified FROM waybill ORDER BY awb",
+        name: "waybill",
+        columns: &[
             "awb",
             "origin",
             "destination",
@@ -111,6 +82,7 @@ pub fn found_old_waybills<S: Alter>(
             "goods",
             "notified",
         ],
-        1,
-    )
+        keys: 1,
+    };
+    found_rows(alloc, conn, &query)
 }

@@ -5,21 +5,16 @@ ghost use Rattle.table_load.specs.Walks.{FoldsTable};
 ghost use Rattle.station_rows.specs.Meant.{message_meant};
 ghost use Rattle.table_load.specs.Held.{HoldsOutbox};
 
-use crate::{KeyedTable, RowFold, fold_rows, number, words};
-use sqlite::{Alter, Connection, Error, Row};
+use crate::{Cells, KeyedRow, RowError, RowFold, TableQuery, fold_rows};
+use sqlite::{Alter, Connection, Error};
 use station_rows::MessageRow;
 use std::alloc::Global;
 
-/// The table `outbox`. Its key is `number`.
-struct OutboxTable;
-
-impl KeyedTable for OutboxTable {
+impl KeyedRow for MessageRow {
     ghost use Rattle.std.specs.Prelude.{ℕ, ℤ, List, refl};
     ghost use Rattle.station_schema.specs.Tables.{Message, message_id};
     ghost use Rattle.station_rows.specs.Shown.{message_shown, message_read};
     ghost use Rattle.table_load.specs.Held.{by_number, HasOutboxTexts};
-
-    type Row = MessageRow;
 
     ghost Entry = { Message };
 
@@ -35,24 +30,17 @@ impl KeyedTable for OutboxTable {
 
     ghost back = { λ _. refl };
 
-    fn typed(alloc: Global, row: &Row) -> Result<Option<MessageRow>, Error> {
-        if row.column_count() != 2 {
-            return Ok(None);
-        }
-        let Some(place) = number(row, 0) else {
-            return Ok(None);
+    fn typed(cells: &mut Cells<'_>) -> Result<MessageRow, RowError> {
+        let row = MessageRow {
+            number: cells.number()?,
+            body: cells.text()?,
         };
-        let Some(body) = words(alloc, row, 1)? else {
-            return Ok(None);
-        };
-        Ok(Some(MessageRow {
-            number: place,
-            body,
-        }))
+        cells.end()?;
+        Ok(row)
     }
 
-    fn is_below(row: &MessageRow, next: &MessageRow) -> bool {
-        row.number < next.number
+    fn is_below(&self, next: &MessageRow) -> bool {
+        self.number < next.number
     }
 }
 
@@ -70,14 +58,11 @@ pub fn fold_outbox<S: Alter, F: RowFold<MessageRow> + Drop>(
         HoldsOutbox }
     ensures survives { Survives (state S.Store conn.old) (state S.Store conn.new) (λ _. ⊥) }
 {
-    fold_rows::<S, OutboxTable, F>(
-        alloc,
-        conn,
-        "SELECT number, body FROM outbox ORDER BY number",
-        "outbox",
-        &["number", "body"],
-        1,
-        beside,
-        fold,
-    )
+    let query = TableQuery {
+        text: "SELECT number, body FROM outbox ORDER BY number",
+        name: "outbox",
+        columns: &["number", "body"],
+        keys: 1,
+    };
+    fold_rows::<S, MessageRow, F>(alloc, conn, &query, beside, fold)
 }

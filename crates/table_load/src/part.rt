@@ -3,13 +3,12 @@ ghost use Rattle.sqlite.specs.Held.{state};
 ghost use Rattle.table_load.specs.Whole.{FindsTable};
 ghost use Rattle.table_load.specs.Held.{HoldsPart, part_entry};
 
-use crate::{KeyedTable, found_rows, number, words};
-use sqlite::{Alter, Connection, Error, Row};
+use crate::{Cells, KeyedRow, RowError, TableQuery, found_rows};
+use sqlite::{Alter, Connection, Error};
 use std::alloc::Global;
-use std::cmp::Ordering;
 
 /// A row of `part`. Its key is `flight`, `day`, `airport` and `seq`.
-#[derive(Debug, Drop)]
+#[derive(Drop)]
 pub struct PartEntry {
     /// The flight, in its written form.
     pub flight: String,
@@ -23,15 +22,10 @@ pub struct PartEntry {
     pub body: String,
 }
 
-/// The table `part`. Its key is `flight`, `day`, `airport` and `seq`.
-struct PartTable;
-
-impl KeyedTable for PartTable {
+impl KeyedRow for PartEntry {
     ghost use Rattle.std.specs.Prelude.{ℕ, ℤ, List, refl};
     ghost use Rattle.station_schema.specs.Tables.{PartKey, part_cmp, part_row};
     ghost use Rattle.table_load.specs.Held.{by_key, HasPartTexts, part_back};
-
-    type Row = PartEntry;
 
     ghost Entry = { PartKey × List ℕ };
 
@@ -47,48 +41,26 @@ impl KeyedTable for PartTable {
 
     ghost back = { λ _. refl };
 
-    fn typed(alloc: Global, row: &Row) -> Result<Option<PartEntry>, Error> {
-        if row.column_count() != 5 {
-            return Ok(None);
-        }
-        let Some(flight) = words(alloc, row, 0)? else {
-            return Ok(None);
+    fn typed(cells: &mut Cells<'_>) -> Result<PartEntry, RowError> {
+        let row = PartEntry {
+            flight: cells.text()?,
+            day: cells.number()?,
+            airport: cells.text()?,
+            seq: cells.number()?,
+            body: cells.text()?,
         };
-        let Some(day) = number(row, 1) else {
-            return Ok(None);
-        };
-        let Some(airport) = words(alloc, row, 2)? else {
-            return Ok(None);
-        };
-        let Some(seq) = number(row, 3) else {
-            return Ok(None);
-        };
-        let Some(body) = words(alloc, row, 4)? else {
-            return Ok(None);
-        };
-        Ok(Some(PartEntry {
-            flight,
-            day,
-            airport,
-            seq,
-            body,
-        }))
+        cells.end()?;
+        Ok(row)
     }
 
-    fn is_below(row: &PartEntry, next: &PartEntry) -> bool {
-        match row.flight.as_str().cmp(next.flight.as_str()) {
-            Ordering::Less => true,
-            Ordering::Equal => match row.day.cmp(&next.day) {
-                Ordering::Less => true,
-                Ordering::Equal => match row.airport.as_str().cmp(next.airport.as_str()) {
-                    Ordering::Less => true,
-                    Ordering::Equal => row.seq < next.seq,
-                    Ordering::Greater => false
-                },
-                Ordering::Greater => false
-            },
-            Ordering::Greater => false
-        }
+    fn is_below(&self, next: &PartEntry) -> bool {
+        (
+            self.flight.as_str(),
+            (self.day, (self.airport.as_str(), self.seq)),
+        ) < (
+            next.flight.as_str(),
+            (next.day, (next.airport.as_str(), next.seq)),
+        )
     }
 }
 
@@ -102,12 +74,11 @@ pub fn found_parts<S: Alter>(
     ensures read { FindsTable S.Store conn.old conn.new result part_entry HoldsPart }
     ensures survives { Survives (state S.Store conn.old) (state S.Store conn.new) (λ _. ⊥) }
 {
-    found_rows::<S, PartTable>(
-        alloc,
-        conn,
-        "SELECT flight, day, airport, seq, body FROM part ORDER BY flight, day, airport, seq",
-        "part",
-        &["flight", "day", "airport", "seq", "body"],
-        4,
-    )
+    let query = TableQuery {
+        text: "SELECT flight, day, airport, seq, body FROM part ORDER BY flight, day, airport, seq",
+        name: "part",
+        columns: &["flight", "day", "airport", "seq", "body"],
+        keys: 4,
+    };
+    found_rows(alloc, conn, &query)
 }

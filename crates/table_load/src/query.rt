@@ -1,14 +1,27 @@
-ghost use Rattle.std.specs.Prelude.{◌≡◌, ◌≤◌, IsTrue, List, map, take, length, is_some};
+ghost use Rattle.std.specs.Prelude.{◌≡◌, IsTrue, map, is_some};
 ghost use Rattle.sqlite.specs.State.{HasCleanDisk, Survives};
 ghost use Rattle.sqlite.specs.Held.{state};
-ghost use Rattle.row_laws.specs.Calls.{Reads};
+ghost use Rattle.station_schema.specs.Effects.{Reads};
 ghost use Rattle.table_load.specs.Raw.{found, place_by_name, places_by_name};
-ghost use Rattle.table_load.specs.Selects.{IsSelect};
+ghost use Rattle.table_load.specs.Selects.{IsQuery, column_names};
 ghost use Rattle.table_load.specs.Whole.{is_whole, ShowsWhole};
 
 use sqlite::{Alter, Connection, Error, Row};
 use sqlite_schema::schema::{Schema, Table};
 use sqlite_value::keys::Collation;
+
+/// A query for a whole table.
+#[derive(Drop)]
+pub struct TableQuery<'a> {
+    /// The SELECT of the columns, ordered by the first of them.
+    pub text: &'a str,
+    /// The table's name.
+    pub name: &'a str,
+    /// The names of the columns, those of the key first.
+    pub columns: &'a [&'a str],
+    /// The number of columns in the key.
+    pub keys: usize,
+}
 
 /// Returns whether the table has the column, with the collation BINARY.
 fn has_column(table: &Table, name: &str) -> bool
@@ -47,29 +60,22 @@ pub(crate) fn has_table(schema: &Schema, name: &str, columns: &[&str]) -> bool
     }
 }
 
-/// Returns the rows of a table unchanged, ordered by the first `keys` of its columns. `text` is the
-/// SELECT of these columns. Returns `None` if the table or a column is missing. After an error an
-/// open transaction may have been rolled back.
+/// Returns the rows of a table unchanged, in the order of their keys, or `None` if the table or a
+/// column is missing. After an error an open transaction may have been rolled back.
 pub fn table_rows<S: Alter>(
     conn: &mut Connection<S>,
-    text: &str,
-    name: &str,
-    columns: &[&str],
-    keys: usize,
+    query: &TableQuery<'_>,
 ) -> Result<Option<Vec<Row>>, Error>
-    requires few { keys ≤ length columns.now }
-    requires selects { let names = map (λ n. n.now) columns.now in
-        IsSelect text.now name.now names (take keys names) }
+    requires selects { IsQuery query.now }
     ensures read { HasCleanDisk (state S.Store conn.new) → IsTrue (state S.Store conn.old).is_open
-        → Reads (state S.Store conn.old) (state S.Store conn.new) result
-        (ShowsWhole (found (state S.Store conn.old).now name.now (map (λ n. n.now) columns.now))
-        keys) }
+        → Reads (state S.Store conn.old) (state S.Store conn.new) result (ShowsWhole (found
+        (state S.Store conn.old).now query.now.name.now (column_names query.now)) query.now.keys) }
     ensures survives { Survives (state S.Store conn.old) (state S.Store conn.new) (λ _. ⊥) }
 {
-    if !has_table(conn.schema(), name, columns) {
+    if !has_table(conn.schema(), query.name, query.columns) {
         return Ok(None);
     }
-    match conn.query_all(text, &[]) {
+    match conn.query_all(query.text, &[]) {
         Ok(rows) => Ok(Some(rows)),
         Err(error) => Err(error),
     }

@@ -2,16 +2,16 @@ ghost use Rattle.std.specs.Prelude.{◌≡◌, IfOk, IsTrue};
 ghost use Rattle.std.specs.Ordering.{int_eq};
 ghost use Rattle.sqlite.specs.State.{HasCleanDisk, Survives};
 ghost use Rattle.sqlite.specs.Held.{state};
-ghost use Rattle.row_laws.specs.Calls.{Reads};
+ghost use Rattle.station_schema.specs.Effects.{Reads};
 ghost use Rattle.table_load.specs.Verdict.{station_name, has_table, version_number, found_in_row, found_in_rows, station_of, found_meant};
 
-use crate::{number, table_rows, words};
+use crate::{TableQuery, number, table_rows, words};
 use sqlite::{Alter, Connection, Error, Row};
 use sqlite_schema::schema::Schema;
 use std::alloc::Global;
 
 /// The layout of a file's tables.
-#[derive(Clone, Copy, Debug)]
+#[derive(Clone, Copy)]
 pub enum FileVersion {
     /// The waybills are in `waybill`, without their day.
     First,
@@ -30,7 +30,7 @@ fn is_wanted(version: i64, wanted: FileVersion) -> bool
 }
 
 /// The content of the table `station` in a database.
-#[derive(Debug, Drop)]
+#[derive(Drop)]
 pub enum StationFound {
     /// The table is missing or has no row.
     NoStation,
@@ -113,14 +113,13 @@ pub fn found_station<S: Alter>(
     if !has_station(conn.schema()) {
         return Ok(StationFound::NoStation);
     }
-    let Some(rows) = table_rows(
-        conn,
-        "SELECT id, airport, version, confirmed FROM station ORDER BY id",
-        "station",
-        &["id", "airport", "version", "confirmed"],
-        1,
-    )?
-    else {
+    let query = TableQuery {
+        text: "SELECT id, airport, version, confirmed FROM station ORDER BY id",
+        name: "station",
+        columns: &["id", "airport", "version", "confirmed"],
+        keys: 1,
+    };
+    let Some(rows) = table_rows(conn, &query)? else {
         return Ok(StationFound::Damaged);
     };
     judged_rows(alloc, &rows, wanted)

@@ -4,21 +4,16 @@ ghost use Rattle.table_load.specs.Whole.{FindsTable};
 ghost use Rattle.station_rows.specs.Meant.{stock_meant};
 ghost use Rattle.table_load.specs.Held.{HoldsStock};
 
-use crate::{KeyedTable, found_rows, number, words};
-use sqlite::{Alter, Connection, Error, Row};
+use crate::{Cells, KeyedRow, RowError, TableQuery, found_rows};
+use sqlite::{Alter, Connection, Error};
 use station_rows::StockRow;
 use std::alloc::Global;
 
-/// The table `stock`. Its key is `prefix` and `low`.
-struct StockTable;
-
-impl KeyedTable for StockTable {
+impl KeyedRow for StockRow {
     ghost use Rattle.std.specs.Prelude.{ℕ, ℤ, List, refl};
     ghost use Rattle.station_schema.specs.Tables.{Stock, StockKey, stock_cmp, stock_row};
     ghost use Rattle.station_rows.specs.Shown.{stock_read};
     ghost use Rattle.table_load.specs.Held.{by_key, HasStockTexts};
-
-    type Row = StockRow;
 
     ghost Entry = { StockKey × Stock };
 
@@ -34,36 +29,20 @@ impl KeyedTable for StockTable {
 
     ghost back = { λ _. refl };
 
-    fn typed(alloc: Global, row: &Row) -> Result<Option<StockRow>, Error> {
-        if row.column_count() != 5 {
-            return Ok(None);
-        }
-        let Some(prefix) = number(row, 0) else {
-            return Ok(None);
+    fn typed(cells: &mut Cells<'_>) -> Result<StockRow, RowError> {
+        let row = StockRow {
+            prefix: cells.number()?,
+            low: cells.number()?,
+            high: cells.number()?,
+            holder: cells.number()?,
+            agent: cells.text()?,
         };
-        let Some(low) = number(row, 1) else {
-            return Ok(None);
-        };
-        let Some(high) = number(row, 2) else {
-            return Ok(None);
-        };
-        let Some(holder) = number(row, 3) else {
-            return Ok(None);
-        };
-        let Some(agent) = words(alloc, row, 4)? else {
-            return Ok(None);
-        };
-        Ok(Some(StockRow {
-            prefix,
-            low,
-            high,
-            holder,
-            agent,
-        }))
+        cells.end()?;
+        Ok(row)
     }
 
-    fn is_below(row: &StockRow, next: &StockRow) -> bool {
-        row.prefix < next.prefix || (row.prefix == next.prefix && row.low < next.low)
+    fn is_below(&self, next: &StockRow) -> bool {
+        (self.prefix, self.low) < (next.prefix, next.low)
     }
 }
 
@@ -77,12 +56,11 @@ pub fn found_stock<S: Alter>(
     ensures read { FindsTable S.Store conn.old conn.new result stock_meant HoldsStock }
     ensures survives { Survives (state S.Store conn.old) (state S.Store conn.new) (λ _. ⊥) }
 {
-    found_rows::<S, StockTable>(
-        alloc,
-        conn,
-        "SELECT prefix, low, high, holder, agent FROM stock ORDER BY prefix, low",
-        "stock",
-        &["prefix", "low", "high", "holder", "agent"],
-        2,
-    )
+    let query = TableQuery {
+        text: "SELECT prefix, low, high, holder, agent FROM stock ORDER BY prefix, low",
+        name: "stock",
+        columns: &["prefix", "low", "high", "holder", "agent"],
+        keys: 2,
+    };
+    found_rows(alloc, conn, &query)
 }

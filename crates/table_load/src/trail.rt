@@ -5,21 +5,16 @@ ghost use Rattle.table_load.specs.Walks.{FoldsTable};
 ghost use Rattle.station_rows.specs.Meant.{trail_meant};
 ghost use Rattle.table_load.specs.Held.{HoldsTrail};
 
-use crate::{KeyedTable, RowFold, fold_rows, number, words};
-use sqlite::{Alter, Connection, Error, Row};
+use crate::{Cells, KeyedRow, RowError, RowFold, TableQuery, fold_rows};
+use sqlite::{Alter, Connection, Error};
 use station_rows::TrailRow;
 use std::alloc::Global;
 
-/// The table `trail`. Its key is `number`.
-struct TrailTable;
-
-impl KeyedTable for TrailTable {
+impl KeyedRow for TrailRow {
     ghost use Rattle.std.specs.Prelude.{ℕ, ℤ, List, refl};
     ghost use Rattle.station_schema.specs.Tables.{TrailLine, trail_id};
     ghost use Rattle.station_rows.specs.Shown.{trail_shown, trail_read};
     ghost use Rattle.table_load.specs.Held.{by_number, HasTrailTexts};
-
-    type Row = TrailRow;
 
     ghost Entry = { TrailLine };
 
@@ -35,28 +30,18 @@ impl KeyedTable for TrailTable {
 
     ghost back = { λ _. refl };
 
-    fn typed(alloc: Global, row: &Row) -> Result<Option<TrailRow>, Error> {
-        if row.column_count() != 3 {
-            return Ok(None);
-        }
-        let Some(place) = number(row, 0) else {
-            return Ok(None);
+    fn typed(cells: &mut Cells<'_>) -> Result<TrailRow, RowError> {
+        let row = TrailRow {
+            number: cells.number()?,
+            awb: cells.number()?,
+            line: cells.text()?,
         };
-        let Some(awb) = number(row, 1) else {
-            return Ok(None);
-        };
-        let Some(line) = words(alloc, row, 2)? else {
-            return Ok(None);
-        };
-        Ok(Some(TrailRow {
-            number: place,
-            awb,
-            line,
-        }))
+        cells.end()?;
+        Ok(row)
     }
 
-    fn is_below(row: &TrailRow, next: &TrailRow) -> bool {
-        row.number < next.number
+    fn is_below(&self, next: &TrailRow) -> bool {
+        self.number < next.number
     }
 }
 
@@ -74,14 +59,11 @@ pub fn fold_trail<S: Alter, F: RowFold<TrailRow> + Drop>(
         HoldsTrail }
     ensures survives { Survives (state S.Store conn.old) (state S.Store conn.new) (λ _. ⊥) }
 {
-    fold_rows::<S, TrailTable, F>(
-        alloc,
-        conn,
-        "SELECT number, awb, line FROM trail ORDER BY number",
-        "trail",
-        &["number", "awb", "line"],
-        1,
-        beside,
-        fold,
-    )
+    let query = TableQuery {
+        text: "SELECT number, awb, line FROM trail ORDER BY number",
+        name: "trail",
+        columns: &["number", "awb", "line"],
+        keys: 1,
+    };
+    fold_rows::<S, TrailRow, F>(alloc, conn, &query, beside, fold)
 }

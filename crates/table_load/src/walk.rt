@@ -3,12 +3,13 @@ ghost use Rattle.sqlite.specs.Given.{HasGiven};
 ghost use Rattle.sqlite.specs.Held.{state};
 ghost use Rattle.sqlite.specs.Order.{Row as Values};
 ghost use Rattle.sqlite.specs.State.{HasCleanDisk, Survives, CommitsShowing};
-ghost use Rattle.row_laws.specs.Streams.{Moves};
+ghost use Rattle.station_schema.specs.Streams.{Moves};
 ghost use Rattle.table_load.specs.Whole.{Agrees, AreLawful};
 ghost use Rattle.table_load.specs.Walks.{follows, IsTyped, IsWalked, IsReadOnly, TellsRows, Walks};
 
+use crate::cells::{Cells, RowError};
 use crate::fold::RowFold;
-use crate::tables::KeyedTable;
+use crate::tables::KeyedRow;
 use sqlite::{Alter, Connection, Error, ErrorCode, Row, Rows};
 use std::alloc::Global;
 
@@ -23,20 +24,21 @@ pub(crate) struct Walk<X, F> {
 }
 
 /// Returns the row with these values, if they are one. It fails only if memory runs out.
-fn typed_row<T: KeyedTable>(alloc: Global, row: &Row) -> Result<Option<T::Row>, Error>
+fn typed_row<T: KeyedRow>(alloc: Global, row: &Row) -> Result<Option<T>, Error>
     ensures { IfOk result (IsTyped T.meant T.to_row T.IsLawful row.now) }
 {
-    match T::typed(alloc, row)? {
-        None => Ok(None),
-        Some(typed) => Ok(Some(typed)),
+    match T::typed(&mut Cells::new(alloc, row)) {
+        Ok(typed) => Ok(Some(typed)),
+        Err(RowError::Mismatch) => Ok(None),
+        Err(RowError::Failed(error)) => Err(error),
     }
 }
 
 /// Moves to the next row and types it. There is none after the last.
-fn next_typed<S: Alter, T: KeyedTable>(
+fn next_typed<S: Alter, T: KeyedRow>(
     alloc: Global,
     rows: &mut Rows<'_, S>,
-) -> Result<Option<Option<T::Row>>, Error>
+) -> Result<Option<Option<T>>, Error>
     ensures same_reference { rows.new.conn.ghost_name ≡ rows.old.conn.ghost_name }
     ensures moves { HasCleanDisk (state S.Store rows.new.conn.now)
         → (sql : List ℕ) (params : Values) (given : List Values)
@@ -53,20 +55,20 @@ fn next_typed<S: Alter, T: KeyedTable>(
     }
 }
 
-fn follows<T: KeyedTable>(last: &Option<T::Row>, next: &T::Row) -> bool
+fn follows<T: KeyedRow>(last: &Option<T>, next: &T) -> bool
     ensures { result ≡ follows T.meant T.cmp last.now next.now }
 {
     match last {
         None => true,
-        Some(last) => T::is_below(last, next),
+        Some(last) => last.is_below(next),
     }
 }
 
 /// Takes the next typed row, and folds the one before it.
-fn step<T: KeyedTable, F: RowFold<T::Row>>(
-    walk: &mut Walk<T::Row, F>,
+fn step<T: KeyedRow, F: RowFold<T>>(
+    walk: &mut Walk<T, F>,
     beside: &F::Beside,
-    next: Option<T::Row>,
+    next: Option<T>,
 ) -> Result<(), Error>
     ensures { (keys : ℕ) (given : List Values) (raw : Values) → Agrees keys T.to_row T.cmp
         → IsTyped T.meant T.to_row T.IsLawful raw next
@@ -92,11 +94,11 @@ fn step<T: KeyedTable, F: RowFold<T::Row>>(
 }
 
 /// Takes the rows of a query, in its order.
-fn walk_rows<S: Alter, T: KeyedTable, F: RowFold<T::Row>>(
+fn walk_rows<S: Alter, T: KeyedRow, F: RowFold<T>>(
     alloc: Global,
     rows: &mut Rows<'_, S>,
     beside: &F::Beside,
-    walk: &mut Walk<T::Row, F>,
+    walk: &mut Walk<T, F>,
 ) -> Result<(), Error>
     ensures same_reference { rows.new.conn.ghost_name ≡ rows.old.conn.ghost_name }
     ensures walks { HasCleanDisk (state S.Store rows.new.conn.now)
@@ -121,13 +123,13 @@ fn walk_rows<S: Alter, T: KeyedTable, F: RowFold<T::Row>>(
 
 /// Takes all rows of a query of one table. After an error an open transaction may have been rolled
 /// back.
-pub(crate) fn walked<S: Alter, T: KeyedTable, F: RowFold<T::Row> + Drop>(
+pub(crate) fn walked<S: Alter, T: KeyedRow, F: RowFold<T> + Drop>(
     alloc: Global,
     conn: &mut Connection<S>,
     text: &str,
     beside: &F::Beside,
     fold: F,
-) -> Result<Walk<T::Row, F>, Error>
+) -> Result<Walk<T, F>, Error>
     ensures walks { HasCleanDisk (state S.Store conn.new) → IsTrue (state S.Store conn.old).is_open
         → IsReadOnly (state S.Store conn.old).now.schema text.now → (keys : ℕ)
         → Agrees keys T.to_row T.cmp → F.has beside.now fold []
@@ -147,8 +149,8 @@ pub(crate) fn walked<S: Alter, T: KeyedTable, F: RowFold<T::Row> + Drop>(
 }
 
 /// Returns the fold over all rows, or `None` if they aren't entries.
-pub(crate) fn ended<T: KeyedTable, F: RowFold<T::Row> + Drop>(
-    walk: Walk<T::Row, F>,
+pub(crate) fn ended<T: KeyedRow, F: RowFold<T> + Drop>(
+    walk: Walk<T, F>,
     beside: &F::Beside,
 ) -> Result<Option<F>, Error>
     ensures { (given : List Values)

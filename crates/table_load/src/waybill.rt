@@ -4,21 +4,16 @@ ghost use Rattle.table_load.specs.Whole.{FindsTable};
 ghost use Rattle.station_rows.specs.Meant.{waybill_meant};
 ghost use Rattle.table_load.specs.Held.{HoldsWaybill};
 
-use crate::{KeyedTable, found_rows, number, words};
-use sqlite::{Alter, Connection, Error, Row};
+use crate::{Cells, KeyedRow, RowError, TableQuery, found_rows};
+use sqlite::{Alter, Connection, Error};
 use station_rows::WaybillRow;
 use std::alloc::Global;
 
-/// The table `waybill2`. Its key is `awb`.
-struct WaybillTable;
-
-impl KeyedTable for WaybillTable {
+impl KeyedRow for WaybillRow {
     ghost use Rattle.std.specs.Prelude.{ℕ, ℤ, List, refl};
     ghost use Rattle.station_schema.specs.Tables.{Waybill, waybill_id};
     ghost use Rattle.station_rows.specs.Shown.{waybill_shown, waybill_read};
     ghost use Rattle.table_load.specs.Held.{by_number, HasWaybillTexts};
-
-    type Row = WaybillRow;
 
     ghost Entry = { Waybill };
 
@@ -34,48 +29,23 @@ impl KeyedTable for WaybillTable {
 
     ghost back = { λ _. refl };
 
-    fn typed(alloc: Global, row: &Row) -> Result<Option<WaybillRow>, Error> {
-        if row.column_count() != 8 {
-            return Ok(None);
-        }
-        let Some(awb) = number(row, 0) else {
-            return Ok(None);
+    fn typed(cells: &mut Cells<'_>) -> Result<WaybillRow, RowError> {
+        let row = WaybillRow {
+            awb: cells.number()?,
+            origin: cells.text()?,
+            destination: cells.text()?,
+            pieces: cells.number()?,
+            tenths: cells.number()?,
+            goods: cells.text()?,
+            notified: cells.number()?,
+            since: cells.number()?,
         };
-        let Some(origin) = words(alloc, row, 1)? else {
-            return Ok(None);
-        };
-        let Some(destination) = words(alloc, row, 2)? else {
-            return Ok(None);
-        };
-        let Some(pieces) = number(row, 3) else {
-            return Ok(None);
-        };
-        let Some(tenths) = number(row, 4) else {
-            return Ok(None);
-        };
-        let Some(goods) = words(alloc, row, 5)? else {
-            return Ok(None);
-        };
-        let Some(notified) = number(row, 6) else {
-            return Ok(None);
-        };
-        let Some(since) = number(row, 7) else {
-            return Ok(None);
-        };
-        Ok(Some(WaybillRow {
-            awb,
-            origin,
-            destination,
-            pieces,
-            tenths,
-            goods,
-            notified,
-            since,
-        }))
+        cells.end()?;
+        Ok(row)
     }
 
-    fn is_below(row: &WaybillRow, next: &WaybillRow) -> bool {
-        row.awb < next.awb
+    fn is_below(&self, next: &WaybillRow) -> bool {
+        self.awb < next.awb
     }
 }
 
@@ -89,12 +59,10 @@ pub fn found_waybills<S: Alter>(
     ensures read { FindsTable S.Store conn.old conn.new result waybill_meant HoldsWaybill }
     ensures survives { Survives (state S.Store conn.old) (state S.Store conn.new) (λ _. ⊥) }
 {
-    found_rows::<S, WaybillTable>(
-        alloc,
-        conn,
-        "SELECT awb, origin, destination, pieces, tenths, goods, notified, since FROM waybill2 ORDER BY awb",
-        "waybill2",
-        &[
+    let query = TableQuery {
+        text: "SELECT awb, origin, destination, pieces, tenths, goods, notified, since FROM waybill2 ORDER BY awb",
+        name: "waybill2",
+        columns: &[
             "awb",
             "origin",
             "destination",
@@ -104,6 +72,7 @@ pub fn found_waybills<S: Alter>(
             "notified",
             "since",
         ],
-        1,
-    )
+        keys: 1,
+    };
+    found_rows(alloc, conn, &query)
 }

@@ -33,11 +33,6 @@ answered : {X E A : Type 0} (r : Result X E) → A → OnOk r A
 answered (Ok x) a = a
 answered (Err e) a = tt
 
--- what follows from an answer and from a fault
-pub either_way : {X E P : Type 0} (r : Result X E) → ((x : X) → r ≡ Ok x → P) → ((e : E) → r ≡ Err e → P) → P
-either_way (Ok x) so or_so = so x refl
-either_way (Err e) so or_so = or_so e refl
-
 -- what a view shows
 abbrev pub seen_in : View → row.Seen
 seen_in v = record { now = v.now; committed = v.committed; in_transaction = v.in_transaction }

@@ -3,7 +3,7 @@ use Rattle.std.proofs.Common.{◌≡◌, Bool, true, false, Option, Some, None, 
 use Rattle.std.specs.Prelude.{option_map, unwrap_or, is_some}
 use Rattle.std.specs.FinMap.{FinMap, get, insert}
 use Rattle.sqlite_keyed.specs.Keyed.{get_by}
-use Rattle.row_laws.specs.Columns.{adjust}
+use Rattle.station_schema.specs.ColumnKeys.{adjust}
 use Rattle.station_schema.specs.Store.{View, Displays, IsShowing, inside}
 use Rattle.station_schema.specs.Tables.{Tables, Waybill, waybill_id, Flight, FlightKey, Expected, ExpectedKey}
 use Rattle.station_rows.specs.declared.waybills.WaybillRow.{WaybillRow}

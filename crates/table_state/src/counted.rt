@@ -9,7 +9,7 @@ use shipment_machine::FlightDate;
 use station_core::Sizes;
 
 /// How many waybills have something built on a flight.
-#[derive(Clone, Copy, Debug, PartialEq, Eq)]
+#[derive(Clone, Copy)]
 pub(crate) struct Boarded {
     pub(crate) flight: FlightDate,
     pub(crate) waybills: usize,
@@ -19,7 +19,7 @@ pub(crate) struct Boarded {
 pub(crate) const MOST_FLIGHTS: usize = 32;
 
 /// How many waybills are on the flights that were asked for last.
-#[derive(Clone, Copy, Debug, PartialEq, Eq)]
+#[derive(Clone, Copy)]
 pub(crate) struct Boardings {
     pub(crate) flights: [Option<Boarded>; MOST_FLIGHTS],
     // Where the next flight goes, in the place of the one that was asked for longest ago.

@@ -7,7 +7,6 @@ mod laws;
 mod line;
 mod look;
 mod object;
-mod point;
 mod seen;
 mod text;
 

@@ -12,7 +12,7 @@ ghost use Rattle.telegram_look.specs.Look.{cargo_of, is_unread, left_behind, loa
 
 use crate::doubt::is_doubtful;
 use crate::line::{LinePart, SeenLine};
-use crate::point::unloading_point;
+use ffm_text::unloading_point;
 use imp_fields::{Lines, Token};
 use shipment_machine::{InboundLine, TrailLine};
 use std::alloc::{AllocError, Global};

@@ -1,5 +1,5 @@
 -- The line of a fault is one of the lines, or 0.
-use Rattle.std.proofs.Common.{◌≡◌, ℕ, ◌+◌, ◌<◌, ◌≤◌, Bool, true, false, cond, List, [], ◌∷◌, ◌++◌, length, map, take, drop, Option, Some, None, Result, Err, refl, ap, arith}
+use Rattle.std.proofs.Common.{◌≡◌, ℕ, ◌+◌, ◌<◌, ◌≤◌, Bool, true, false, cond, List, [], ◌∷◌, ◌++◌, length, map, take, drop, Option, Some, None, Err, refl, ap, arith}
 use Rattle.std.specs.Prelude.{nat_lt, nat_le, position}
 use Rattle.std.proofs.lemmas.Bool.{ltb-false}
 use Rattle.std.proofs.lemmas.List.{length-map}
@@ -68,9 +68,6 @@ pub fsu_within : (lines : List (List ℕ)) → IsWithin (fsu_fault lines) (lengt
 fsu_within lines = fault_in_within lines (fsu_line_faults lines) (nat_le 3 (length lines)) (fsu_few lines)
 
 -- ---- of the normal text
-
-abbrev Lined : Type 0
-Lined = Result (List (List ℕ)) TextFault
 
 normal_within_by : (large many : Bool) (found : Option TextFault) (place : Option ℕ) (lines : List (List ℕ)) → (many ≡ false → IsWithin found 1000)
     → IsWithin (fault_of {A = List (List ℕ)} (cond large (Err (fault_at 0 why.Size)) (cond many (Err (fault_at 0 why.Lines)) (unless_fault found (from_line lines place))))) 1000

@@ -1,11 +1,10 @@
 -- From the fault of a part to the fault of the bytes.
-use Rattle.std.proofs.Common.{◌≡◌, ℕ, List, Option, Some, None, Result, Ok, Err, sym, ap, ◌∙◌, subst}
-use Rattle.imp_fields.specs.NormalText.{fault_of, normal_lines, first_kind}
+use Rattle.std.proofs.Common.{◌≡◌, ℕ, List, Option, Some, None, Result, Ok, Err}
+use Rattle.imp_fields.specs.NormalText.{fault_of, normal_lines}
 use Rattle.imp_fields.specs.declared.fault.TextFault.{TextFault}
-use Rattle.imp_fields.specs.declared.line.MessageKind.{MessageKind}
 use Rattle.telegrams.specs.declared.telegram.TelegramFault.{TelegramFault}
 use Rattle.telegrams.specs.declared.telegram.TelegramFault.TheVariants as fault
-use Rattle.telegrams.specs.Meaning.{message_fault, fault_by, RefusesAs, RefusesText}
+use Rattle.telegrams.specs.Meaning.{fault_by, RefusesAs, RefusesText}
 
 abbrev none : Option TextFault
 none = None
@@ -27,8 +26,3 @@ refused_by (Err told) f h = h
 
 pub text_refused : (bytes : List ℕ) (f : TelegramFault) → RefusesAs (fault_of (normal_lines bytes)) f → RefusesText bytes f
 text_refused bytes f h = refused_by (normal_lines bytes) f h
-
-pub message_refused : (bytes : List ℕ) (lines : List (List ℕ)) (kind : MessageKind) (f : TelegramFault) → normal_lines bytes ≡ Ok lines → first_kind lines ≡ Some kind
-    → RefusesAs (message_fault (Some kind) lines) f → RefusesText bytes f
-message_refused bytes lines kind f normal is h =
-    subst (λ (due : Option TextFault). RefusesAs due f) (sym (ap fault_by normal ∙ ap (λ k. message_fault k lines) is)) h

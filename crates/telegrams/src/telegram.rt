@@ -193,7 +193,7 @@ impl<'a> Telegram<'a> {
 }
 
 /// The reason why a telegram can't be read.
-#[derive(Clone, Copy, Debug, PartialEq, Eq)]
+#[derive(Clone, Copy, PartialEq, Eq)]
 pub enum TelegramFault {
     /// 302 if the kind of message is unknown; otherwise 301, with the line and the reason.
     Refused(Refusal),

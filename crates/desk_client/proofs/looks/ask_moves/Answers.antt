@@ -1,7 +1,7 @@
 use Rattle.reports.specs.declared.form.Form.TheVariants as form
 use Rattle.reports.specs.declared.listing.Listing.TheVariants as listing
 use Rattle.desk_client.specs.Looks.{shown, HasAskedRows}
-use Rattle.desk_client.specs.Request.{rows_path}
+use Rattle.http_desk.specs.Paths.{rows_path}
 use Rattle.desk_client.proofs.Going.{gone_on}
 use Rattle.desk_client.proofs.looks.ask_moves.Goals as goal
 

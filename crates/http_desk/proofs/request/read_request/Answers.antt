@@ -13,8 +13,8 @@ returns-in-Err-read_body-clause-read g c = λ is.
 pub returns-in-Ok-read_body-clause-request : goal.returns-in-Ok-read_body-clause-request
 returns-in-Ok-read_body-clause-request g c =
     let before : List ℕ = c.read_head.new.bytes.items in (
-      begins_on before c.read_body.new.bytes.items c.in-Ok-read_body.ensures.come.part c.in-Ok-wants_at.wants c.in-Ok-wants_at.key c.in-Ok.head.0.len c.in-Ok.ensures.room c.in-Ok-read_body.ensures.come.bytes
-          (subst (λ (bytes : List ℕ). BeginsWith bytes c.in-Ok-wants_at.wants c.in-Ok-wants_at.key c.in-Ok.head.0.len) c.as_slice.ensures.value c.in-Ok-wants_at.ensures),
+      begins_on before c.read_body.new.bytes.items c.in-Ok-read_body.ensures.come.part c.wants_at-wants.result.0 c.wants_at-wants.result.1 c.in-Ok.head.0.len c.in-Ok.ensures.room c.in-Ok-read_body.ensures.come.bytes
+          (subst (λ (bytes : List ℕ). BeginsWith bytes c.wants_at-wants.result.0 c.wants_at-wants.result.1 c.in-Ok.head.0.len) c.as_slice.ensures.value c.wants_at-wants.ensures),
       c.in-Ok-read_body.ensures.body,
     )
 
@@ -26,6 +26,6 @@ returns-in-Err-read_body-clause-unfinished g c = λ is.
     let before : List ℕ = c.read_head.new.bytes.items in
     let after : List ℕ = c.read_body.new.bytes.items in
     let told = c.in-Err-read_body.ensures.unfinished (other_err c.in-Err-read_body.end reading.Read is) in
-    let begins = begins_on before after told.1.0 c.in-Ok-wants_at.wants c.in-Ok-wants_at.key c.in-Ok.head.0.len c.in-Ok.ensures.room told.1.1.0
-    (subst (λ (bytes : List ℕ). BeginsWith bytes c.in-Ok-wants_at.wants c.in-Ok-wants_at.key c.in-Ok.head.0.len) c.as_slice.ensures.value c.in-Ok-wants_at.ensures) in
-    (inr (lacks_body after c.in-Ok-wants_at.wants c.in-Ok-wants_at.key c.in-Ok.head.0.len begins told.0), more_come start mid now before after c.in-Ok.ensures.come told.1)
+    let begins = begins_on before after told.1.0 c.wants_at-wants.result.0 c.wants_at-wants.result.1 c.in-Ok.head.0.len c.in-Ok.ensures.room told.1.1.0
+    (subst (λ (bytes : List ℕ). BeginsWith bytes c.wants_at-wants.result.0 c.wants_at-wants.result.1 c.in-Ok.head.0.len) c.as_slice.ensures.value c.wants_at-wants.ensures) in
+    (inr (lacks_body after c.wants_at-wants.result.0 c.wants_at-wants.result.1 c.in-Ok.head.0.len begins told.0), more_come start mid now before after c.in-Ok.ensures.come told.1)

@@ -11,7 +11,7 @@ returns c =
     record {
       head = h;
       has = begins bytes c.args.headers.now c.args.spans.now h c.requires.room c.requires.few c.requires.within at;
-      wants = c.in_ok-wants.ensures h at;
+      wants = c.head_wants-wants.ensures h at;
       key_is = c.key_of.ensures ∙ ap key_of at.fields;
       start_is = at.len;
     }

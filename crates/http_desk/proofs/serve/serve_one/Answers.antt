@@ -1,4 +1,4 @@
-use Rattle.std.proofs.Common.{rules, ◌≡◌, ◌∙◌, ap, sym, subst, refl, inl, false, List, ℕ, ◌++◌}
+use Rattle.std.proofs.Common.{Err, ◌≡◌, ◌∙◌, ap, sym, subst, refl, inl, false, List, ℕ, ◌++◌}
 use Rattle.http_desk.specs.declared.asking.Told.TheVariants as told
 use Rattle.http_desk.specs.StationAfter.{station_after}
 use Rattle.http_desk.specs.Serving.{added, IsUnfinished}
@@ -97,5 +97,5 @@ returns-in-Err-Read-clause-unfinished g c = λ _.
     let before = g.I.ByteIn.given c.args.reader.now in
     let now = g.I.ByteIn.given c.read_request.new.reader in
     let bytes : List ℕ = c.read_request.new.bytes.items in
-    let came : IsUnfinished bytes × (now.bytes ≡ before.bytes ++ bytes) = search rules in
+    let came : IsUnfinished bytes × (now.bytes ≡ before.bytes ++ bytes) = c.in-Err-Read.ensures.unfinished (ap Err c.in-Err-Read.field-0-is) in
     subst IsUnfinished (sym (added_is before now bytes came.1)) came.0

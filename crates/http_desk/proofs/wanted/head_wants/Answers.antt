@@ -1,7 +1,6 @@
 use Rattle.std.proofs.Common.{◌≡◌, ◌∙◌, ap, sym, refl, true, false}
 use Rattle.http_desk.specs.Answer.{head_of}
 use Rattle.http_desk.specs.Request.{is_foreign}
-use Rattle.http_desk.proofs.Joining.{ok_more}
 use Rattle.http_desk.proofs.Wanting.{foreign_wants, wants_on}
 use Rattle.http_desk.proofs.wanted.head_wants.Goals as goal
 
@@ -13,4 +12,4 @@ returns-then-is_foreign c = λ h at.
 pub returns : goal.returns
 returns c = λ h at.
     let own : is_foreign (head_of h).fields ≡ false = ap is_foreign (sym at.fields) ∙ sym c.is_foreign.ensures ∙ c.if-is_foreign.false in
-    ok_more c.own_wants.result _ _ (λ w told. wants_on (head_of h) w own told) (c.own_wants.ensures h at)
+    wants_on (head_of h) c.own_wants.result own (c.own_wants.ensures h at)

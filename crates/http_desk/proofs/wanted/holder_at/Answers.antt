@@ -1,9 +1,11 @@
-use Rattle.std.proofs.Common.{refl, drop}
+use Rattle.std.proofs.Common.{◌∙◌, ap, refl}
+use Rattle.std.specs.Result.{result_ok}
+use Rattle.awb_number.specs.Number.{number_of}
 use Rattle.http_desk.proofs.Wanting.{holder_wanted, no_holder}
 use Rattle.http_desk.proofs.wanted.holder_at.Goals as goal
 
 pub returns-in-Some : goal.returns-in-Some
-returns-in-Some c = holder_wanted (drop 10 c.args.path.now) c.in-Some.number c.in-Some.ensures
+returns-in-Some c = holder_wanted c.args.name.now c.in-Some.number (c.in-Some.ensures ∙ ap (λ text. result_ok (number_of text)) c.as_bytes.ensures.value)
 
 pub returns-in-None : goal.returns-in-None
-returns-in-None c = no_holder (drop 10 c.args.path.now) _ refl c.in-None.ensures
+returns-in-None c = no_holder c.args.name.now _ refl (c.in-None.ensures ∙ ap (λ text. result_ok (number_of text)) c.as_bytes.ensures.value)

@@ -1,15 +1,14 @@
 use Rattle.std.proofs.Common.{◌∙◌, ap, subst}
 use Rattle.http_desk.specs.Request.{HeadAsks, place_asks}
-use Rattle.http_desk.specs.Routes.{asked_place, path_of, routed}
+use Rattle.http_desk.specs.Routes.{asked_place, page_at, path_of}
 use Rattle.http_desk.specs.Wanted.{HasWants}
 use Rattle.http_desk.proofs.wanted.own_wants.Goals as goal
 
 pub returns : goal.returns
 returns c = λ h at.
-    let bytes = c.args.bytes.now in
     let method = c.of-method.ensures ∙ at.method in
     let fields = at.fields in
-    let place = c.in_ok-route.ensures ∙ ap (λ q. asked_place (routed q) q) (c.path_in-path.ensures ∙ ap path_of (c.target_of.ensures h at)) in
+    let place = c.route_of-route.ensures ∙ ap (λ q. asked_place (page_at q) q) (c.path_in-path.ensures ∙ ap path_of (c.target_of.ensures h at)) in
     subst (λ (asks : HeadAsks). HasWants asks c.wants_of.result)
-    (c.head_asks-asks.ensures c.path_in-path.result.now h.target ∙ (λ i. place_asks (record { method = method i; target = h.target; fields = fields i }) (place i)))
+    (c.head_asks-asks.ensures h.target ∙ (λ i. place_asks (record { method = method i; target = h.target; fields = fields i }) (place i)))
     c.wants_of.ensures

@@ -1,9 +1,11 @@
-use Rattle.std.proofs.Common.{refl, drop}
+use Rattle.std.proofs.Common.{◌∙◌, ap, refl}
+use Rattle.std.specs.Result.{result_ok}
+use Rattle.awb_number.specs.Number.{number_of}
 use Rattle.http_desk.proofs.Wanting.{waybill_wanted, no_waybill}
 use Rattle.http_desk.proofs.wanted.waybill_at.Goals as goal
 
 pub returns-in-Some : goal.returns-in-Some
-returns-in-Some c = waybill_wanted (drop 13 c.args.path.now) c.in-Some.number c.in-Some.ensures
+returns-in-Some c = waybill_wanted c.args.name.now c.in-Some.number (c.in-Some.ensures ∙ ap (λ text. result_ok (number_of text)) c.as_bytes.ensures.value)
 
 pub returns-in-None : goal.returns-in-None
-returns-in-None c = no_waybill (drop 13 c.args.path.now) _ refl c.in-None.ensures
+returns-in-None c = no_waybill c.args.name.now _ refl (c.in-None.ensures ∙ ap (λ text. result_ok (number_of text)) c.as_bytes.ensures.value)

@@ -1,6 +1,6 @@
 use Rattle.std.proofs.Common.{◌≡◌, ◌+◌, ◌++◌, drop}
 use Rattle.station_core.specs.Readers.{message, numbered}
-use Rattle.map_state.specs.Maps.{texts_in}
+use Rattle.station_core.specs.Texts.{texts_in}
 use Rattle.map_state.proofs.asked.messages.Given as goal
 
 -- the messages so far and those ahead are all behind the mark

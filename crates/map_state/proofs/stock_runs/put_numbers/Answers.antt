@@ -20,8 +20,8 @@ loop-from-preserved c =
       omega (arith, low),
       λ _. omega arith,
       λ held none runs.
-          subst (λ h. AreStockRuns h c.put_run.new.rows.items) (some_more held first from holder none low row at (λ i. holder))
-          (c.in_ok-put_run.ensures (with_numbers held first from holder) (λ q le. none_further held first from holder none low q (omega (arith, at, le))) (c.loop-from.invariant.2 held none runs)),
+          subst (λ h. AreStockRuns h c.put_run.new.runs.items) (some_more held first from holder none low row at (λ i. holder))
+          (c.in_ok-put_run.ensures (with_numbers held first from holder) (record { some = omega arith; one_prefix = omega arith }) (λ q le. none_further held first from holder none low q (omega (arith, at, le))) (c.loop-from.invariant.2 held none runs)),
     )
 
 pub returns : goal.returns

@@ -1,7 +1,7 @@
 use Rattle.std.proofs.Common.{◌-◌, ◌≤◌, ◌<◌}
-use Rattle.agent_stock.specs.Runs.{AreStockRuns}
+use Rattle.agent_stock.specs.Runs.{AreStockRuns, IsNoneFrom}
 use Rattle.agent_stock.specs.Stock.{Holders}
-use Rattle.map_state.specs.Runs.{IsNoneFrom, with_numbers}
+use Rattle.map_state.specs.Runs.{with_numbers}
 use Rattle.map_state.proofs.stock_runs.put_numbers.Given as goal
 
 -- the numbers so far are among the runs

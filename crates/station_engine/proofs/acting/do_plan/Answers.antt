@@ -4,7 +4,8 @@ use Rattle.shipment_machine.specs.Effect.{carried_out}
 use Rattle.telegrams.specs.NoticeText.{notice_text}
 use Rattle.station_core.specs.Step.{accepted, has_room, kept_with, sent}
 use Rattle.state_store.specs.Store.{at_rest}
-use Rattle.station_engine.specs.Written.{texts_in, with_plan}
+use Rattle.station_engine.specs.Written.{with_plan}
+use Rattle.station_core.specs.Texts.{texts_in}
 use Rattle.station_engine.proofs.Steps.{serves_by, found_after, plan_step, plan_lawful}
 use Rattle.station_engine.proofs.acting.do_plan.Goals as goal
 

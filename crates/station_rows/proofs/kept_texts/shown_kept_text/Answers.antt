@@ -1,5 +1,5 @@
 use Rattle.sqlite.specs.Held.{state}
-use Rattle.row_laws.proofs.Inside.{reads}
+use Rattle.station_schema.proofs.Inside.{reads}
 use Rattle.station_schema.specs.Schema.{station_schema}
 use Rattle.station_schema.proofs.Statements.{query_survives}
 use Rattle.station_rows.proofs.Texts.{get_kept_text_text, get_kept_text_is}

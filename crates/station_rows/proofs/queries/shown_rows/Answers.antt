@@ -3,7 +3,7 @@ use Rattle.sqlite.specs.Held.{state}
 use Rattle.sqlite.specs.Order.{Row}
 use Rattle.sqlite.specs.State.{Shown}
 use Rattle.sqlite.specs.Values.{bound}
-use Rattle.row_laws.proofs.Inside.{reads}
+use Rattle.station_schema.proofs.Inside.{reads}
 use Rattle.station_rows.proofs.queries.shown_rows.Goals as goal
 
 pub returns-clause-read : goal.returns-clause-read

@@ -4,7 +4,7 @@ use Rattle.sqlite.specs.Held.{state}
 use Rattle.sqlite.proofs.StateLemmas.{survives_then}
 use Rattle.station_schema.specs.Schema.{no_schema}
 use Rattle.station_schema.specs.Own.{IsNewStation}
-use Rattle.row_laws.specs.Calls.{IsMade}
+use Rattle.station_schema.specs.Effects.{IsMade}
 use Rattle.station_schema.proofs.Creating.{begun_blank}
 use Rattle.station_schema.proofs.creation.create_schema.Goals as goal
 

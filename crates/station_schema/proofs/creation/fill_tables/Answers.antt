@@ -1,8 +1,8 @@
 use Rattle.sqlite.specs.Held.{state}
 use Rattle.station_schema.specs.Schema.{no_schema}
-use Rattle.row_laws.specs.Calls.{IsMade}
+use Rattle.station_schema.specs.Effects.{IsMade}
 use Rattle.station_schema.specs.Calls.{IsInside}
-use Rattle.row_laws.proofs.Inside.{survives_inside}
+use Rattle.station_schema.proofs.Inside.{survives_inside}
 use Rattle.station_schema.proofs.Creating.{made_inside}
 use Rattle.station_schema.proofs.creation.fill_tables.Goals as goal
 

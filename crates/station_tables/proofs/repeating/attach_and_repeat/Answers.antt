@@ -1,7 +1,7 @@
 use Rattle.std.proofs.Common.{inl}
 use Rattle.sqlite.specs.Held.{state}
 use Rattle.sqlite.specs.State.{HasCleanDisk, Survives}
-use Rattle.row_laws.specs.Calls.{IsUndone}
+use Rattle.station_schema.specs.Effects.{IsUndone}
 use Rattle.station_schema.specs.Own.{IsOwn, LiesInOrder}
 use Rattle.station_schema.specs.Connection.{connection_view}
 use Rattle.station_tables.specs.Attached.{connection_in}

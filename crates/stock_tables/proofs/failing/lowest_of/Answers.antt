@@ -3,7 +3,7 @@ use Rattle.std.proofs.lemmas.List.{drop_all}
 use Rattle.awb_number.specs.Number.{IsNumber, serial_of}
 use Rattle.agent_stock.specs.Stock.{passes}
 use Rattle.agent_stock.proofs.Serials.{given_as}
-use Rattle.stock_tables.specs.Rows.{end_of}
+use Rattle.agent_stock.specs.Runs.{end_of}
 use Rattle.stock_tables.proofs.Places.{run_parts}
 use Rattle.stock_tables.proofs.Lowest.{Left, at_place, as_row, gap_fails, row_fails, goes_on, last_fails, none_fails, whole}
 use Rattle.stock_tables.proofs.failing.lowest_of.Goals as goal

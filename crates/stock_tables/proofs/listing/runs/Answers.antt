@@ -1,9 +1,8 @@
 use Rattle.std.proofs.Common.{◌≡◌, ◌∙◌, List, IfOk, map, sym, ap, subst}
 use Rattle.std.specs.FinMap.{entries}
-use Rattle.agent_stock.specs.Runs.{AreStockRuns}
+use Rattle.agent_stock.specs.Runs.{AreStockRuns, AreRuns, holders_by}
 use Rattle.agent_stock.specs.Stock.{Holders}
 use Rattle.station_schema.specs.Tables.{Stock, StockKey}
-use Rattle.stock_tables.specs.Rows.{AreRuns, holders_by}
 use Rattle.station_rows.specs.Meant.{stock_meant}
 use Rattle.row_codec.specs.Stock.{run_in}
 use Rattle.stock_tables.proofs.Showing.{if_given, made_of}

@@ -16,7 +16,7 @@ returns-in_err-rows-clause-walks g c = λ clean up plain keys agrees begun.
 
 pub returns-in_err-walk_rows-clause-walks : goal.returns-in_err-walk_rows-clause-walks
 returns-in_err-walk_rows-clause-walks g c = λ clean up plain keys agrees begun.
-    let t = g.T.KeyedTable in
+    let t = g.T.KeyedRow in
     let made = c.in_ok-rows.ensures in
     let late : HasCleanDisk (state g.S.Store c.walk_rows.new.rows.conn.now) = search rules in
     let first : HasCleanDisk (state g.S.Store c.in_ok-rows.rows.conn.now) = omega (arith, late, c.walk_rows.ensures.survives.clean) in
@@ -29,7 +29,7 @@ returns-in_err-walk_rows-clause-walks g c = λ clean up plain keys agrees begun.
 
 pub returns-clause-walks : goal.returns-clause-walks
 returns-clause-walks g c = λ clean up plain keys agrees begun.
-    let t = g.T.KeyedTable in
+    let t = g.T.KeyedRow in
     let made = c.in_ok-rows.ensures in
     let late : HasCleanDisk (state g.S.Store c.walk_rows.new.rows.conn.now) = search rules in
     let first : HasCleanDisk (state g.S.Store c.in_ok-rows.rows.conn.now) = omega (arith, late, c.walk_rows.ensures.survives.clean) in

@@ -1,5 +1,5 @@
 use Rattle.desk_client.specs.Again.{talk}
-use Rattle.desk_client.specs.Request.{rows_path}
+use Rattle.http_desk.specs.Paths.{rows_path}
 use Rattle.desk_client.proofs.RowsAsked.{rows_shown, rows_unanswered, rows_unasked}
 use Rattle.desk_client.proofs.ask.ServiceAsk.ask_rows.Goals as goal
 

@@ -1,6 +1,7 @@
 use Rattle.std.proofs.Common.{◌≡◌, ◌∙◌, [], ◌∷◌, ◌++◌, ap, arith, rules}
 use Rattle.station_core.specs.Step.{sent}
-use Rattle.map_state.specs.Maps.{cargo_of, texts_in}
+use Rattle.map_state.specs.Maps.{cargo_of}
+use Rattle.station_core.specs.Texts.{texts_in}
 use Rattle.map_state.specs.Shown.{state_of}
 use Rattle.map_state.proofs.Writing.{room_message, shows_more, texts_more}
 use Rattle.map_state.proofs.state.MapState.put_message.Goals as goal

@@ -4,7 +4,8 @@ use Rattle.station_core.specs.declared.rows.Expectation.{Expectation}
 use Rattle.station_core.specs.Readers.{AreExpectations, expected_row}
 use Rattle.plain_station.specs.Lists.{cargo_of}
 use Rattle.plain_station.proofs.Listed.{known_asked}
-use Rattle.plain_station.proofs.Walks.{mapped, holds_of}
+use Rattle.plain_station.proofs.Walks.{holds_of}
+use Rattle.station_core.proofs.Mapped.{mapped}
 use Rattle.plain_station.proofs.cargo.PlainCargo.expected_rows.Goals as goal
 
 pub expected_row-requires : goal.expected_row-requires

@@ -1,6 +1,6 @@
 use Rattle.std.proofs.Common.{sym, ap, subst, ◌∙◌, rules}
 use Rattle.sqlite.specs.Held.{state}
-use Rattle.row_laws.specs.Calls.{IsSettled}
+use Rattle.station_schema.specs.Effects.{IsSettled}
 use Rattle.station_schema.specs.Connection.{IsVacant}
 use Rattle.station_schema.specs.Own.{IsOwn}
 use Rattle.station_schema.specs.Tables.{tables_of}

@@ -1,0 +1,7 @@
+use Rattle.std.proofs.Common.{take}
+use Rattle.agent_stock.specs.Runs.{AreRuns, AreStockRuns, holders_by}
+use Rattle.agent_stock.proofs.runs.maximal_runs.Given as goal
+
+-- the runs so far are those of the rows so far
+abbrev pub invariant-loop-row : goal.invariant-loop-row
+invariant-loop-row l = AreRuns l.rows → AreStockRuns (holders_by (take l.row-index l.rows)) l.runs.items

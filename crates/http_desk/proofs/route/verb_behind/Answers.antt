@@ -1,7 +1,0 @@
-use Rattle.std.proofs.Common.{◌∙◌, ap}
-use Rattle.desk_commands.specs.Verb.{verb_called}
-use Rattle.http_desk.proofs.NoVerb.{verb_read}
-use Rattle.http_desk.proofs.route.verb_behind.Goals as goal
-
-pub returns : goal.returns
-returns c = verb_read c.behind.result.now c.read.result c.read.ensures.some c.read.ensures.only ∙ ap verb_called c.behind.ensures

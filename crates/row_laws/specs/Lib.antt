@@ -1,4 +1,0 @@
-pub mod Columns
-pub mod Laws
-pub mod Calls
-pub mod Streams

@@ -1,7 +1,0 @@
-use Rattle.std.proofs.Common.{◌≡◌, map, take}
-use Rattle.telegrams.specs.NoticeText.{notice_text}
-use Rattle.station_engine.specs.Written.{texts_in}
-use Rattle.station_engine.proofs.acting.texts_of.Given as goal
-
-abbrev pub invariant-loop-notice : goal.invariant-loop-notice
-invariant-loop-notice l = texts_in l.texts.items ≡ map notice_text (take l.notice-index l.notices)
