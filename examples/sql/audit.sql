@@ -1,6 +1,6 @@
 -- Each row of a station's file of version 2 that isn't lawful, with its table, its key and the reason:
 --     sqlite3 -readonly fra.db < examples/sql/audit.sql
--- If it finds nothing it prints nothing. It is written from the table in docs/STATION.md alone, so it is a second opinion
+-- If it finds nothing it prints nothing. It is written from the table in docs/FILES.md alone, so it is a second opinion
 -- on `fault 601`. It doesn't test the texts of keys, commands, telegrams, parts, flights and names, fractions in columns
 -- without STRICT, nor what a place or a flight held in the middle of the book.
 .headers off
