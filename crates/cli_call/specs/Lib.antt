@@ -1,5 +1,6 @@
 pub mod Closed
 pub mod Ended
+pub mod Leaving
 pub mod Migrated
 pub mod OneFile
 pub mod Ran

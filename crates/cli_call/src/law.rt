@@ -2,15 +2,25 @@
 ghost use Rattle.std.specs.Prelude.{List};
 ghost use Rattle.station_core.specs.Step.{State, IsLawfulState};
 ghost use Rattle.cli_run.specs.Ends.{ends};
+ghost use Rattle.cli_call.specs.Leaving.{LeavesInputs};
 ghost use Rattle.cli_call.specs.OneFile.{AreCallsOn, HaveLed, RunOn, VainOn};
 
 use cli_run::{Inputs, left_law};
-use sqlite::FileStore;
+use sqlite::{Alter, FileStore};
 use sqlite_disk::Disk;
 use station_core::laws::retry_law;
 use station_core::{ByteOut, Keeper};
 use station_tables::{Station, next_call_law};
 use std::io::Read;
+
+/// [`left_law`] of a station over any store. A station over files is too long to be compared with
+/// the trait as one.
+fn left_over_store<S: Alter, I: Inputs + Read, W: ByteOut, E: ByteOut>()
+    ensures { LeavesInputs ⟦<Station<S> as Keeper>⟧.keeping
+        (ends I.remaining I.given I.turned W.taken E.taken) }
+{
+    left_law::<Station<S>, I, W, E>();
+}
 
 /// After any number of calls over one file, including vain ones, each of which finds in the files
 /// what the one before it may have left there, the last call's station has the state after every
@@ -28,7 +38,7 @@ pub fn calls_over_file_law<D: Disk + Drop, I: Inputs + Read, W: ByteOut, E: Byte
         → ⟦<Station<FileStore<D>> as Keeper>⟧.keeping.is_sound run.station
         → AreCallsOn run runs → ∥ HaveLed first run runs ∥₁ }
 {
-    left_law::<Station<FileStore<D>>, I, W, E>();
+    left_over_store::<FileStore<D>, I, W, E>();
     next_call_law::<FileStore<D>>();
     retry_law();
 }

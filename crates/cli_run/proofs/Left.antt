@@ -30,7 +30,9 @@ use Rattle.stock_list.specs.Answered.{HasAnsweredRows}
 use Rattle.cli_run.specs.Ended.{IsStopped}
 use Rattle.stock_list.specs.Ended.{kept_by}
 use Rattle.cli_run.specs.Ends.{come_to, told_to, Ends, Reached, Told}
-use Rattle.cli_run.specs.History.{GoesOnWith, HasToldHistory}
+use Rattle.cli_run.specs.History.{GoesOnWith, HasToldHistory, HasToldThen, by_listing}
+use Rattle.reports.specs.declared.listing.Listing.{Listing}
+use Rattle.reports.specs.declared.listing.Listing.TheVariants as listing
 use Rattle.stock_list.specs.Come.{Come}
 use Rattle.stock_list.specs.InTurn.{AreAnswered, HasEndedAt, HaveBeenAnswered}
 use Rattle.cli_run.specs.InTurn.{lines_of, AreMade, HaveBeenMade}
@@ -347,11 +349,14 @@ module _ {K : Type 0} (k : Keeping K) (settled : (it : K) (s : State) → k.keep
   goes_on Next (Ok false) mid new r quiet (same, is) = of_same mid.0 new.0 (ap (λ (t : Told K). t.0) same)
   goes_on Next (Err e) mid new r quiet (same, is) = of_same mid.0 new.0 (ap (λ (t : Told K). t.0) same)
 
+  then_listing : (l : Listing) (Then : Told K → Told K → Result Bool RunFault → Type 0) → ((old new : Told K) (r : Result Bool RunFault) → Then old new r → Quiet old.0 new.0)
+      → (old new : Told K) (r : Result Bool RunFault) → HasToldThen (by_listing k) l Then old new r → Quiet old.0 new.0
+  then_listing l Then quiet old new r told = then_quiet old.0 told.mid.0 new.0 (of_reads old.0 told.mid.0 told.told.told.reads) (goes_on _ told.ended told.mid new r (quiet told.mid new) told.rest)
+
   history_quiet : (w : ℕ) (old new : Told K) (r : Result Bool RunFault) → HasToldHistory k w old new r → Quiet old.0 new.0
   history_quiet w old new r told =
       then_quiet old.0 told.mid.0 new.0 (of_reads old.0 told.mid.0 told.known.reads)
-      (goes_on _ told.found told.mid new r (λ r rows. then_quiet told.mid.0 rows.mid.0 new.0 (of_reads told.mid.0 rows.mid.0 rows.moves.told.reads)
-      (goes_on _ rows.moved rows.mid new r (λ r trail. of_reads rows.mid.0 new.0 trail.told.reads) rows.trail)) told.rows)
+      (goes_on _ told.found told.mid new r (then_listing (listing.Movements w) _ (then_listing (listing.Trail w) _ (λ old new r sent. of_reads old.0 new.0 sent.told.reads)) told.mid new) told.rows)
 
   module _ {I W E : Type 0} (e : Ends I W E) (at : LocalMinute) (here : List ℕ) (s : State) (old new : K × Reached I W E) (r : Result Bool RunFault)
       (kept : k.keeps old.0 s) (works : k.is_broken old.0 ≡ false) (sound : k.is_sound new.0) where

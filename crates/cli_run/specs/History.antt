@@ -23,14 +23,22 @@ GoesOnWith (Ok true) Next mid new r = Next new r
 GoesOnWith (Ok false) Next mid new r = (new ≡ mid) × (r ≡ Ok false)
 GoesOnWith (Err e) Next mid new r = (new ≡ mid) × (r ≡ Err e)
 
--- the moves of a waybill were written, and then its trail
-pub record HasToldRows {K : Type 0} (Lists : Listing → Told K → Told K → Result Bool RunFault → Type 0) (w : ℕ) (old new : Told K) (r : Result Bool RunFault) : Type 0 where
+-- a listing was written, and then what follows
+pub record HasToldThen {K : Type 0} (Lists : Listing → Told K → Told K → Result Bool RunFault → Type 0) (l : Listing) (Then : Told K → Told K → Result Bool RunFault → Type 0) (old new : Told K) (r : Result Bool RunFault) : Type 0 where
   pub mid : Told K
-  pub moved : Result Bool RunFault
-  pub moves : Lists (listing.Movements w) old mid moved
-  pub trail : GoesOnWith moved (λ new r. Lists (listing.Trail w) mid new r) mid new r
+  pub ended : Result Bool RunFault
+  pub told : Lists l old mid ended
+  pub rest : GoesOnWith ended (λ new r. Then mid new r) mid new r
 
--- the record of a waybill was written and, if it is known, its moves and its trail
+-- the trail of a waybill was written, and then its status messages
+abbrev pub HasToldMessages : {K : Type 0} → (Listing → Told K → Told K → Result Bool RunFault → Type 0) → ℕ → Told K → Told K → Result Bool RunFault → Type 0
+HasToldMessages Lists w old new r = HasToldThen Lists (listing.Trail w) (Lists (listing.Sent w)) old new r
+
+-- its moves were written before
+abbrev pub HasToldRows : {K : Type 0} → (Listing → Told K → Told K → Result Bool RunFault → Type 0) → ℕ → Told K → Told K → Result Bool RunFault → Type 0
+HasToldRows Lists w old new r = HasToldThen Lists (listing.Movements w) (HasToldMessages Lists w) old new r
+
+-- the record of a waybill was written and, if it is known, its moves, its trail and its messages
 pub record HasToldHistory {K : Type 0} (k : Keeping K) (w : ℕ) (old new : Told K) (r : Result Bool RunFault) : Type 0 where
   pub mid : Told K
   pub found : Result Bool RunFault

@@ -4,6 +4,7 @@ use Rattle.awb_number.specs.Number.{number_of}
 use Rattle.imp_fields.specs.Airport.{airport_of}
 use Rattle.desk_commands.specs.Verb.{word}
 use Rattle.reports.specs.declared.listing.Listing.TheVariants as listing
+use Rattle.reports.specs.declared.report.Report.TheVariants as report
 use Rattle.cli_words.specs.declared.line.Line.{Line}
 use Rattle.cli_words.specs.declared.line.LineCommand.{LineCommand}
 use Rattle.cli_words.specs.declared.line.LineCommand.TheVariants as command
@@ -53,6 +54,8 @@ Means (request.Outbox None json) (command.Outbox f) = f ≡ form_of json
 Means (request.Outbox (Some after) json) (command.Report l f) =
     ((n : ℕ) × IsNumber 32 after.now n × (l ≡ listing.PendingAfter n)) × (f ≡ form_of json)
 Means (request.Report words) (command.Report l f) = IsListed words l × (f ≡ form_of words.json)
+Means (request.Station json) (command.Report l f) = (l ≡ listing.All report.Station) × (f ≡ form_of json)
+Means (request.Key key json) (command.Report l f) = (l ≡ listing.Kept key.now) × (f ≡ form_of json)
 Means (request.History number) (command.History w) = number_of number.now ≡ Ok w
 Means (request.Waybill number) (command.Waybill w) = number_of number.now ≡ Ok w
 Means (request.Holder number) (command.Holder w) = number_of number.now ≡ Ok w

@@ -78,6 +78,13 @@ const LOOK_UP: [Word; 1] = [Word {
     help: help::AWB,
 }];
 
+/// The flag of a command that prints rows.
+const AS_JSON: Word = Word {
+    name: "json",
+    given: Given::Flag,
+    help: help::JSON,
+};
+
 /// The words of `report`.
 const REPORT: [Word; 8] = [
     Word {
@@ -115,15 +122,11 @@ const REPORT: [Word; 8] = [
         given: Given::Option("N"),
         help: help::LAST,
     },
-    Word {
-        name: "json",
-        given: Given::Flag,
-        help: help::JSON,
-    },
+    AS_JSON,
 ];
 
 /// The commands, in the order of the help.
-pub(crate) const COMMANDS: [CommandWords; 13] = [
+pub(crate) const COMMANDS: [CommandWords; 15] = [
     CommandWords {
         name: "init",
         about: help::INIT,
@@ -184,11 +187,7 @@ pub(crate) const COMMANDS: [CommandWords; 13] = [
                 given: Given::Option("N"),
                 help: help::MESSAGES_AFTER,
             },
-            Word {
-                name: "json",
-                given: Given::Flag,
-                help: help::JSON,
-            },
+            AS_JSON,
         ]),
     },
     CommandWords {
@@ -196,6 +195,12 @@ pub(crate) const COMMANDS: [CommandWords; 13] = [
         about: help::REPORT,
         examples: help::REPORT_EXAMPLES,
         takes: Takes::Words(&REPORT),
+    },
+    CommandWords {
+        name: "station",
+        about: help::GLANCE,
+        examples: help::GLANCE_EXAMPLES,
+        takes: Takes::Words(&[AS_JSON]),
     },
     CommandWords {
         name: "waybill",
@@ -214,6 +219,19 @@ pub(crate) const COMMANDS: [CommandWords; 13] = [
         about: help::HISTORY,
         examples: help::HISTORY_EXAMPLES,
         takes: Takes::Words(&LOOK_UP),
+    },
+    CommandWords {
+        name: "key",
+        about: help::KEPT,
+        examples: help::KEPT_EXAMPLES,
+        takes: Takes::Words(&[
+            Word {
+                name: "KEY",
+                given: Given::Always,
+                help: help::KEPT_KEY,
+            },
+            AS_JSON,
+        ]),
     },
     CommandWords {
         name: "serve",

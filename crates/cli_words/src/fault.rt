@@ -20,6 +20,8 @@ pub(crate) enum BadValue<'a> {
     At(&'a str),
     Verb(&'a str),
     Key(&'a str),
+    /// The key of `key`, which reads no body.
+    KeptKey(&'a str),
     ReportName(&'a str),
     /// It doesn't have the form of a waybill number.
     Number(&'a str),
@@ -55,8 +57,8 @@ const NUMBER: &str =
 const CHECK_DIGIT: &str = "wrong check digit, expected the seven digits before it modulo 7";
 
 const REPORT_NAME: &str =
-    "expected stock, shed, flights, expected, irregularities, movements, trail, sent, station or \
-    manifest";
+    "expected stock, announced, shed, shed-days, flights, expected, irregularities, \
+    irregularity-days, movements, trail, sent, station or manifest";
 
 const PART: &str =
     "only flights and expected take --open, only stock takes --agent, only movements, trail and \
@@ -85,6 +87,11 @@ impl BadValue<'_> {
             ),
             BadValue::At(text) => ("--at", text, "expected a port: a number from 1 to 65535"),
             BadValue::Key(text) => ("KEY", text, KEY),
+            BadValue::KeptKey(text) => (
+                "KEY",
+                text,
+                "expected 1 to 40 printable characters without spaces",
+            ),
             BadValue::Number(text) => ("AWB", text, NUMBER),
             BadValue::CheckDigit(text) => ("AWB", text, CHECK_DIGIT),
             BadValue::Agent(text) => (

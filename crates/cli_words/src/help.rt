@@ -149,6 +149,8 @@ pub(crate) const REPORT_EXAMPLES: &str = "\
 The last line is `END n`, with the number of rows.
 
 Examples:
+  cargo_desk --db fra.db report announced
+  cargo_desk --db fra.db report shed-days
   cargo_desk --db fra.db report flights --open
   cargo_desk --db fra.db report stock --agent ACME
   cargo_desk --db fra.db report movements --awb 020-12345675
@@ -173,15 +175,18 @@ pub(crate) const LAST: &str = "movements, trail: the last N rows";
 pub(crate) const FLIGHT: &str = "manifest: the flight and its day, such as LH400/2026-01-12";
 
 pub(crate) const REPORT_NAMES: &str =
-    "stock, shed, flights, expected, irregularities, movements, trail, sent, station or manifest";
+    "stock, announced, shed, shed-days, flights, expected, irregularities, irregularity-days, \
+    movements, trail, sent, station or manifest";
 
 pub(crate) const AWB: &str = "A waybill number with its check digit, such as 020-12345675";
 
-pub(crate) const HISTORY: &str = "Prints what is known of a waybill, its moves and its trail";
+pub(crate) const HISTORY: &str =
+    "Prints what is known of a waybill, its moves, its trail and what was sent";
 
 pub(crate) const HISTORY_EXAMPLES: &str = "\
-First the line of `waybill`, then the moves and the lines of its status messages, each list with its
-`END n`; or `unknown`, with status 1, if the waybill isn't declared.
+First the line of `waybill`, then the moves, the lines of the status messages that arrived, and the
+status messages that were sent, each list with its `END n`; or `unknown`, with status 1, if the
+waybill isn't declared.
 
 Example:
   cargo_desk --db fra.db history 020-12345675";
@@ -203,6 +208,26 @@ isn't in stock.
 
 Example:
   cargo_desk --db fra.db holder 020-12345675";
+
+pub(crate) const GLANCE: &str =
+    "Prints the airport, and the numbers of the last move, trail line and message";
+
+pub(crate) const GLANCE_EXAMPLES: &str = "\
+The same as `report station`: `FRA moves 3 trail 0 messages 4 confirmed 3`, and `END 1`.
+
+Example:
+  cargo_desk --db fra.db station";
+
+pub(crate) const KEPT: &str = "Prints the command that was accepted under a key";
+
+pub(crate) const KEPT_EXAMPLES: &str = "\
+The key, the count of the answer and the command, such as `k2 3 issue 020 1234570 3 ACME`, and
+`END 1`; or `END 0` if nothing was accepted under the key.
+
+Example:
+  cargo_desk --db fra.db key k2";
+
+pub(crate) const KEPT_KEY: &str = "The key of a command, 1 to 40 printable characters";
 
 pub(crate) const SERVE: &str = "Serves HTTP on 127.0.0.1, one connection after another";
 

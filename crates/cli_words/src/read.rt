@@ -12,7 +12,7 @@ use crate::words::{ReportWords, Request, Words, sort_words};
 use awb_number::{Awb, AwbFault};
 use desk_commands::Verb;
 use imp_fields::Airport;
-use reports::Listing;
+use reports::{Listing, Report};
 use station_core::Key;
 use std::alloc::Global;
 use std::convert::AsStr;
@@ -26,6 +26,16 @@ fn read_act<'a>(word: &'a str, key: &'a str) -> Result<LineCommand<'a>, BadValue
     match Key::read(key.as_bytes()) {
         Some(key) => Ok(LineCommand::Act { verb, key }),
         None => Err(BadValue::Key(key)),
+    }
+}
+
+/// Returns the command that was accepted under a key.
+fn read_kept<'a>(key: &'a str, json: bool) -> Result<LineCommand<'a>, BadValue<'a>>
+    ensures { IfOk result (Means (Request.Key key.entry json)) }
+{
+    match Key::read(key.as_bytes()) {
+        Some(key) => Ok(LineCommand::Report(Listing::Kept(key), form_of(json))),
+        None => Err(BadValue::KeptKey(key)),
     }
 }
 
@@ -145,6 +155,11 @@ fn read_command<'a>(
         Request::Read(file) => Ok(LineCommand::Read(file)),
         Request::Outbox { after, json } => read_outbox(after, json),
         Request::Report(words) => read_report(words),
+        Request::Station { json } => {
+            let listing = Listing::All(Report::Station);
+            Ok(LineCommand::Report(listing, form_of(json)))
+        }
+        Request::Key { key, json } => read_kept(key, json),
         Request::History(number) => read_history(number),
         Request::Waybill(number) => read_waybill(number),
         Request::Holder(number) => read_holder(number),

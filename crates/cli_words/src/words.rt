@@ -28,6 +28,13 @@ pub(crate) enum Request<'a> {
         json: bool,
     },
     Report(ReportWords<'a>),
+    Station {
+        json: bool,
+    },
+    Key {
+        key: &'a str,
+        json: bool,
+    },
     History(&'a str),
     Waybill(&'a str),
     Holder(&'a str),
@@ -181,6 +188,13 @@ fn asked<'a>(name: &str, words: &ArgMatches<'a>) -> Option<Request<'a>> {
             json: words.get_flag("json"),
         }),
         "report" => Some(Request::Report(report_words(words)?)),
+        "station" => Some(Request::Station {
+            json: words.get_flag("json"),
+        }),
+        "key" => Some(Request::Key {
+            key: words.get_str("KEY")?,
+            json: words.get_flag("json"),
+        }),
         "history" => Some(Request::History(words.get_str("AWB")?)),
         "waybill" => Some(Request::Waybill(words.get_str("AWB")?)),
         "holder" => Some(Request::Holder(words.get_str("AWB")?)),

@@ -22,7 +22,7 @@ use Rattle.desk_commands.specs.declared.verb.Verb.{Verb}
 use Rattle.desk_commands.specs.Verb.{word}
 use Rattle.desk_commands.proofs.Words.{of_every}
 use Rattle.station_core.specs.Key.{is_key, is_key_byte}
-use Rattle.http_desk.specs.Paths.{HasPath, IsPathOf}
+use Rattle.http_desk.specs.Paths.{HasPath, IsPathOf, most_path}
 use Rattle.http_desk.proofs.Printed.{writes}
 use Rattle.http_desk.proofs.Segments.{all_weaker}
 use Rattle.http_desk.specs.Routes.{Got, gets, Posted, posts, posted_command, posted_telegram, place_of}
@@ -246,13 +246,13 @@ get_headers = refl
 abbrev getting : List ℕ → Head
 getting path = record { method = codes "GET"; target = path; fields = get_fields }
 
-get_short : (path : List ℕ) → length path ≤ 100 → length (codes "GET " ++ (path ++ codes " HTTP/1.1\r\nHost: 127.0.0.1\r\nConnection: close\r\n\r\n")) ≤ 16_384
+get_short : (path : List ℕ) → length path ≤ most_path → length (codes "GET " ++ (path ++ codes " HTTP/1.1\r\nHost: 127.0.0.1\r\nConnection: close\r\n\r\n")) ≤ 16_384
 get_short path few = omega (arith, few, length-append path (codes " HTTP/1.1\r\nHost: 127.0.0.1\r\nConnection: close\r\n\r\n"))
 
 nothing_behind : (xs : List ℕ) → drop (length xs) (xs ++ []) ≡ []
 nothing_behind xs = drop-append_seam xs []
 
-get_read : (path : List ℕ) (got : Got) → is_request_line (codes "GET") path 1 ≡ true → length path ≤ 100 → place_of path ≡ Some (gets got)
+get_read : (path : List ℕ) (got : Got) → is_request_line (codes "GET") path 1 ≡ true → length path ≤ most_path → place_of path ≡ Some (gets got)
     → IsRead (get_request path ++ []) (looks_up got) None []
 get_read path got line few place =
     let h : RequestHead = request_head (codes "GET") path 1 get_fields in

@@ -3,6 +3,7 @@ use Rattle.std.specs.Prelude.{◌≡◌, ◌⊎◌, ◌==◌, ◌&&◌, ℕ, Boo
 use Rattle.std.specs.Str.{bytes_eq}
 use Rattle.reports.specs.declared.form.Form.{Form}
 use Rattle.reports.specs.declared.form.Form.TheVariants as form
+use Rattle.reports.specs.declared.listing.Listing.{Listing}
 use Rattle.reports.specs.declared.listing.Listing.TheVariants as listing
 use Rattle.station_core.specs.Ends.{HasCause, HasSent}
 use Rattle.station_core.specs.Given.{Given}
@@ -94,12 +95,20 @@ HasGoneOn First Next old new result =
     ((mid : Shown) × First old mid (Ok true) × Next mid new result)
     ⊎ (First old new result × (result ≡ Ok true → ⊥))
 
+-- a listing as text
+abbrev pub HasAskedText : Listing → Shown → Shown → Result Bool RunFault → Type 0
+HasAskedText l old new result = HasAskedRows (rows_path l form.Text) form.Text old new result
+
+-- the trail of a waybill and then its status messages, and its moves before them
+abbrev pub HasAskedMessages : ℕ → Shown → Shown → Result Bool RunFault → Type 0
+HasAskedMessages w old new result =
+    HasGoneOn (HasAskedText (listing.Trail w)) (HasAskedText (listing.Sent w)) old new result
+
 abbrev pub HasAskedMoves : ℕ → Shown → Shown → Result Bool RunFault → Type 0
 HasAskedMoves w old new result =
-    HasGoneOn (HasAskedRows (rows_path (listing.Movements w) form.Text) form.Text)
-    (HasAskedRows (rows_path (listing.Trail w) form.Text) form.Text) old new result
+    HasGoneOn (HasAskedText (listing.Movements w)) (HasAskedMessages w) old new result
 
--- the record of a waybill, and its moves and its trail if it is known
+-- the record of a waybill, and its moves, its trail and its messages if it is known
 abbrev pub HasAskedHistory : ℕ → Shown → Shown → Result Bool RunFault → Type 0
 HasAskedHistory w old new result =
     HasGoneOn (HasLooked HasShownFound most_answer (get_request (waybill_path w) ++ []))

@@ -1,6 +1,6 @@
 //! Look-ups, and histories of waybills.
 ghost use Rattle.std.specs.Prelude.{◌≡◌};
-ghost use Rattle.desk_client.specs.Looks.{is_unknown, shown, HasAskedHistory, HasAskedMoves, HasLooked, HasShownFound};
+ghost use Rattle.desk_client.specs.Looks.{is_unknown, shown, HasAskedHistory, HasAskedMessages, HasAskedMoves, HasLooked, HasShownFound};
 ghost use Rattle.desk_client.specs.Request.{most_of, request_of};
 
 use crate::ask::{Answer, Ask};
@@ -58,7 +58,23 @@ pub(crate) fn ask_number<S: Ask, W: ByteOut>(
     }
 }
 
-/// Writes the moves of a waybill, and then its trail.
+/// Writes the trail of a waybill, and then its status messages.
+fn ask_messages<S: Ask, W: ByteOut>(
+    alloc: Global,
+    service: &mut S,
+    number: &Awb,
+    output: &mut W,
+) -> Result<bool, RunFault>
+    ensures { HasAskedMessages number.now (shown (S.talk service.old) (W.taken output.old))
+        (shown (S.talk service.new) (W.taken output.new)) result }
+{
+    match service.ask_rows(alloc, &Listing::Trail(*number), Form::Text, output) {
+        Ok(true) => service.ask_rows(alloc, &Listing::Sent(*number), Form::Text, output),
+        ended => ended,
+    }
+}
+
+/// Writes the moves of a waybill, its trail and its status messages.
 fn ask_moves<S: Ask, W: ByteOut>(
     alloc: Global,
     service: &mut S,
@@ -69,12 +85,13 @@ fn ask_moves<S: Ask, W: ByteOut>(
         (shown (S.talk service.new) (W.taken output.new)) result }
 {
     match service.ask_rows(alloc, &Listing::Movements(*number), Form::Text, output) {
-        Ok(true) => service.ask_rows(alloc, &Listing::Trail(*number), Form::Text, output),
+        Ok(true) => ask_messages(alloc, service, number, output),
         ended => ended,
     }
 }
 
-/// Runs `history AWB`: writes the record of a waybill, its moves and its trail.
+/// Runs `history AWB`: writes the record of a waybill, its moves, its trail and its status
+/// messages.
 pub(crate) fn ask_history<S: Ask, W: ByteOut>(
     alloc: Global,
     service: &mut S,

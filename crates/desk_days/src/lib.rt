@@ -72,6 +72,7 @@ pub const FILES: &[&str] = &[
     "http",
     "listings",
     "shed",
+    "waiting",
     "manifests",
 ];
 

@@ -323,10 +323,13 @@ fn rows_told<K: Keeper>(alloc: Global, keeper: &mut K) -> Result<Vec<u8>, ActFau
     let mut out = Vec::new(alloc);
     for report in [
         Report::Stock,
+        Report::Announced,
         Report::Shed,
+        Report::ShedDays,
         Report::Flights,
         Report::Expected,
         Report::Irregularities,
+        Report::IrregularityDays,
         Report::Movements,
         Report::Trail,
         Report::Pending,

@@ -10,6 +10,8 @@ mod Examples
 mod FieldLaws
 mod Heads
 mod Joining
+mod KeyPrinted
+pub mod KeySegments
 mod NoVerb
 pub mod Segments
 mod Paths

@@ -2,6 +2,7 @@
 use Rattle.std.proofs.Common.{arith, ◌≡◌, ◌∙◌, ap, sym, refl, ℕ, ◌+◌, ◌-◌, ◌*◌, ◌/◌, ◌%◌, ◌<◌, ◌≤◌, ◌^◌, Bool, true, false, Some, None, Option, List, [], ◌∷◌, ◌++◌, length, take, drop, codes, decimal, length-append, append_assoc, take-append-drop}
 use Rattle.std.specs.Prelude.{◌&&◌, ◌==◌, not, nat_le, nat_lt, if◌then◌else◌, option_map, option_and_then}
 use Rattle.std.specs.Char.{is_ascii_graphic}
+use Rattle.std.specs.Fmt.{digit_glyph}
 use Rattle.std.specs.List.{list_all}
 use Rattle.std.specs.Result.{result_ok}
 use Rattle.std.specs.Str.{bytes_eq}
@@ -22,18 +23,21 @@ use Rattle.imp_fields.proofs.WrittenLaws.{decimal_digits}
 use Rattle.station_days.specs.Date.{date_on, day_line, year_of}
 use Rattle.station_days.specs.Steps.{where_true}
 use Rattle.desk_commands.proofs.Words.{of_every}
+use Rattle.station_core.specs.Key.{is_key}
 use Rattle.reports.specs.declared.form.Form.{Form}
 use Rattle.reports.specs.declared.form.Form.TheVariants as form
 use Rattle.reports.specs.declared.listing.Listing.{Listing}
 use Rattle.reports.specs.declared.listing.Listing.TheVariants as listing
 use Rattle.reports.specs.declared.report.Report.TheVariants as report
 use Rattle.http_desk.specs.Digits.{is_number, number_told}
+use Rattle.http_desk.specs.Keys.{is_unescaped, key_segment}
 use Rattle.http_desk.specs.Paths.{HasPath, IsListed, IsPage, IsPathOf, is_path_byte, listing_path, rows_path, rows_segments, segments}
 use Rattle.http_desk.specs.Printouts.{in_form, is_json, flight_on, numbered_rows, row_number, rows_at, rows_named, rows_part, rows_word, waybill_rows}
 use Rattle.http_desk.specs.Routes.{Place, Posted, posts, gets, posted_command, posted_check, posted_telegram, posted_look, got_holder, got_report, got_waybill, page_at, page_named, page_word, asked_place}
 use Rattle.http_desk.specs.Segments.{is_slash, joined, path_text}
+use Rattle.http_desk.proofs.KeyPrinted.{key_again, segment_all, segment_few}
 use Rattle.http_desk.proofs.Paths.{page_there, place_is}
-use Rattle.http_desk.proofs.Segments.{all_weaker, at_three, is_path_good, is_segment, is_segment_byte, join, no_slash, plain}
+use Rattle.http_desk.proofs.Segments.{all_weaker, at_three, at_two, is_path_good, is_segment, is_segment_byte, join, no_slash, plain}
 
 -- The bytes of a path.
 
@@ -226,8 +230,8 @@ row_again n lt =
 -- The path of rows.
 
 record ArePrinted (l : Listing) : Type 0 where
-  good : list_all is_segment (rows_segments l) ≡ true
-  few : length (rows_segments l) ≤ 3
+  good : list_all is_path_good (listing_path l) ≡ true
+  few : length (listing_path l) ≤ 135
   rows : rows_at (listing_path l) ≡ Some l
   page : page_at (listing_path l) ≡ None
   json_page : page_at (listing_path l ++ codes ".json") ≡ None
@@ -236,11 +240,12 @@ three : (a b c : List ℕ) (l : Listing) → rows_segments l ≡ a ∷ b ∷ c �
 three a b c l is first second third rows =
     let at = plain a first in
     let mid = plain b second in
+    let all : list_all is_segment (a ∷ b ∷ c ∷ []) ≡ true = and_from _ _ first (and_from _ _ second (and_from _ _ third refl)) in
     let back : (a ++ 47 ∷ (b ++ 47 ∷ c)) ++ codes ".json" ≡ a ++ 47 ∷ (b ++ 47 ∷ (c ++ codes ".json")) =
     append_assoc a (47 ∷ (b ++ 47 ∷ c)) (codes ".json") ∙ ap (λ (t : List ℕ). a ++ 47 ∷ t) (append_assoc b (47 ∷ c) (codes ".json")) in
     record {
-      good = ap (list_all is_segment) is ∙ and_from _ _ first (and_from _ _ second (and_from _ _ third refl));
-      few = omega (arith, ap length is);
+      good = ap (λ s. list_all is_path_good (path_text s)) is ∙ joined_good (a ∷ b ∷ c ∷ []) all;
+      few = omega (arith, ap (λ s. length (path_text s)) is, joined_len (a ∷ b ∷ c ∷ []) all);
       rows = ap (λ s. rows_at (path_text s)) is ∙ at_three rows_word rows_named rows_part a b c at mid ∙ rows;
       page = ap (λ s. page_at (path_text s)) is ∙ at_three page_word page_named (λ _ _ _. None) a b c at mid;
       json_page = ap (λ s. page_at (path_text s ++ codes ".json")) is
@@ -257,12 +262,37 @@ of_waybill : (part : List ℕ) (l : Listing) (w : ℕ) → IsNumber w → rows_s
 of_waybill part l w range is third rows =
     three (codes "waybills") (number_text w) part l is refl (number_good w) third (ap (λ r. option_and_then (waybill_rows part) (result_ok r)) (number_again w range) ∙ rows)
 
+-- the segment of a key
+
+unescaped_good : (b : ℕ) → is_unescaped b ≡ true → is_segment_byte b ≡ true
+unescaped_good b h = grind (arith, nat_tests)
+
+hexadecimal_good : (d : ℕ) → d < 16 → is_segment_byte (digit_glyph true d) ≡ true
+hexadecimal_good d low = grind (arith, nat_tests)
+
+kept : (key : List ℕ) → is_key key ≡ true → ArePrinted (listing.Kept key)
+kept key is =
+    let name = key_segment key in
+    let bytes : list_all is_segment_byte name ≡ true = segment_all is_segment_byte unescaped_good refl hexadecimal_good key in
+    let plain_bytes : list_all (λ b. not (is_slash b)) name ≡ true = all_weaker is_segment_byte (λ b. not (is_slash b)) (λ b h. (and_parts (is_path_good b) (not (is_slash b)) h).1) name bytes in
+    let plain_json : list_all (λ b. not (is_slash b)) (name ++ codes ".json") ≡ true = join (λ b. not (is_slash b)) name (codes ".json") plain_bytes refl in
+    record {
+      good = all_weaker is_segment_byte is_path_good (λ b h. (and_parts (is_path_good b) (not (is_slash b)) h).0) name bytes;
+      few = omega (arith, segment_few key is);
+      rows = at_two rows_word rows_named rows_part (codes "keys") name refl (no_slash name plain_bytes) ∙ ap (option_map listing.Kept) (key_again key is);
+      page = at_two page_word page_named (λ _ _ _. None) (codes "keys") name refl (no_slash name plain_bytes);
+      json_page = at_two page_word page_named (λ _ _ _. None) (codes "keys") (name ++ codes ".json") refl (no_slash (name ++ codes ".json") plain_json);
+    }
+
 printed : (l : Listing) → IsListed l → ArePrinted l
 printed (listing.All report.Stock) is = record { good = refl; few = omega arith; rows = refl; page = refl; json_page = refl }
+printed (listing.All report.Announced) is = record { good = refl; few = omega arith; rows = refl; page = refl; json_page = refl }
 printed (listing.All report.Shed) is = record { good = refl; few = omega arith; rows = refl; page = refl; json_page = refl }
+printed (listing.All report.ShedDays) is = record { good = refl; few = omega arith; rows = refl; page = refl; json_page = refl }
 printed (listing.All report.Flights) is = record { good = refl; few = omega arith; rows = refl; page = refl; json_page = refl }
 printed (listing.All report.Expected) is = record { good = refl; few = omega arith; rows = refl; page = refl; json_page = refl }
 printed (listing.All report.Irregularities) is = record { good = refl; few = omega arith; rows = refl; page = refl; json_page = refl }
+printed (listing.All report.IrregularityDays) is = record { good = refl; few = omega arith; rows = refl; page = refl; json_page = refl }
 printed (listing.All report.Movements) is = record { good = refl; few = omega arith; rows = refl; page = refl; json_page = refl }
 printed (listing.All report.Trail) is = record { good = refl; few = omega arith; rows = refl; page = refl; json_page = refl }
 printed (listing.All report.Pending) is = record { good = refl; few = omega arith; rows = refl; page = refl; json_page = refl }
@@ -281,6 +311,7 @@ printed (listing.TrailAfter n) is = numbered (codes "trail") (codes "after") (li
 printed (listing.TrailLast n) is = numbered (codes "trail") (codes "last") (listing.TrailLast n) n is refl refl refl refl refl
 printed (listing.PendingAfter n) is = numbered (codes "outbox") (codes "after") (listing.PendingAfter n) n is refl refl refl refl refl
 printed (listing.SentAfter n) is = numbered (codes "sent") (codes "after") (listing.SentAfter n) n is refl refl refl refl refl
+printed (listing.Kept key) is = kept key is
 printed (listing.Manifest f) (range, day) =
     three (codes "flights") (flight_text f.flight) (day_line f.day) (listing.Manifest f) refl refl (flight_good f.flight range) (day_good f.day)
     (ap (λ (o : Option Designator). option_map listing.Manifest (option_and_then (flight_on (day_line f.day)) o)) (flight_again f.flight range)
@@ -290,11 +321,11 @@ pub rows_path_of : (l : Listing) (f : Form) → IsListed l → IsPathOf (rows_pa
 rows_path_of l form.Text listed =
     let is = printed l listed in
     let path = listing_path l in
-    let good : list_all is_path_good path ≡ true = joined_good (rows_segments l) is.good in
+    let good = is.good in
     record {
       graphic = all_weaker is_path_good is_ascii_graphic graphic_good path good;
       some = omega arith;
-      few = omega (arith, is.few, joined_len (rows_segments l) is.good);
+      few = omega (arith, is.few);
       leads = place_is path (all_weaker is_path_good is_path_byte path_good path good)
           ∙ ap (λ o. asked_place o path) is.page
           ∙ ap (λ (v : Bool). option_map (λ p. gets (got_report p)) (if v then option_map (in_form form.Json) (rows_at (take (length path - 5) path)) else option_map (in_form form.Text) (rows_at path))) (no_dot path good)
@@ -304,11 +335,11 @@ rows_path_of l form.Json listed =
     let is = printed l listed in
     let front = listing_path l in
     let path = front ++ codes ".json" in
-    let good : list_all is_path_good front ≡ true = joined_good (rows_segments l) is.good in
+    let good = is.good in
     record {
       graphic = join is_ascii_graphic front (codes ".json") (all_weaker is_path_good is_ascii_graphic graphic_good front good) refl;
       some = omega arith;
-      few = omega (arith, is.few, joined_len (rows_segments l) is.good, length-append front (codes ".json"));
+      few = omega (arith, is.few, length-append front (codes ".json"));
       leads = place_is path (join is_path_byte front (codes ".json") (all_weaker is_path_good is_path_byte path_good front good) refl)
           ∙ ap (λ o. asked_place o path) is.json_page
           ∙ ap (λ (v : Bool). option_map (λ p. gets (got_report p)) (if v then option_map (in_form form.Json) (rows_at (take (length path - 5) path)) else option_map (in_form form.Text) (rows_at path))) (json_end front)

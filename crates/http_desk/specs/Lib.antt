@@ -1,5 +1,6 @@
 pub mod Routes
 pub mod Segments
+pub mod Keys
 pub mod Paths
 pub mod Request
 pub mod Reply

@@ -8,6 +8,7 @@ use Rattle.imp_fields.specs.Flight.{IsDesignator, flight_text}
 use Rattle.station_days.specs.Date.{day_line}
 use Rattle.desk_commands.specs.Day.{day_of}
 use Rattle.desk_commands.specs.Verb.{word}
+use Rattle.station_core.specs.Key.{is_key}
 use Rattle.reports.specs.declared.form.Form.{Form}
 use Rattle.reports.specs.declared.form.Form.TheVariants as form
 use Rattle.reports.specs.declared.listing.Listing.{Listing}
@@ -15,6 +16,7 @@ use Rattle.reports.specs.declared.listing.Listing.TheVariants as listing
 use Rattle.reports.specs.declared.report.Report.{Report}
 use Rattle.reports.specs.declared.report.Report.TheVariants as report
 use Rattle.http_desk.specs.declared.printout.Printout.{Printout}
+use Rattle.http_desk.specs.Keys.{key_segment}
 use Rattle.http_desk.specs.Printouts.{printout_at}
 use Rattle.http_desk.specs.Routes.{posted_command, posted_check, posted_telegram, posted_look, got_waybill, got_holder, got_report, Place, posts, gets, place_of}
 use Rattle.http_desk.specs.Segments.{has_slash, path_text}
@@ -32,10 +34,13 @@ IsName name = (0 < length name) × (has_slash name ≡ false)
 
 abbrev pub report_segments : Report → List (List ℕ)
 report_segments report.Stock = codes "reports" ∷ codes "stock" ∷ []
+report_segments report.Announced = codes "reports" ∷ codes "announced" ∷ []
 report_segments report.Shed = codes "reports" ∷ codes "shed" ∷ []
+report_segments report.ShedDays = codes "reports" ∷ codes "shed-days" ∷ []
 report_segments report.Flights = codes "reports" ∷ codes "flights" ∷ []
 report_segments report.Expected = codes "reports" ∷ codes "expected" ∷ []
 report_segments report.Irregularities = codes "reports" ∷ codes "irregularities" ∷ []
+report_segments report.IrregularityDays = codes "reports" ∷ codes "irregularity-days" ∷ []
 report_segments report.Movements = codes "reports" ∷ codes "movements" ∷ []
 report_segments report.Trail = codes "reports" ∷ codes "trail" ∷ []
 report_segments report.Pending = codes "outbox" ∷ []
@@ -56,6 +61,7 @@ rows_segments (listing.TrailLast n) = codes "trail" ∷ codes "last" ∷ decimal
 rows_segments (listing.PendingAfter n) = codes "outbox" ∷ codes "after" ∷ decimal n ∷ []
 rows_segments (listing.SentAfter n) = codes "sent" ∷ codes "after" ∷ decimal n ∷ []
 rows_segments (listing.Sent w) = codes "waybills" ∷ number_text w ∷ codes "sent" ∷ []
+rows_segments (listing.Kept key) = codes "keys" ∷ key_segment key ∷ []
 rows_segments (listing.Manifest f) = codes "flights" ∷ flight_text f.flight ∷ day_line f.day ∷ []
 
 abbrev pub segments : Place → List (List ℕ)
@@ -98,8 +104,8 @@ pub record LeadsToRows (path : List ℕ) (place : Place) : Type 0 where
 abbrev pub LeadsTo : List ℕ → Place → Type 0
 LeadsTo path place = LeadsToPage path place ⊎ LeadsToRows path place
 
--- the values of a listing are in range: a code, a number, a row's number, and a flight on a day
--- that is read back from its text
+-- the values of a listing are in range: a code, a number, a row's number, a key, and a flight on a
+-- day that is read back from its text
 abbrev pub IsListed : Listing → Type 0
 IsListed (listing.AgentStock code) = IsTrue (is_agent_code code)
 IsListed (listing.Movements w) = IsNumber w
@@ -111,14 +117,19 @@ IsListed (listing.TrailLast n) = n < 2 ^ 32
 IsListed (listing.PendingAfter n) = n < 2 ^ 32
 IsListed (listing.SentAfter n) = n < 2 ^ 32
 IsListed (listing.Sent w) = IsNumber w
+IsListed (listing.Kept key) = IsTrue (is_key key)
 IsListed (listing.Manifest f) = IsDesignator f.flight × (day_of (day_line f.day) ≡ Some f.day)
 IsListed _ = ⊤
 
--- a printed path: at most 100 graphic bytes that lead to the place
+-- the size of the longest path that is printed, in bytes
+abbrev pub most_path : ℕ
+most_path = 140
+
+-- a printed path: graphic bytes that lead to the place
 pub record IsPathOf (path : List ℕ) (place : Place) : Type 0 where
   pub graphic : list_all is_ascii_graphic path ≡ true
   pub some : 0 < length path
-  pub few : length path ≤ 100
+  pub few : length path ≤ most_path
   pub leads : place_of path ≡ Some place
 
 abbrev pub HasPath : Place → Type 0

@@ -18,6 +18,7 @@ use Rattle.reports.specs.declared.report.Report.{Report}
 use Rattle.reports.specs.declared.report.Report.TheVariants as report
 use Rattle.http_desk.specs.declared.printout.Printout.{Printout}
 use Rattle.http_desk.specs.Digits.{number_told}
+use Rattle.http_desk.specs.Keys.{key_in}
 use Rattle.http_desk.specs.Segments.{by_segments}
 
 -- the text has the rows of the state, in the form
@@ -55,10 +56,11 @@ waybill_rows part w =
     else if bytes_eq part (codes "trail") then Some (listing.Trail w)
     else None
 
--- the rows of a kind after a number, or the last ones
+-- a kind and a side are these words
 abbrev pub are : List ℕ → List ℕ → List ℕ → List ℕ → Bool
 are kind side word other = bytes_eq kind word && bytes_eq side other
 
+-- the rows of a kind after a number, or the last ones
 abbrev pub numbered_rows : List ℕ → List ℕ → ℕ → Option Listing
 numbered_rows kind side n =
     if are kind side (codes "movements") (codes "after") then Some (listing.MovementsAfter n)
@@ -77,7 +79,10 @@ rows_word word =
     else None
 
 abbrev pub rows_named : List ℕ → List ℕ → Option Listing
-rows_named kind name = if bytes_eq kind (codes "reports") then listing_called name else None
+rows_named kind name =
+    if bytes_eq kind (codes "reports") then listing_called name
+    else if bytes_eq kind (codes "keys") then option_map listing.Kept (key_in name)
+    else None
 
 abbrev pub rows_part : List ℕ → List ℕ → List ℕ → Option Listing
 rows_part kind second third =

@@ -8,6 +8,7 @@ mod asking;
 mod fault;
 mod fields;
 mod head;
+mod keys;
 mod law;
 mod printout;
 mod reading;

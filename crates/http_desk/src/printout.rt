@@ -6,6 +6,7 @@ ghost use Rattle.http_desk.specs.Paths.{report_path, listing_path, rows_path};
 ghost use Rattle.http_desk.specs.Printouts.{agent_code, agent_rows, flight_date, in_form, numbered_rows, printout_at, row_number, rows_at, rows_named, rows_part, rows_word, waybill_rows};
 
 use crate::fields::number_told;
+use crate::keys::{key_in, key_segment};
 use agent_stock::AgentCode;
 use awb_number::Awb;
 use desk_commands::read_day;
@@ -77,6 +78,7 @@ fn rows_named(kind: &str, name: &str) -> Option<Listing>
 {
     match kind {
         "reports" => Listing::read(name.as_bytes()),
+        "keys" => Some(Listing::Kept(key_in(name)?)),
         _ => None,
     }
 }
@@ -165,10 +167,13 @@ fn report_path(report: Report) -> &'static str
 {
     match report {
         Report::Stock => "/v1/reports/stock",
+        Report::Announced => "/v1/reports/announced",
         Report::Shed => "/v1/reports/shed",
+        Report::ShedDays => "/v1/reports/shed-days",
         Report::Flights => "/v1/reports/flights",
         Report::Expected => "/v1/reports/expected",
         Report::Irregularities => "/v1/reports/irregularities",
+        Report::IrregularityDays => "/v1/reports/irregularity-days",
         Report::Movements => "/v1/reports/movements",
         Report::Trail => "/v1/reports/trail",
         Report::Pending => "/v1/outbox",
@@ -197,6 +202,10 @@ fn listing_path(alloc: Global, listing: &Listing) -> Result<String, AllocError>
         Listing::PendingAfter(row) => format!(in alloc; "/v1/outbox/after/{row}"),
         Listing::SentAfter(row) => format!(in alloc; "/v1/sent/after/{row}"),
         Listing::Sent(number) => format!(in alloc; "/v1/waybills/{number}/sent"),
+        Listing::Kept(key) => {
+            let segment = key_segment(key);
+            format!(in alloc; "/v1/keys/{segment}")
+        }
         Listing::Manifest(flight) => format!(in alloc; "/v1/flights/{flight}"),
     }
 }

@@ -1,4 +1,5 @@
 mod Ahead
+mod AnnouncedOrder
 mod BookLists
 mod Examples
 mod KeptRows

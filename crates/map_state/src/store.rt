@@ -15,8 +15,9 @@ use shipment_machine::{
 };
 use state_store::{FlightKey, StateStore, StoreFault, WaybillQuery};
 use station_core::{
-    BookQuery, BookRow, Expectation, ExpectedQuery, KeptReply, Key, Load, Message, MessageQuery,
-    NotedFlight, Sink, Sizes, TrailQuery, TrailRow, WaybillBalances, expectations_for, hand_out,
+    AnnouncedRow, BookQuery, BookRow, Expectation, ExpectedQuery, KeptReply, Key, Load, Message,
+    MessageQuery, NotedFlight, Sink, Sizes, TrailQuery, TrailRow, WaybillBalances,
+    expectations_for, hand_out,
 };
 
 /// Returns the length of a list, if its rows can be numbered.
@@ -162,6 +163,10 @@ impl StateStore for MapState {
 
     fn waybills(&mut self, query: WaybillQuery) -> Result<Vec<WaybillBalances>, StoreFault> {
         self.book.waybills(self.alloc, query)
+    }
+
+    fn announced(&mut self) -> Result<Vec<AnnouncedRow>, StoreFault> {
+        self.announced_rows()
     }
 
     fn noted(&mut self) -> Result<Vec<NotedFlight>, StoreFault> {

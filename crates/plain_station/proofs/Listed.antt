@@ -1,29 +1,33 @@
--- The flights that are noted and what flights are to bring, listed in order.
-use Rattle.std.proofs.Common.{◌≡◌, cond, ℕ, zero, suc, ◌<◌, Bool, true, false, ◌&&◌, ◌||◌, ◌==◌, length, arith, List, [], ◌∷◌, ◌++◌, insert, option_map, is_some, find, get_or, IsSome, IfSome, Option, Some, None, Err, Ordering, Less, Equal, Greater, All, is_eq, refl, sym, ap, ◌∙◌, subst, true≢false}
-use Rattle.std.specs.List.{list_any}
+-- The flights that are noted, the waybills that are announced and what flights are to bring, listed in
+-- order.
+use Rattle.std.proofs.Common.{◌≡◌, not, cond, ℕ, zero, suc, ◌<◌, Bool, true, false, ◌&&◌, ◌||◌, ◌==◌, length, arith, List, [], ◌∷◌, ◌++◌, insert, option_map, is_some, find, get_or, IsSome, IfSome, Option, Some, None, Err, Ordering, Less, Equal, Greater, All, is_eq, refl, sym, ap, ◌∙◌, subst, true≢false}
+use Rattle.std.specs.List.{filter, list_any}
 use Rattle.std.specs.List.Sorted.{IsBinarySearchResult}
 use Rattle.std.specs.FinMap.{nat_cmp-IsAntisymmetric, slice_cmp-IsAntisymmetric}
-use Rattle.std.specs.Ordering.{ordering_then}
+use Rattle.std.specs.Ordering.{nat_cmp, ordering_then}
 use Rattle.std.specs.Cmp.{IsTotalOrder, on_total, then_total, nat_cmp_total}
 use Rattle.std.specs.Cmp.Lexicographic.{nat_list_cmp_total}
 use Rattle.std.proofs.lemmas.Bool.{and_parts, and_from, eqb-true, eq-eqb}
 use Rattle.imp_fields.specs.Flight.{IsDesignator, flight_text}
 use Rattle.imp_fields.proofs.SameFlight.{one_by_text}
 use Rattle.shipment_machine.specs.declared.flight.FlightDate.{FlightDate}
+use Rattle.shipment_machine.specs.declared.moves.Declared.{Declared}
 use Rattle.shipment_machine.specs.declared.moves.Expected.{Expected}
+use Rattle.shipment_machine.specs.declared.moves.Move.{Move}
 use Rattle.shipment_machine.specs.declared.moves.Outbound.{Outbound}
 use Rattle.shipment_machine.specs.Flights.{same_flight_date}
 use Rattle.shipment_machine.specs.Cargo.{Cargo}
 use Rattle.shipment_machine.specs.Lawful.{IsLawful, IsLawfulAmount}
 use Rattle.shipment_machine.proofs.FlightKeys.{same-is, same-refl, same-sym}
+use Rattle.station_core.specs.declared.rows.AnnouncedRow.{AnnouncedRow}
 use Rattle.station_core.specs.declared.rows.NotedFlight.{NotedFlight}
 use Rattle.station_core.specs.declared.rows.Expectation.{Expectation}
 use Rattle.station_core.specs.declared.rows.ExpectedQuery.{ExpectedQuery}
 use Rattle.station_core.specs.declared.rows.ExpectedQuery.TheVariants as query
-use Rattle.station_core.specs.Readers.{by_flight, AreNoted, by_expectation, AreExpectations, asked_of, expected_for}
-use Rattle.plain_station.specs.Lists.{flights_in, expected_in}
-use Rattle.plain_station.specs.declared.rows.FlightRow.{FlightRow}
-use Rattle.plain_station.specs.declared.rows.ExpectedRow.{ExpectedRow}
+use Rattle.station_core.specs.Readers.{has_come, AreAnnounced, by_flight, AreNoted, by_expectation, AreExpectations, asked_of, expected_for}
+use Rattle.plain_station.specs.Lists.{AreDeclared, cargo_of, declared_in, flights_in, expected_in}
+use Rattle.plain_station.specs.declared.lists.CargoLists.{CargoLists}
+use Rattle.plain_station.specs.declared.rows.DeclaredRow.{DeclaredRow}
 use Rattle.plain_station.proofs.Placed.{any_found, searched, rises_with, found_with, found_still}
 
 -- ---- the orders
@@ -64,40 +68,102 @@ any_at p [] i x d low read h = absurd (omega arith)
 any_at p (y ∷ xs) zero x d low read h = ap (λ b. b || list_any p xs) (sym (ap p read) ∙ h)
 any_at p (y ∷ xs) (suc i) x d low read h = ap (λ b. p y || b) (any_at p xs i x d (omega arith) read h) ∙ or_true (p y)
 
--- ---- flights
+pub any_within : {X : Type 0} (p : X → Bool) (xs : List X) (i : ℕ) → i < length xs → ((d : X) → p (get_or xs i d) ≡ true) → list_any p xs ≡ true
+any_within p [] i low h = absurd (omega arith)
+any_within p (y ∷ xs) zero low h = ap (λ b. b || list_any p xs) (h y)
+any_within p (y ∷ xs) (suc i) low h = ap (λ b. p y || b) (any_within p xs i (omega arith) h) ∙ or_true (p y)
 
-abbrev noted : FlightRow → NotedFlight
-noted row = record { flight = row.flight; outbound = row.outbound }
+-- ---- flights
 
 only_flight : (f : FlightDate) (a b : NotedFlight) → same_flight_date f a.flight ≡ true → same_flight_date f b.flight ≡ true → b.flight ≡ a.flight
 only_flight f a b g h = sym (same-is f b.flight h) ∙ same-is f a.flight g
 
-pub flight_put : (seen : List FlightRow) (row : FlightRow) (at : ℕ) (rows : List NotedFlight) → AreNoted (flights_in seen) rows
-    → IsBinarySearchResult (λ (r : NotedFlight). by_flight r.flight row.flight) rows (Err at) → AreNoted (flights_in (seen ++ row ∷ [])) (insert rows at (noted row))
+pub flight_put : (seen : List NotedFlight) (row : NotedFlight) (at : ℕ) (rows : List NotedFlight) → AreNoted (flights_in seen) rows
+    → IsBinarySearchResult (λ (r : NotedFlight). by_flight r.flight row.flight) rows (Err at) → AreNoted (flights_in (seen ++ row ∷ [])) (insert rows at row)
 flight_put seen row at rows are place =
     let key : NotedFlight → FlightDate = λ r. r.flight in
     let value : NotedFlight → Outbound = λ r. r.outbound in
-    let split = searched by_flight flights_total key value (noted row) at rows are.rising place in
+    let split = searched by_flight flights_total key value row at rows are.rising place in
     record {
-      rising = rises_with by_flight flights_total key value (noted row) at rows split are.rising;
-      same = λ f. found_with by_flight flights_total key value (λ r. same_flight_date f r.flight) (noted row) (only_flight f (noted row)) seen (λ r. r.outbound) (λ r. same_flight_date f r.flight) row refl refl rows (are.same f) at split;
+      rising = rises_with by_flight flights_total key value row at rows split are.rising;
+      same = λ f. found_with by_flight flights_total key value (λ r. same_flight_date f r.flight) row (only_flight f row) seen (λ r. r.outbound) (λ r. same_flight_date f r.flight) row refl refl rows (are.same f) at split;
     }
 
-pub flight_there : (seen : List FlightRow) (row : FlightRow) (rows : List NotedFlight) → AreNoted (flights_in seen) rows
+pub flight_there : (seen : List NotedFlight) (row : NotedFlight) (rows : List NotedFlight) → AreNoted (flights_in seen) rows
     → list_any (λ (r : NotedFlight). same_flight_date row.flight r.flight) rows ≡ true → AreNoted (flights_in (seen ++ row ∷ [])) rows
 flight_there seen row rows are listed =
     let key : NotedFlight → FlightDate = λ r. r.flight in
     let value : NotedFlight → Outbound = λ r. r.outbound in
     record {
       rising = are.rising;
-      same = λ f. found_still by_flight flights_total key value (λ r. same_flight_date f r.flight) (noted row) (only_flight f (noted row)) seen (λ r. r.outbound) (λ r. same_flight_date f r.flight) row refl refl rows (are.same f)
+      same = λ f. found_still by_flight flights_total key value (λ r. same_flight_date f r.flight) row (only_flight f row) seen (λ r. r.outbound) (λ r. same_flight_date f r.flight) row refl refl rows (are.same f)
           (λ h. ap (λ k. list_any (λ (r : NotedFlight). same_flight_date k r.flight) rows) (same-is f row.flight h) ∙ listed);
     }
 
--- ---- what flights are to bring
+-- ---- declarations
 
-abbrev expectation : ExpectedRow → Expectation
-expectation row = record { flight = row.flight; awb = row.awb; expected = row.expected }
+abbrev announced : DeclaredRow → AnnouncedRow
+announced row = record { awb = row.awb; declared = row.declared }
+
+only_number : (w : ℕ) (a b : AnnouncedRow) → (w == a.awb) ≡ true → (w == b.awb) ≡ true → b.awb ≡ a.awb
+only_number w a b g h = sym (eqb-true w b.awb h) ∙ eqb-true w a.awb g
+
+pub declaration_put : (seen : List DeclaredRow) (row : DeclaredRow) (at : ℕ) (rows : List AnnouncedRow) → AreDeclared (declared_in seen) rows
+    → IsBinarySearchResult (λ (r : AnnouncedRow). nat_cmp r.awb row.awb) rows (Err at) → AreDeclared (declared_in (seen ++ row ∷ [])) (insert rows at (announced row))
+declaration_put seen row at rows are place =
+    let key : AnnouncedRow → ℕ = λ r. r.awb in
+    let value : AnnouncedRow → Declared = λ r. r.declared in
+    let split = searched nat_cmp nat_cmp_total key value (announced row) at rows are.rising place in
+    record {
+      rising = rises_with nat_cmp nat_cmp_total key value (announced row) at rows split are.rising;
+      same = λ w. found_with nat_cmp nat_cmp_total key value (λ r. w == r.awb) (announced row) (only_number w (announced row)) seen (λ r. r.declared) (λ r. w == r.awb) row refl refl rows (are.same w) at split;
+    }
+
+pub declaration_there : (seen : List DeclaredRow) (row : DeclaredRow) (rows : List AnnouncedRow) → AreDeclared (declared_in seen) rows
+    → list_any (λ (r : AnnouncedRow). row.awb == r.awb) rows ≡ true → AreDeclared (declared_in (seen ++ row ∷ [])) rows
+declaration_there seen row rows are listed =
+    let key : AnnouncedRow → ℕ = λ r. r.awb in
+    let value : AnnouncedRow → Declared = λ r. r.declared in
+    record {
+      rising = are.rising;
+      same = λ w. found_still nat_cmp nat_cmp_total key value (λ r. w == r.awb) (announced row) (only_number w (announced row)) seen (λ r. r.declared) (λ r. w == r.awb) row refl refl rows (are.same w)
+          (λ h. ap (λ k. list_any (λ (r : AnnouncedRow). k == r.awb) rows) (eqb-true w row.awb h) ∙ listed);
+    }
+
+-- the declared waybills of which nothing has come in
+abbrev pub is_ahead : List Move → DeclaredRow → Bool
+is_ahead book row = not (has_come book row.awb)
+
+-- what is declared of them is what is announced
+ahead_of : (book : List Move) (rows : List DeclaredRow) (w : ℕ) → cond (has_come book w) None (declared_in rows w) ≡ declared_in (filter (is_ahead book) rows) w
+ahead_of book [] w = none_both (has_come book w)
+  where
+    none_both : (b : Bool) → cond b None (declared_in [] w) ≡ None
+    none_both true = refl
+    none_both false = refl
+ahead_of book (row ∷ rows) w = by_case (w == row.awb) (has_come book row.awb) refl refl (ahead_of book rows w)
+  where
+    ahead : List DeclaredRow
+    ahead = filter (is_ahead book) rows
+
+    -- what is declared by the row, if it is the waybill's, and otherwise by others
+    by_row : Bool → List DeclaredRow → Option Declared
+    by_row b others = option_map (λ (r : DeclaredRow). r.declared) (cond b (Some row) (find (λ r. w == r.awb) others))
+
+    come : (b : Bool) → (w == row.awb) ≡ true → has_come book row.awb ≡ b → has_come book w ≡ b
+    come b e h = ap (has_come book) (eqb-true w row.awb e) ∙ h
+
+    by_case : (b c : Bool) → (w == row.awb) ≡ b → has_come book row.awb ≡ c → cond (has_come book w) None (declared_in rows w) ≡ declared_in ahead w
+        → cond (has_come book w) None (by_row b rows) ≡ declared_in (cond (not c) (row ∷ ahead) ahead) w
+    by_case true true e h rest = ap (λ x. cond x None (Some row.declared)) (come true e h) ∙ sym (ap (λ x. cond x None (declared_in rows w)) (come true e h)) ∙ rest
+    by_case true false e h rest = ap (λ x. cond x None (Some row.declared)) (come false e h) ∙ sym (ap (λ x. by_row x ahead) e)
+    by_case false true e h rest = rest
+    by_case false false e h rest = rest ∙ sym (ap (λ x. by_row x ahead) e)
+
+pub are_announced : (c : CargoLists) (rows : List AnnouncedRow) → AreDeclared (declared_in (filter (is_ahead c.book.items) c.declared.items)) rows → AreAnnounced (cargo_of c) rows
+are_announced c rows are = record { rising = are.rising; same = λ w. ahead_of c.book.items c.declared.items w ∙ are.same w }
+
+-- ---- what flights are to bring
 
 abbrev is_of : FlightDate → ℕ → Expectation → Bool
 is_of f w r = same_flight_date f r.flight && (w == r.awb)
@@ -115,24 +181,24 @@ is_key f w r h =
 only_key : (f : FlightDate) (w : ℕ) (a b : Expectation) → is_of f w a ≡ true → is_of f w b ≡ true → key_of b ≡ key_of a
 only_key f w a b g h = sym (is_key f w b h) ∙ is_key f w a g
 
-pub expected_put : (seen : List ExpectedRow) (row : ExpectedRow) (at : ℕ) (rows : List Expectation) → AreExpectations (expected_in seen) rows
-    → IsBinarySearchResult (λ (r : Expectation). by_expectation (r.flight, r.awb) (row.flight, row.awb)) rows (Err at) → AreExpectations (expected_in (seen ++ row ∷ [])) (insert rows at (expectation row))
+pub expected_put : (seen : List Expectation) (row : Expectation) (at : ℕ) (rows : List Expectation) → AreExpectations (expected_in seen) rows
+    → IsBinarySearchResult (λ (r : Expectation). by_expectation (r.flight, r.awb) (row.flight, row.awb)) rows (Err at) → AreExpectations (expected_in (seen ++ row ∷ [])) (insert rows at row)
 expected_put seen row at rows are place =
     let value : Expectation → Expected = λ r. r.expected in
-    let split = searched by_expectation expectations_total key_of value (expectation row) at rows are.rising place in
+    let split = searched by_expectation expectations_total key_of value row at rows are.rising place in
     record {
-      rising = rises_with by_expectation expectations_total key_of value (expectation row) at rows split are.rising;
-      same = λ f w. found_with by_expectation expectations_total key_of value (is_of f w) (expectation row) (only_key f w (expectation row)) seen (λ r. r.expected) (λ r. same_flight_date f r.flight && (w == r.awb)) row refl refl rows (are.same f w) at split;
+      rising = rises_with by_expectation expectations_total key_of value row at rows split are.rising;
+      same = λ f w. found_with by_expectation expectations_total key_of value (is_of f w) row (only_key f w row) seen (λ r. r.expected) (λ r. same_flight_date f r.flight && (w == r.awb)) row refl refl rows (are.same f w) at split;
     }
 
-pub expected_there : (seen : List ExpectedRow) (row : ExpectedRow) (rows : List Expectation) → AreExpectations (expected_in seen) rows
+pub expected_there : (seen : List Expectation) (row : Expectation) (rows : List Expectation) → AreExpectations (expected_in seen) rows
     → list_any (λ (r : Expectation). same_flight_date row.flight r.flight && (row.awb == r.awb)) rows ≡ true → AreExpectations (expected_in (seen ++ row ∷ [])) rows
 expected_there seen row rows are listed =
     let value : Expectation → Expected = λ r. r.expected in
     record {
       rising = are.rising;
-      same = λ f w. found_still by_expectation expectations_total key_of value (is_of f w) (expectation row) (only_key f w (expectation row)) seen (λ r. r.expected) (λ r. same_flight_date f r.flight && (w == r.awb)) row refl refl rows (are.same f w)
-          (λ h. ap (λ (k : FlightDate × ℕ). list_any (is_of k.0 k.1) rows) (is_key f w (expectation row) h) ∙ listed);
+      same = λ f w. found_still by_expectation expectations_total key_of value (is_of f w) row (only_key f w row) seen (λ r. r.expected) (λ r. same_flight_date f r.flight && (w == r.awb)) row refl refl rows (are.same f w)
+          (λ h. ap (λ (k : FlightDate × ℕ). list_any (is_of k.0 k.1) rows) (is_key f w row h) ∙ listed);
     }
 
 declared_there : (D : Type 0) (o : Option Expected) (row : Option Expectation) → o ≡ option_map (λ r. r.expected) row → is_some row ≡ true → IfSome o (λ e. IsLawfulAmount e.pieces e.tenths × D) → D

@@ -1,7 +1,9 @@
 -- The cargo in lists of rows.
-use Rattle.std.specs.Prelude.{ℕ, ◌&&◌, ◌==◌, Option, List, map}
+use Rattle.std.specs.Prelude.{◌≡◌, ℕ, ◌&&◌, ◌==◌, IsTrue, Option, List, map}
 use Rattle.std.specs.Option.{option_map}
 use Rattle.std.specs.List.{find}
+use Rattle.std.specs.FinMap.{is_sorted}
+use Rattle.std.specs.Ordering.{nat_cmp}
 use Rattle.agent_stock.specs.Plain.{holders_of}
 use Rattle.shipment_machine.specs.declared.flight.FlightDate.{FlightDate}
 use Rattle.shipment_machine.specs.declared.moves.Declared.{Declared}
@@ -11,9 +13,10 @@ use Rattle.shipment_machine.specs.declared.moves.Part.{Part}
 use Rattle.shipment_machine.specs.Flights.{same_flight_date}
 use Rattle.shipment_machine.specs.Cargo.{Cargo, same_part}
 use Rattle.station_core.specs.Texts.{texts_in}
+use Rattle.station_core.specs.declared.rows.AnnouncedRow.{AnnouncedRow}
+use Rattle.station_core.specs.declared.rows.Expectation.{Expectation}
+use Rattle.station_core.specs.declared.rows.NotedFlight.{NotedFlight}
 use Rattle.plain_station.specs.declared.rows.DeclaredRow.{DeclaredRow}
-use Rattle.plain_station.specs.declared.rows.FlightRow.{FlightRow}
-use Rattle.plain_station.specs.declared.rows.ExpectedRow.{ExpectedRow}
 use Rattle.plain_station.specs.declared.rows.PartRow.{PartRow}
 use Rattle.plain_station.specs.declared.rows.TrailRow.{TrailRow}
 use Rattle.plain_station.specs.declared.lists.CargoLists.{CargoLists}
@@ -22,10 +25,15 @@ use Rattle.plain_station.specs.declared.lists.CargoLists.{CargoLists}
 abbrev pub declared_in : List DeclaredRow → ℕ → Option Declared
 declared_in rows w = option_map (λ row. row.declared) (find (λ row. w == row.awb) rows)
 
-abbrev pub flights_in : List FlightRow → FlightDate → Option Outbound
+-- Declarations, each waybill once, ascending.
+pub record AreDeclared (declared : ℕ → Option Declared) (rows : List AnnouncedRow) : Type 0 where
+  pub rising : IsTrue (is_sorted nat_cmp (map (λ row. (row.awb, row.declared)) rows))
+  pub same : (w : ℕ) → declared w ≡ option_map (λ row. row.declared) (find (λ row. w == row.awb) rows)
+
+abbrev pub flights_in : List NotedFlight → FlightDate → Option Outbound
 flights_in rows k = option_map (λ row. row.outbound) (find (λ row. same_flight_date k row.flight) rows)
 
-abbrev pub expected_in : List ExpectedRow → FlightDate → ℕ → Option Expected
+abbrev pub expected_in : List Expectation → FlightDate → ℕ → Option Expected
 expected_in rows k w = option_map (λ row. row.expected) (find (λ row. same_flight_date k row.flight && (w == row.awb)) rows)
 
 abbrev pub parts_in : List PartRow → Part → Option (List ℕ)

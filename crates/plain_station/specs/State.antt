@@ -3,11 +3,11 @@ use Rattle.std.specs.Prelude.{◌≡◌, false}
 use Rattle.station_core.specs.Keeping.{Keeping}
 use Rattle.station_core.specs.Step.{State}
 use Rattle.plain_station.specs.Lists.{cargo_of}
-use Rattle.plain_station.specs.Kept.{kept_under, kept_of}
+use Rattle.plain_station.specs.Kept.{count_under, kept_under}
 use Rattle.plain_station.specs.declared.station.PlainStation.{PlainStation}
 
 abbrev pub state_of : PlainStation → State
-state_of station = record { cargo = cargo_of station.cargo.lists; kept_keys = kept_under station.kept_keys.items; kept_texts = kept_of station.kept_texts.items }
+state_of station = record { cargo = cargo_of station.cargo.lists; kept_keys = kept_under station.kept_keys.items; kept_texts = count_under station.kept_texts.items }
 
 -- a keeper in memory is never broken, and nothing outlives it
 abbrev pub in_memory : {K : Type 0} → (K → State) → Keeping K

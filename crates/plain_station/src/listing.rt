@@ -1,18 +1,18 @@
-//! The readers of flights and expectations. They hand out rows until the sink stops, or none if
-//! memory runs out.
+//! The readers of flights, expectations and announced waybills. They hand out rows until the sink
+//! stops, or none if memory runs out.
 ghost use Rattle.std.specs.Prelude.{◌≡◌, ◌≤◌, length, sum_by, IsSome, IfOk};
 ghost use Rattle.shipment_machine.specs.Book.{built};
-ghost use Rattle.station_core.specs.Readers.{AreNoted, flight_row, AreFlightRows, AreExpectations, expected_row, AreExpectedBy};
+ghost use Rattle.station_core.specs.Readers.{has_come, AreAnnounced, AreNoted, flight_row, AreFlightRows, AreExpectations, expected_row, AreExpectedBy};
 ghost use Rattle.plain_station.specs.Handing.{HandsRows};
 ghost use Rattle.plain_station.specs.Lists.{cargo_of};
 ghost use Rattle.imp_fields.specs.Flight.{most_waybills};
 
 use crate::cargo::PlainCargo;
-use crate::order::{put_expected, put_flight};
+use crate::order::{put_declared, put_expected, put_flight};
 use awb_number::Awb;
-use shipment_machine::FlightDate;
+use shipment_machine::{Balances, FlightDate};
 use station_core::{
-    ActFault, Expectation, ExpectedQuery, ExpectedRow, FlightRow, NotedFlight, Sink,
+    ActFault, AnnouncedRow, Expectation, ExpectedQuery, ExpectedRow, FlightRow, NotedFlight, Sink,
     expectations_for, hand_out,
 };
 use std::alloc::AllocError;
@@ -133,6 +133,40 @@ impl PlainCargo {
             return Err(ActFault::Memory);
         };
         hand_out(sink, expected);
+        Ok(())
+    }
+}
+
+impl PlainCargo {
+    /// Returns whether pieces of a waybill have come in.
+    fn has_come(&self, number: &Awb) -> bool
+        ensures { result ≡ has_come self.now.lists.book.items number.now }
+    {
+        let Balances { taken, found, .. } = self.balances(number);
+        taken.pieces > 0 || found.pieces > 0
+    }
+
+    fn announced_rows(&self) -> Result<Vec<AnnouncedRow>, AllocError>
+        ensures { IfOk result (λ rows. AreAnnounced (cargo_of self.now.lists) rows.items) }
+    {
+        let mut rows = Vec::new(self.lists.alloc);
+        for row in &self.lists.declared {
+            if !self.has_come(&row.awb) {
+                put_declared(&mut rows, row)?;
+            }
+        }
+        Ok(rows)
+    }
+
+    /// Hands out the declared waybills of which nothing has come in, ascending.
+    pub(crate) fn announced<S: Sink<AnnouncedRow>>(&self, sink: &mut S) -> Result<(), ActFault>
+        ensures { HandsRows S.takes (AreAnnounced (cargo_of self.now.lists)) sink.old sink.new
+            result }
+    {
+        let Ok(rows) = self.announced_rows() else {
+            return Err(ActFault::Memory);
+        };
+        hand_out(sink, rows);
         Ok(())
     }
 }

@@ -3,11 +3,12 @@ ghost use Rattle.std.specs.Option.{option_copied};
 ghost use Rattle.shipment_machine.specs.Cargo.{opening_cargo};
 ghost use Rattle.plain_station.specs.Lists.{cargo_of, declared_in, flights_in, expected_in, parts_in};
 
-use crate::rows::{DeclaredRow, ExpectedRow, FlightRow, PartRow, TrailRow};
+use crate::rows::{DeclaredRow, PartRow, TrailRow};
 use agent_stock::PlainRows;
 use awb_number::Awb;
 use imp_fields::Airport;
 use shipment_machine::{Declared, Expected, FlightDate, Move, Outbound, Part};
+use station_core::{Expectation, NotedFlight};
 use std::alloc::Global;
 
 /// The rows of a cargo, in lists. A newer row is before the older one that it replaces.
@@ -19,8 +20,8 @@ pub(crate) struct CargoLists {
     pub(crate) declared: Vec<DeclaredRow>,
     // In the order in which they were made, like the trail and the outbox.
     pub(crate) book: Vec<Move>,
-    pub(crate) flights: Vec<FlightRow>,
-    pub(crate) expected: Vec<ExpectedRow>,
+    pub(crate) flights: Vec<NotedFlight>,
+    pub(crate) expected: Vec<Expectation>,
     pub(crate) parts: Vec<PartRow>,
     pub(crate) trail: Vec<TrailRow>,
     pub(crate) outbox: Vec<Vec<u8>>,
@@ -73,7 +74,10 @@ impl CargoLists {
     pub(crate) fn expected_of(&self, flight: &FlightDate, awb: &Awb) -> Option<Expected>
         ensures { result ≡ expected_in self.now.expected.items flight.now awb.now }
     {
-        let row = self.expected.iter().find(|row| row.is_of(flight, awb))?;
+        let row = self
+            .expected
+            .iter()
+            .find(|row| flight.is_same(&row.flight) && *awb == row.awb)?;
         Some(row.expected)
     }
 

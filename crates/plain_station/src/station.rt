@@ -1,24 +1,25 @@
-ghost use Rattle.std.specs.Prelude.{◌≡◌, false, None, Ok, string_bytes};
+ghost use Rattle.std.specs.Prelude.{◌≡◌, false, None, Ok, IfErr, IfOk, string_bytes};
+ghost use Rattle.std.specs.Option.{option_map};
 ghost use Rattle.agent_stock.specs.Runs.{AreStockRuns};
 ghost use Rattle.desk_commands.specs.Command.{command_text};
 ghost use Rattle.plain_station.specs.Handing.{HandsRows};
 ghost use Rattle.plain_station.specs.State.{in_memory, state_of};
-ghost use Rattle.station_core.specs.Keeping.{Acts, Breaks};
-ghost use Rattle.station_core.specs.Told.{summary_of};
-ghost use Rattle.station_core.specs.Readers.{waybill_of, shed_rows, AreFlightRows, AreExpectedBy, irregular_rows, book_by, messages_by, trail_by};
+ghost use Rattle.station_core.specs.Keeping.{Acts, Breaks, IsMemory};
+ghost use Rattle.station_core.specs.Told.{kept_of, summary_of};
+ghost use Rattle.station_core.specs.Readers.{waybill_of, AreAnnounced, shed_rows, AreFlightRows, AreExpectedBy, irregular_rows, book_by, messages_by, trail_by};
 ghost use Rattle.station_core.specs.Step.{opening};
 ghost use Rattle.station_core.specs.declared.input.Input.TheVariants.{Keyed, Wire};
 
 use crate::cargo::PlainCargo;
-use crate::kept::{KeptReply, KeptText, answer_under, count_of};
+use crate::kept::{KeptKey, KeptText, answer_under, count_of, reply_under};
 use agent_stock::{Holder, StockRun};
 use awb_number::Awb;
 use desk_commands::{Command, command_text};
 use imp_fields::Airport;
 use station_core::{
-    ActFault, Answer, BookQuery, BookRow, ExpectedQuery, ExpectedRow, FlightRow, Input,
-    IrregularRow, Keeper, Key, Message, MessageQuery, Reply, ShedRow, Sink, Summary, TrailQuery,
-    TrailRow, Waybill,
+    ActFault, AnnouncedRow, Answer, BookQuery, BookRow, ExpectedQuery, ExpectedRow, FlightRow,
+    Input, IrregularRow, Keeper, KeptReply, Key, Message, MessageQuery, Reply, ShedRow, Sink,
+    Summary, TrailQuery, TrailRow, Waybill,
 };
 use station_days::Moment;
 use std::alloc::Global;
@@ -30,7 +31,7 @@ pub struct PlainStation {
     alloc: Global,
     cargo: PlainCargo,
     // In the order of acceptance, each key and each text once.
-    kept_keys: Vec<KeptReply>,
+    kept_keys: Vec<KeptKey>,
     kept_texts: Vec<KeptText>,
 }
 
@@ -67,10 +68,9 @@ impl PlainStation {
             Ok(count) => count,
             Err(fault) => return Err(fault),
         };
-        let Ok(()) = self.kept_keys.push(KeptReply {
+        let Ok(()) = self.kept_keys.push(KeptKey {
             key: *key,
-            request,
-            count,
+            reply: KeptReply { request, count },
         })
         else {
             unreachable!();
@@ -168,6 +168,24 @@ impl Keeper for PlainStation {
         Ok(self.cargo.waybill(number))
     }
 
+    fn kept_key(&mut self, key: &Key) -> Result<Option<KeptReply>, ActFault>
+        ensures answer { IfOk result (λ kept. option_map kept_of kept
+            ≡ (state_of self.old).kept_keys key.now) }
+        ensures memory { IfErr result IsMemory }
+        ensures as_before { self.new ≡ self.old }
+    {
+        let Some(kept) = reply_under(&self.kept_keys, key) else {
+            return Ok(None);
+        };
+        let Ok(request) = kept.request.clone() else {
+            return Err(ActFault::Memory);
+        };
+        Ok(Some(KeptReply {
+            request,
+            count: kept.count,
+        }))
+    }
+
     // It allocates nothing, and never fails.
     fn summary(&mut self) -> Result<Summary, ActFault>
         ensures answer { result ≡ Ok (summary_of (state_of self.old).cargo) }
@@ -182,6 +200,14 @@ impl Keeper for PlainStation {
         ensures as_before { self.new ≡ self.old }
     {
         self.cargo.stock(sink)
+    }
+
+    fn announced<S: Sink<AnnouncedRow>>(&mut self, sink: &mut S) -> Result<(), ActFault>
+        ensures hands { HandsRows S.takes (AreAnnounced (state_of self.old).cargo) sink.old
+            sink.new result }
+        ensures as_before { self.new ≡ self.old }
+    {
+        self.cargo.announced(sink)
     }
 
     fn shed<S: Sink<ShedRow>>(&mut self, sink: &mut S) -> Result<(), ActFault>

@@ -13,11 +13,11 @@ ghost use Rattle.shipment_machine.specs.Agreement.{outcome_of};
 ghost use Rattle.plain_station.specs.declared.lists.CargoLists.{CargoLists};
 
 use crate::lists::CargoLists;
-use crate::rows::{DeclaredRow, ExpectedRow, FlightRow, PartRow, TrailRow};
+use crate::rows::{DeclaredRow, PartRow, TrailRow};
 use agent_stock::{Holder, PlainRows, Run, StockRows};
 use awb_number::Awb;
 use shipment_machine::{Change, Move, Plan};
-use station_core::{ActFault, NO_NUMBERS_LEFT, notice_texts};
+use station_core::{ActFault, Expectation, NO_NUMBERS_LEFT, NotedFlight, notice_texts};
 use std::alloc::{AllocError, Global};
 
 /// Marks an agent's number as used.
@@ -34,8 +34,8 @@ pub(crate) struct Next {
     alloc: Global,
     stock: PlainRows,
     declared: Vec<DeclaredRow>,
-    flights: Vec<FlightRow>,
-    expected: Vec<ExpectedRow>,
+    flights: Vec<NotedFlight>,
+    expected: Vec<Expectation>,
     // New parts and lines.
     parts: Vec<PartRow>,
     trail: Vec<TrailRow>,
@@ -74,7 +74,7 @@ impl Next {
             }
             Change::UseUp { awb } => use_up(&mut self.stock, awb)?,
             Change::NoteFlight { flight, outbound } => {
-                let row = FlightRow {
+                let row = NotedFlight {
                     flight: *flight,
                     outbound: *outbound,
                 };
@@ -85,7 +85,7 @@ impl Next {
                 awb,
                 expected,
             } => {
-                let row = ExpectedRow {
+                let row = Expectation {
                     flight: *flight,
                     awb: *awb,
                     expected: *expected,

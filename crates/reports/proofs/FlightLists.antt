@@ -1,20 +1,24 @@
--- A cargo's noted flights, and what flights are to bring, are one list each, and so their reports have
--- one text.
+-- A cargo's noted flights, what flights are to bring, and what is announced are one list each, and so
+-- their reports have one text.
 use Rattle.std.proofs.Common.{◌≡◌, ◌∙◌, ap, sym, refl, ℕ, true, false, cond, Option, List, [], ◌∷◌}
-use Rattle.std.specs.Prelude.{not, filter, map}
+use Rattle.std.specs.Prelude.{◌==◌, not, filter, map}
+use Rattle.std.specs.Cmp.{nat_cmp_total}
+use Rattle.std.specs.Ordering.{nat_cmp}
+use Rattle.std.proofs.lemmas.Bool.{eqb-true, eq-eqb}
 use Rattle.shipment_machine.specs.Cargo.{Cargo}
 use Rattle.shipment_machine.specs.Flights.{same_flight_date}
 use Rattle.shipment_machine.specs.declared.flight.FlightDate.{FlightDate}
 use Rattle.shipment_machine.specs.declared.moves.Expected.{Expected}
 use Rattle.shipment_machine.specs.declared.moves.Outbound.{Outbound}
 use Rattle.shipment_machine.proofs.FlightKeys.{same-is, same-refl}
+use Rattle.station_core.specs.declared.rows.AnnouncedRow.{AnnouncedRow}
 use Rattle.station_core.specs.declared.rows.NotedFlight.{NotedFlight}
 use Rattle.station_core.specs.declared.rows.FlightRow.{FlightRow}
 use Rattle.station_core.specs.declared.rows.Expectation.{Expectation}
 use Rattle.station_core.specs.declared.rows.ExpectedQuery.{ExpectedQuery}
 use Rattle.station_core.specs.declared.rows.ExpectedQuery.TheVariants.{All, Open}
 use Rattle.station_core.specs.declared.rows.ExpectedRow.{ExpectedRow}
-use Rattle.station_core.specs.Readers.{by_flight, AreNoted, flight_row, AreFlightRows, by_expectation, AreExpectations, expected_row, AreExpectedBy, AreExpectedRows, asks_for, expected_for}
+use Rattle.station_core.specs.Readers.{AreAnnounced, by_flight, AreNoted, flight_row, AreFlightRows, by_expectation, AreExpectations, expected_row, AreExpectedBy, AreExpectedRows, asks_for, expected_for}
 use Rattle.reports.specs.Lines.{flight_line, expected_line, report_text}
 use Rattle.reports.specs.Reports.{IsFlightReport, IsExpectedReport}
 use Rattle.reports.specs.Listings.{is_awaited}
@@ -30,6 +34,11 @@ one_expectations : (expected : FlightDate → ℕ → Option Expected) (xs ys : 
 one_expectations expected xs ys are too =
     one_list by_expectation is_one (λ (row : Expectation). (row.flight, row.awb)) (λ (row : Expectation). row.expected) (apart by_expectation expectation_total) one_is one-refl
     (λ x y key brings i. record { flight = (key i).0; awb = (key i).1; expected = brings i }) xs ys are.rising too.rising (λ k. sym (are.same k.0 k.1) ∙ too.same k.0 k.1)
+
+pub one_announced : (s : Cargo) (xs ys : List AnnouncedRow) → AreAnnounced s xs → AreAnnounced s ys → xs ≡ ys
+one_announced s xs ys are too =
+    one_list nat_cmp ◌==◌ (λ (row : AnnouncedRow). row.awb) (λ (row : AnnouncedRow). row.declared) (apart nat_cmp nat_cmp_total) eqb-true (λ a. eq-eqb a a refl)
+    (λ x y awb declared i. record { awb = awb i; declared = declared i }) xs ys are.rising too.rising (λ w. sym (are.same w) ∙ too.same w)
 
 pub one_flights : (s : Cargo) (xs ys : List FlightRow) → AreFlightRows s xs → AreFlightRows s ys → xs ≡ ys
 one_flights s xs ys are too = are.2 ∙ ap (map (flight_row s)) (one_noted s.flights are.0 too.0 are.1 too.1) ∙ sym too.2

@@ -12,6 +12,7 @@ use Rattle.agent_stock.specs.declared.runs.StockRun.{StockRun}
 use Rattle.agent_stock.specs.declared.stock.Holder.{Holder}
 use Rattle.shipment_machine.specs.declared.flight.FlightDate.{FlightDate}
 use Rattle.shipment_machine.specs.declared.moves.Place.{Place}
+use Rattle.station_core.specs.declared.rows.AnnouncedRow.{AnnouncedRow}
 use Rattle.station_core.specs.declared.rows.Message.{Message}
 use Rattle.station_core.specs.declared.rows.TrailRow.{TrailRow}
 use Rattle.station_core.specs.declared.rows.IrregularRow.{IrregularRow}
@@ -22,9 +23,11 @@ use Rattle.station_core.specs.declared.rows.BookRow.{BookRow}
 use Rattle.station_core.specs.declared.stored.Summary.{Summary}
 use Rattle.reports.specs.Layout.{clock_text}
 use Rattle.reports.specs.Lines.{place_text}
-use Rattle.reports.specs.Members.{amount_members, flight_members, holder_members, moment_members, numbered_members, place_members, route_members, serial_members, sizes_members}
+use Rattle.reports.specs.Members.{amount_members, flight_members, holder_members, irregular_members, moment_members, numbered_members, place_members, route_members, serial_members, shed_members, sizes_members}
+use Rattle.reports.specs.declared.days.Dated.{Dated}
+use Rattle.reports.specs.declared.kept.KeptRow.{KeptRow}
 use Rattle.reports.specs.declared.manifest.ManifestRow.{ManifestRow}
-use Rattle.reports.specs.Objects.{amount_data, book_data, expected_data, flight_data, flight_or_null, holder_word, holder_name, irregular_data, manifest_data, message_data, trail_data, shed_data, stock_data, summary_data}
+use Rattle.reports.specs.Objects.{amount_data, announced_data, book_data, dated_data, expected_data, flight_data, flight_or_null, holder_word, holder_name, irregular_data, irregular_fields, kept_data, manifest_data, message_data, trail_data, shed_data, shed_fields, since_text, stock_data, summary_data}
 
 two : (k a l b x : List ℕ) → (k ++ (a ++ (l ++ b))) ++ x ≡ k ++ (a ++ (l ++ (b ++ x)))
 two k a l b x = simp append_assoc
@@ -43,15 +46,39 @@ route_more w origin destination x =
 amount_more : (pieces tenths : ℕ) (x : List ℕ) → amount_members pieces tenths ++ x ≡ codes "\"pieces\":" ++ (decimal pieces ++ (codes ",\"tenths\":" ++ (decimal tenths ++ x)))
 amount_more pieces tenths x = two (codes "\"pieces\":") (decimal pieces) (codes ",\"tenths\":") (decimal tenths) x
 
-pub shed_whole : (row : ShedRow) → codes "{" ++ (route_members row.awb row.origin row.destination ++ (codes ",\"free\":" ++ (compact_text (amount_data row.free)
-    ++ (codes ",\"built\":" ++ (compact_text (amount_data row.built) ++ (codes ",\"notified\":" ++ (compact_text (boolean row.notified) ++ codes "}"))))))) ≡ compact_text (shed_data row)
-unfolding serde_json_on_literals
-shed_whole row = ap (λ t. codes "{" ++ t) (route_more row.awb row.origin row.destination _)
+five : (r a b c d x : List ℕ) → (r ++ (a ++ (b ++ (c ++ d)))) ++ x ≡ r ++ (a ++ (b ++ (c ++ (d ++ x))))
+five r a b c d x = simp append_assoc
 
-pub irregular_whole : (row : IrregularRow) → codes "{" ++ (route_members row.awb row.origin row.destination ++ (codes ",\"missing\":" ++ (compact_text (amount_data row.missing)
-    ++ (codes ",\"found\":" ++ (compact_text (amount_data row.found) ++ codes "}"))))) ≡ compact_text (irregular_data row)
+seven : (r a b c d e f x : List ℕ) → (r ++ (a ++ (b ++ (c ++ (d ++ (e ++ f)))))) ++ x ≡ r ++ (a ++ (b ++ (c ++ (d ++ (e ++ (f ++ x))))))
+seven r a b c d e f x = simp append_assoc
+
+shed_more : (row : ShedRow) → shed_members row ++ codes "}" ≡ codes "\"awb\":" ++ (compact_text (string (number_text row.awb)) ++ (codes ",\"origin\":" ++ (compact_text (string row.origin) ++ (codes ",\"destination\":" ++ (compact_text (string row.destination)
+    ++ (codes ",\"free\":" ++ (compact_text (amount_data row.free) ++ (codes ",\"built\":" ++ (compact_text (amount_data row.built) ++ (codes ",\"notified\":" ++ (compact_text (boolean row.notified) ++ codes "}")))))))))))
+shed_more row =
+    seven (route_members row.awb row.origin row.destination) (codes ",\"free\":") (compact_text (amount_data row.free)) (codes ",\"built\":") (compact_text (amount_data row.built)) (codes ",\"notified\":") (compact_text (boolean row.notified)) (codes "}")
+    ∙ route_more row.awb row.origin row.destination _
+
+irregular_more : (row : IrregularRow) → irregular_members row ++ codes "}" ≡ codes "\"awb\":" ++ (compact_text (string (number_text row.awb)) ++ (codes ",\"origin\":" ++ (compact_text (string row.origin) ++ (codes ",\"destination\":" ++ (compact_text (string row.destination)
+    ++ (codes ",\"missing\":" ++ (compact_text (amount_data row.missing) ++ (codes ",\"found\":" ++ (compact_text (amount_data row.found) ++ codes "}")))))))))
+irregular_more row =
+    five (route_members row.awb row.origin row.destination) (codes ",\"missing\":") (compact_text (amount_data row.missing)) (codes ",\"found\":") (compact_text (amount_data row.found)) (codes "}")
+    ∙ route_more row.awb row.origin row.destination _
+
+pub shed_whole : (row : ShedRow) → codes "{" ++ (shed_members row ++ codes "}") ≡ compact_text (shed_data row)
 unfolding serde_json_on_literals
-irregular_whole row = ap (λ t. codes "{" ++ t) (route_more row.awb row.origin row.destination _)
+shed_whole row = ap (λ t. codes "{" ++ t) (shed_more row)
+
+pub dated_shed_whole : (one : Dated ShedRow) → codes "{\"since\":" ++ (compact_text (string (since_text one.since)) ++ (codes "," ++ (shed_members one.row ++ codes "}"))) ≡ compact_text (dated_data shed_fields one)
+unfolding serde_json_on_literals
+dated_shed_whole one = ap (λ t. codes "{\"since\":" ++ (compact_text (string (since_text one.since)) ++ (codes "," ++ t))) (shed_more one.row)
+
+pub irregular_whole : (row : IrregularRow) → codes "{" ++ (irregular_members row ++ codes "}") ≡ compact_text (irregular_data row)
+unfolding serde_json_on_literals
+irregular_whole row = ap (λ t. codes "{" ++ t) (irregular_more row)
+
+pub dated_irregular_whole : (one : Dated IrregularRow) → codes "{\"since\":" ++ (compact_text (string (since_text one.since)) ++ (codes "," ++ (irregular_members one.row ++ codes "}"))) ≡ compact_text (dated_data irregular_fields one)
+unfolding serde_json_on_literals
+dated_irregular_whole one = ap (λ t. codes "{\"since\":" ++ (compact_text (string (since_text one.since)) ++ (codes "," ++ t))) (irregular_more one.row)
 
 pub manifest_whole : (row : ManifestRow) → codes "{\"awb\":" ++ (compact_text (string (number_text row.awb)) ++ (codes ",\"built\":" ++ (compact_text (amount_data row.built)
     ++ (codes ",\"departed\":" ++ (compact_text (amount_data row.departed) ++ codes "}"))))) ≡ compact_text (manifest_data row)
@@ -82,6 +109,15 @@ moment_more at x = two (codes "\"date\":") (compact_text (string (day_line at.da
 
 place_more : (from to : Place) (x : List ℕ) → place_members from to ++ x ≡ codes "\"from\":" ++ (compact_text (string (place_text from)) ++ (codes ",\"to\":" ++ (compact_text (string (place_text to)) ++ x)))
 place_more from to x = two (codes "\"from\":") (compact_text (string (place_text from))) (codes ",\"to\":") (compact_text (string (place_text to))) x
+
+pub announced_whole : (row : AnnouncedRow) → codes "{" ++ (route_members row.awb row.declared.origin row.declared.destination ++ (codes "," ++ (amount_members row.declared.pieces row.declared.tenths
+    ++ (codes ",\"since\":" ++ (compact_text (string (since_text row.declared.since)) ++ (codes ",\"goods\":" ++ (compact_text (string row.declared.goods) ++ codes "}"))))))) ≡ compact_text (announced_data row)
+unfolding serde_json_on_literals
+announced_whole row =
+    let d = row.declared in
+    let last : List ℕ = codes ",\"since\":" ++ (compact_text (string (since_text d.since)) ++ (codes ",\"goods\":" ++ (compact_text (string d.goods) ++ codes "}"))) in
+    ap (λ t. codes "{" ++ (route_members row.awb d.origin d.destination ++ (codes "," ++ t))) (amount_more d.pieces d.tenths last)
+    ∙ ap (λ t. codes "{" ++ t) (route_more row.awb d.origin d.destination _)
 
 pub stock_whole : (row : StockRun) → codes "{" ++ (serial_members row ++ (codes ",\"count\":" ++ (decimal row.count ++ (codes "," ++ (holder_members row.holder ++ (codes "}"))))))
     ≡ compact_text (stock_data row)
@@ -135,3 +171,8 @@ put_more old k a m b l t x = simp append_assoc
 pub trail_put : (old : List ℕ) (row : TrailRow) → ((old ++ (codes "{\"number\":" ++ (decimal row.number ++ (codes ",\"awb\":" ++ (compact_text (string (number_text row.awb)) ++ codes ",\"line\":"))))) ++ compact_text (string row.line)) ++ 125 ∷ [] ≡ old ++ compact_text (trail_data row)
 unfolding serde_json_on_literals
 trail_put old row = put_more old (codes "{\"number\":") (decimal row.number) (codes ",\"awb\":") (compact_text (string (number_text row.awb))) (codes ",\"line\":") (compact_text (string row.line)) (125 ∷ [])
+
+-- a key, a count and a command
+pub kept_put : (old : List ℕ) (row : KeptRow) → ((old ++ (codes "{\"key\":" ++ (compact_text (string row.key) ++ (codes ",\"count\":" ++ (decimal row.count ++ codes ",\"command\":"))))) ++ compact_text (string row.command)) ++ 125 ∷ [] ≡ old ++ compact_text (kept_data row)
+unfolding serde_json_on_literals
+kept_put old row = put_more old (codes "{\"key\":") (compact_text (string row.key)) (codes ",\"count\":") (decimal row.count) (codes ",\"command\":") (compact_text (string row.command)) (125 ∷ [])

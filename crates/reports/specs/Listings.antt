@@ -9,7 +9,10 @@ use Rattle.agent_stock.specs.declared.runs.StockRun.{StockRun}
 use Rattle.agent_stock.specs.declared.stock.Holder.{Holder}
 use Rattle.agent_stock.specs.declared.stock.Holder.TheVariants.{Agent}
 use Rattle.shipment_machine.specs.declared.flight.FlightDate.{FlightDate}
+use Rattle.station_core.specs.declared.rows.AnnouncedRow.{AnnouncedRow}
 use Rattle.station_core.specs.declared.rows.FlightRow.{FlightRow}
+use Rattle.station_core.specs.declared.rows.IrregularRow.{IrregularRow}
+use Rattle.station_core.specs.declared.rows.ShedRow.{ShedRow}
 use Rattle.station_core.specs.declared.rows.ExpectedRow.{ExpectedRow}
 use Rattle.station_core.specs.declared.rows.ExpectedQuery.{ExpectedQuery}
 use Rattle.station_core.specs.declared.rows.ExpectedQuery.TheVariants as expected
@@ -20,13 +23,16 @@ use Rattle.station_core.specs.declared.rows.BookQuery.{BookQuery}
 use Rattle.station_core.specs.declared.rows.BookQuery.TheVariants as book
 use Rattle.station_core.specs.declared.rows.TrailQuery.{TrailQuery}
 use Rattle.station_core.specs.declared.rows.TrailQuery.TheVariants as trail
-use Rattle.station_core.specs.Readers.{shed_rows, AreFlightRows, AreExpectedBy, irregular_rows, book_by, messages_after, messages_by, trail_by}
+use Rattle.station_core.specs.Readers.{AreAnnounced, shed_rows, AreFlightRows, AreExpectedBy, irregular_rows, book_by, messages_after, messages_by, trail_by}
 use Rattle.station_core.specs.Step.{State}
 use Rattle.station_core.specs.Told.{summary_of}
-use Rattle.reports.specs.Lines.{stock_line, shed_line, flight_line, expected_line, irregular_line, manifest_line, book_line, message_lines, summary_line, trail_line, report_text}
-use Rattle.reports.specs.Objects.{object_of, count_data, stock_data, shed_data, flight_data, expected_data, irregular_data, manifest_data, book_data, message_data, summary_data, trail_data}
+use Rattle.reports.specs.Lines.{stock_line, announced_line, dated_line, shed_line, flight_line, expected_line, irregular_line, manifest_line, book_line, message_lines, summary_line, kept_line, trail_line, report_text}
+use Rattle.reports.specs.Objects.{object_of, count_data, stock_data, announced_data, dated_data, shed_data, shed_fields, flight_data, expected_data, irregular_data, irregular_fields, manifest_data, book_data, message_data, summary_data, kept_data, trail_data}
+use Rattle.reports.specs.Days.{AreIrregularityDays, AreShedDays}
+use Rattle.reports.specs.Keys.{kept_rows}
 use Rattle.reports.specs.Manifest.{manifest_rows}
 use Rattle.reports.specs.Reports.{report_called}
+use Rattle.reports.specs.declared.days.Dated.{Dated}
 use Rattle.reports.specs.declared.form.Form.{Form}
 use Rattle.reports.specs.declared.form.Form.TheVariants as form
 use Rattle.reports.specs.declared.listing.Listing.{Listing}
@@ -99,10 +105,14 @@ IsExpected f s query text =
 
 abbrev pub IsWhole : Form → State → Report → List ℕ → Type 0
 IsWhole f s report.Stock text = (rows : List StockRun) × AreStockRuns s.cargo.holders rows × (text ≡ rows_text f stock_line stock_data rows)
+IsWhole f s report.Announced text = (rows : List AnnouncedRow) × AreAnnounced s.cargo rows × (text ≡ rows_text f announced_line announced_data rows)
 IsWhole f s report.Shed text = text ≡ rows_text f shed_line shed_data (shed_rows s.cargo)
+IsWhole f s report.ShedDays text = (rows : List (Dated ShedRow)) × AreShedDays s.cargo rows × (text ≡ rows_text f (dated_line shed_line) (dated_data shed_fields) rows)
 IsWhole f s report.Flights text = (rows : List FlightRow) × AreFlightRows s.cargo rows × (text ≡ rows_text f flight_line flight_data rows)
 IsWhole f s report.Expected text = IsExpected f s expected.All text
 IsWhole f s report.Irregularities text = text ≡ rows_text f irregular_line irregular_data (irregular_rows s.cargo)
+IsWhole f s report.IrregularityDays text =
+    (rows : List (Dated IrregularRow)) × AreIrregularityDays s.cargo rows × (text ≡ rows_text f (dated_line irregular_line) (dated_data irregular_fields) rows)
 IsWhole f s report.Movements text = IsMovements f s book.All text
 IsWhole f s report.Trail text = IsTrail f s trail.All text
 IsWhole f s report.Pending text = IsMessages f s messages.Pending text
@@ -126,6 +136,7 @@ IsListing f s (listing.TrailLast n) text = IsTrail f s (trail.Last n) text
 IsListing f s (listing.PendingAfter n) text = IsMessages f s (messages.PendingAfter n) text
 IsListing f s (listing.SentAfter n) text = IsMessages f s (messages.After n) text
 IsListing f s (listing.Sent w) text = IsSent f s w text
+IsListing f s (listing.Kept key) text = text ≡ rows_text f kept_line kept_data (kept_rows s key)
 IsListing f s (listing.Manifest flight) text = IsManifest f s flight text
 
 -- the listing with a name: a report, or open rows

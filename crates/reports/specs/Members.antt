@@ -1,6 +1,6 @@
 -- Members of the rows' objects as text.
 use Rattle.std.specs.Prelude.{ℕ, ◌+◌, ◌-◌, List, ◌++◌, codes, decimal}
-use Rattle.serde_json.specs.Data.{string}
+use Rattle.serde_json.specs.Data.{boolean, string}
 use Rattle.serde_json.specs.Written.{compact_text}
 use Rattle.awb_number.specs.Digits.{padded}
 use Rattle.awb_number.specs.Number.{number_text, prefix_of, serial_of}
@@ -12,10 +12,12 @@ use Rattle.agent_stock.specs.declared.stock.Holder.{Holder}
 use Rattle.shipment_machine.specs.declared.flight.FlightDate.{FlightDate}
 use Rattle.shipment_machine.specs.declared.moves.Place.{Place}
 use Rattle.station_core.specs.declared.rows.BookRow.{BookRow}
+use Rattle.station_core.specs.declared.rows.IrregularRow.{IrregularRow}
+use Rattle.station_core.specs.declared.rows.ShedRow.{ShedRow}
 use Rattle.station_core.specs.declared.stored.Sizes.{Sizes}
 use Rattle.reports.specs.Layout.{clock_text}
 use Rattle.reports.specs.Lines.{place_text}
-use Rattle.reports.specs.Objects.{holder_word, holder_name}
+use Rattle.reports.specs.Objects.{amount_data, holder_word, holder_name}
 
 abbrev pub route_members : ℕ → List ℕ → List ℕ → List ℕ
 route_members w origin destination =
@@ -49,3 +51,13 @@ holder_members holder = codes "\"holder\":" ++ (compact_text (string (holder_wor
 abbrev pub numbered_members : BookRow → List ℕ
 numbered_members row =
     codes "\"number\":" ++ (decimal row.number ++ (codes "," ++ (moment_members row.movement.at ++ (codes ",\"awb\":" ++ compact_text (string (number_text row.movement.awb))))))
+
+abbrev pub shed_members : ShedRow → List ℕ
+shed_members row =
+    route_members row.awb row.origin row.destination ++ (codes ",\"free\":" ++ (compact_text (amount_data row.free)
+    ++ (codes ",\"built\":" ++ (compact_text (amount_data row.built) ++ (codes ",\"notified\":" ++ compact_text (boolean row.notified))))))
+
+abbrev pub irregular_members : IrregularRow → List ℕ
+irregular_members row =
+    route_members row.awb row.origin row.destination ++ (codes ",\"missing\":" ++ (compact_text (amount_data row.missing)
+    ++ (codes ",\"found\":" ++ compact_text (amount_data row.found))))

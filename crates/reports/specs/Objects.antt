@@ -12,6 +12,7 @@ use Rattle.agent_stock.specs.declared.stock.Holder.TheVariants.{Desk, Agent, Use
 use Rattle.shipment_machine.specs.declared.amount.Amount.{Amount}
 use Rattle.shipment_machine.specs.declared.flight.FlightDate.{FlightDate}
 use Rattle.station_core.specs.Texts.{flight_date_text}
+use Rattle.station_core.specs.declared.rows.AnnouncedRow.{AnnouncedRow}
 use Rattle.station_core.specs.declared.rows.IrregularRow.{IrregularRow}
 use Rattle.station_core.specs.declared.rows.ShedRow.{ShedRow}
 use Rattle.station_core.specs.declared.rows.FlightRow.{FlightRow}
@@ -22,6 +23,8 @@ use Rattle.station_core.specs.declared.rows.TrailRow.{TrailRow}
 use Rattle.station_core.specs.declared.stored.Summary.{Summary}
 use Rattle.reports.specs.Layout.{clock_text}
 use Rattle.reports.specs.Lines.{place_text}
+use Rattle.reports.specs.declared.days.Dated.{Dated}
+use Rattle.reports.specs.declared.kept.KeptRow.{KeptRow}
 use Rattle.reports.specs.declared.manifest.ManifestRow.{ManifestRow}
 
 -- an object with these members, in order
@@ -57,18 +60,40 @@ stock_data row =
 abbrev pub amount_data : Amount → Data
 amount_data a = object_of ((codes "pieces", count_data a.pieces) ∷ (codes "tenths", count_data a.tenths) ∷ [])
 
+-- Announced: the waybill, its route, the declared pieces, the day of the declaration, which is empty
+-- where none is recorded, and the goods.
+abbrev pub since_text : Option ℕ → List ℕ
+since_text None = []
+since_text (Some day) = day_line day
+
+abbrev pub announced_data : AnnouncedRow → Data
+announced_data row =
+    object_of ((codes "awb", string (number_text row.awb)) ∷ (codes "origin", string row.declared.origin) ∷ (codes "destination", string row.declared.destination)
+    ∷ (codes "pieces", count_data row.declared.pieces) ∷ (codes "tenths", count_data row.declared.tenths)
+    ∷ (codes "since", string (since_text row.declared.since)) ∷ (codes "goods", string row.declared.goods) ∷ [])
+
 -- The shed: the waybill, its route, the free and the built pieces, and whether the consignee was
 -- notified.
+abbrev pub shed_fields : ShedRow → List (List ℕ × Data)
+shed_fields row =
+    (codes "awb", string (number_text row.awb)) ∷ (codes "origin", string row.origin) ∷ (codes "destination", string row.destination)
+    ∷ (codes "free", amount_data row.free) ∷ (codes "built", amount_data row.built) ∷ (codes "notified", boolean row.notified) ∷ []
+
 abbrev pub shed_data : ShedRow → Data
-shed_data row =
-    object_of ((codes "awb", string (number_text row.awb)) ∷ (codes "origin", string row.origin) ∷ (codes "destination", string row.destination)
-    ∷ (codes "free", amount_data row.free) ∷ (codes "built", amount_data row.built) ∷ (codes "notified", boolean row.notified) ∷ [])
+shed_data row = object_of (shed_fields row)
 
 -- Irregularities: the waybill, its route, and the missing and found pieces.
+abbrev pub irregular_fields : IrregularRow → List (List ℕ × Data)
+irregular_fields row =
+    (codes "awb", string (number_text row.awb)) ∷ (codes "origin", string row.origin) ∷ (codes "destination", string row.destination)
+    ∷ (codes "missing", amount_data row.missing) ∷ (codes "found", amount_data row.found) ∷ []
+
 abbrev pub irregular_data : IrregularRow → Data
-irregular_data row =
-    object_of ((codes "awb", string (number_text row.awb)) ∷ (codes "origin", string row.origin) ∷ (codes "destination", string row.destination)
-    ∷ (codes "missing", amount_data row.missing) ∷ (codes "found", amount_data row.found) ∷ [])
+irregular_data row = object_of (irregular_fields row)
+
+-- A row's members behind the day since which it has lasted.
+abbrev pub dated_data : {Row : Type 0} → (Row → List (List ℕ × Data)) → Dated Row → Data
+dated_data fields one = object_of ((codes "since", string (since_text one.since)) ∷ fields one.row)
 
 -- Flights: the flight, its day, the airport of unloading, the number of waybills built on it, their
 -- pieces and weight, and whether it has departed.
@@ -116,6 +141,10 @@ abbrev pub summary_data : Summary → Data
 summary_data row =
     object_of ((codes "airport", string row.here) ∷ (codes "moves", count_data row.sizes.moves) ∷ (codes "trail", count_data row.sizes.lines)
     ∷ (codes "messages", count_data row.sizes.messages) ∷ (codes "confirmed", count_data row.confirmed) ∷ [])
+
+-- A key: the key, the count and the command.
+abbrev pub kept_data : KeptRow → Data
+kept_data row = object_of ((codes "key", string row.key) ∷ (codes "count", count_data row.count) ∷ (codes "command", string row.command) ∷ [])
 
 -- The trail: the number, the waybill and the line that arrived.
 abbrev pub trail_data : TrailRow → Data

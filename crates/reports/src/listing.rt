@@ -6,6 +6,7 @@ use crate::report::Report;
 use agent_stock::AgentCode;
 use awb_number::Awb;
 use shipment_machine::FlightDate;
+use station_core::Key;
 
 /// A listing of rows, in the order of the report that has all of them.
 #[derive(Clone, Copy, PartialEq, Eq)]
@@ -36,6 +37,8 @@ pub enum Listing {
     SentAfter(u32),
     /// The status messages of a waybill, confirmed or not.
     Sent(Awb),
+    /// The command that was accepted under a key, if there is one, as the only row.
+    Kept(Key),
     /// The manifest of a flight, ascending by waybill: the pieces built for it now, and those that
     /// departed with it.
     Manifest(FlightDate),

@@ -56,7 +56,7 @@ pub(crate) struct ManifestReading {
 }
 
 impl Reading<ManifestRow> for ManifestReading {
-    ghost rows = { λ reading s rows. rows ≡ manifest_rows s reading.flight };
+    ghost rows = { λ reading s rows. rows ≡ manifest_rows s.cargo reading.flight };
 
     fn hand_out<K: Keeper, S: Sink<ManifestRow>>(
         &self,

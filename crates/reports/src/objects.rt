@@ -9,9 +9,10 @@ ghost use Rattle.imp_fields.specs.Flight.{flight_text};
 ghost use Rattle.desk_commands.specs.Day.{day_line};
 ghost use Rattle.reports.specs.Layout.{clock_text};
 ghost use Rattle.reports.specs.Lines.{place_text};
-ghost use Rattle.reports.specs.Members.{amount_members, flight_members, holder_members, moment_members, numbered_members, place_members, route_members, serial_members, sizes_members};
-ghost use Rattle.reports.specs.Objects.{amount_data, book_data, expected_data, flight_data, flight_or_null, holder_name, holder_word, irregular_data, manifest_data, shed_data, stock_data, summary_data};
+ghost use Rattle.reports.specs.Members.{amount_members, flight_members, holder_members, irregular_members, moment_members, numbered_members, place_members, route_members, serial_members, shed_members, sizes_members};
+ghost use Rattle.reports.specs.Objects.{amount_data, announced_data, book_data, dated_data, expected_data, flight_data, flight_or_null, holder_name, holder_word, irregular_data, irregular_fields, manifest_data, shed_data, shed_fields, since_text, stock_data, summary_data};
 
+use crate::days::Dated;
 use crate::layout::{clock, seven_digits};
 use crate::manifest::ManifestRow;
 use crate::quoting::quoted;
@@ -21,7 +22,8 @@ use awb_number::{Awb, ascii_text};
 use imp_fields::{Airport, BookTenths, Flight, Pieces};
 use shipment_machine::{Amount, FlightDate, Place};
 use station_core::{
-    BookRow, Expectation, ExpectedRow, FlightRow, IrregularRow, ShedRow, Sizes, Summary,
+    AnnouncedRow, BookRow, Expectation, ExpectedRow, FlightRow, IrregularRow, ShedRow, Sizes,
+    Summary,
 };
 use station_days::{LocalDay, Moment};
 use std::alloc::{AllocError, Global};
@@ -219,23 +221,81 @@ pub(crate) fn stock_object(alloc: Global, row: &StockRun) -> Result<String, Allo
     format!(in alloc; "{{{serials},\"count\":{count},{holder}}}")
 }
 
-pub(crate) fn shed_object(alloc: Global, row: &ShedRow) -> Result<String, AllocError>
-    ensures { IfOk result (λ text. string_bytes text ≡ compact_text (shed_data row.now)) }
+/// Returns a day as a string, empty where there is none.
+fn since_text(alloc: Global, since: Option<LocalDay>) -> Result<String, AllocError>
+    ensures { IfOk result (λ text. string_bytes text ≡ compact_text (string (since_text since))) }
+{
+    match since {
+        Some(day) => date_text(alloc, day),
+        None => quoted(alloc, ""),
+    }
+}
+
+pub(crate) fn announced_object(alloc: Global, row: &AnnouncedRow) -> Result<String, AllocError>
+    ensures { IfOk result (λ text. string_bytes text ≡ compact_text (announced_data row.now)) }
+{
+    let declared = &row.declared;
+    let route = route_members(alloc, &row.awb, &declared.origin, &declared.destination)?;
+    let amount = part_members(alloc, declared.pieces, declared.tenths)?;
+    let since = since_text(alloc, declared.since)?;
+    let goods = quoted(alloc, ascii_text(declared.goods.as_bytes()))?;
+    format!(in alloc; "{{{route},{amount},\"since\":{since},\"goods\":{goods}}}")
+}
+
+fn shed_members(alloc: Global, row: &ShedRow) -> Result<String, AllocError>
+    ensures { IfOk result (λ text. string_bytes text ≡ shed_members row.now) }
 {
     let route = route_members(alloc, &row.awb, &row.origin, &row.destination)?;
     let free = amount_object(alloc, &row.free)?;
     let built = amount_object(alloc, &row.built)?;
     let notified = flag(row.notified);
-    format!(in alloc; "{{{route},\"free\":{free},\"built\":{built},\"notified\":{notified}}}")
+    format!(in alloc; "{route},\"free\":{free},\"built\":{built},\"notified\":{notified}")
+}
+
+pub(crate) fn shed_object(alloc: Global, row: &ShedRow) -> Result<String, AllocError>
+    ensures { IfOk result (λ text. string_bytes text ≡ compact_text (shed_data row.now)) }
+{
+    let members = shed_members(alloc, row)?;
+    format!(in alloc; "{{{members}}}")
+}
+
+/// Returns the object of a shed's row behind its day.
+pub(crate) fn dated_shed(alloc: Global, one: &Dated<ShedRow>) -> Result<String, AllocError>
+    ensures { IfOk result (λ text. string_bytes text ≡ compact_text (dated_data shed_fields
+        one.now)) }
+{
+    let since = since_text(alloc, one.since)?;
+    let members = shed_members(alloc, &one.row)?;
+    format!(in alloc; "{{\"since\":{since},{members}}}")
+}
+
+fn irregular_members(alloc: Global, row: &IrregularRow) -> Result<String, AllocError>
+    ensures { IfOk result (λ text. string_bytes text ≡ irregular_members row.now) }
+{
+    let route = route_members(alloc, &row.awb, &row.origin, &row.destination)?;
+    let missing = amount_object(alloc, &row.missing)?;
+    let found = amount_object(alloc, &row.found)?;
+    format!(in alloc; "{route},\"missing\":{missing},\"found\":{found}")
 }
 
 pub(crate) fn irregular_object(alloc: Global, row: &IrregularRow) -> Result<String, AllocError>
     ensures { IfOk result (λ text. string_bytes text ≡ compact_text (irregular_data row.now)) }
 {
-    let route = route_members(alloc, &row.awb, &row.origin, &row.destination)?;
-    let missing = amount_object(alloc, &row.missing)?;
-    let found = amount_object(alloc, &row.found)?;
-    format!(in alloc; "{{{route},\"missing\":{missing},\"found\":{found}}}")
+    let members = irregular_members(alloc, row)?;
+    format!(in alloc; "{{{members}}}")
+}
+
+/// Returns the object of an irregular row behind its day.
+pub(crate) fn dated_irregular(
+    alloc: Global,
+    one: &Dated<IrregularRow>,
+) -> Result<String, AllocError>
+    ensures { IfOk result (λ text. string_bytes text ≡ compact_text (dated_data
+        irregular_fields one.now)) }
+{
+    let since = since_text(alloc, one.since)?;
+    let members = irregular_members(alloc, &one.row)?;
+    format!(in alloc; "{{\"since\":{since},{members}}}")
 }
 
 /// Returns the members of the numbers of the last move, trail line and message.

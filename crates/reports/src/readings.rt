@@ -3,12 +3,13 @@ ghost use Rattle.std.specs.Prelude.{◌≡◌, ◌∷◌, [], false, IfErr, IfOk
 ghost use Rattle.station_core.specs.Keeping.{IfSound, IsReadersFault, OnlyReads, Reopens};
 ghost use Rattle.station_core.specs.Told.{summary_of};
 ghost use Rattle.agent_stock.specs.Runs.{AreStockRuns};
-ghost use Rattle.station_core.specs.Readers.{shed_rows, AreFlightRows, AreExpectedBy, irregular_rows, book_by, messages_by, trail_by};
+ghost use Rattle.station_core.specs.Readers.{AreAnnounced, shed_rows, AreFlightRows, AreExpectedBy, irregular_rows, book_by, messages_by, trail_by};
 
 use agent_stock::StockRun;
 use station_core::{
-    ActFault, BookQuery, BookRow, ExpectedQuery, ExpectedRow, FlightRow, IrregularRow, Keeper,
-    Message, MessageQuery, ShedRow, Sink, Summary, TrailQuery, TrailRow, hand_out,
+    ActFault, AnnouncedRow, BookQuery, BookRow, ExpectedQuery, ExpectedRow, FlightRow,
+    IrregularRow, Keeper, Message, MessageQuery, ShedRow, Sink, Summary, TrailQuery, TrailRow,
+    hand_out,
 };
 use std::alloc::Global;
 
@@ -32,11 +33,11 @@ fn summary_row<K: Keeper>(alloc: Global, keeper: &mut K) -> Result<Vec<Summary>,
 /// A reader of rows.
 pub(crate) trait Reading<Row> {
     ghost use Rattle.std.specs.Prelude.{List};
-    ghost use Rattle.shipment_machine.specs.Cargo.{Cargo};
-    ghost use Rattle.station_core.specs.Keeping.{HandsOut};
+    ghost use Rattle.station_core.specs.Keeping.{HandsOutOf};
+    ghost use Rattle.station_core.specs.Step.{State};
 
-    /// The relation of a cargo to its rows.
-    ghost rows: { Self → Cargo → List Row → Type 0 };
+    /// The relation of a state to its rows.
+    ghost rows: { Self → State → List Row → Type 0 };
 
     /// Makes a keeper hand out the rows.
     fn hand_out<K: Keeper, S: Sink<Row>>(
@@ -44,7 +45,7 @@ pub(crate) trait Reading<Row> {
         keeper: &mut K,
         sink: &mut S,
     ) -> Result<(), ActFault>
-        ensures { HandsOut K.keeping keeper.old keeper.new result S.takes (rows self.now) sink.old
+        ensures { HandsOutOf K.keeping keeper.old keeper.new result S.takes (rows self.now) sink.old
             sink.new };
 }
 
@@ -52,7 +53,7 @@ pub(crate) trait Reading<Row> {
 pub(crate) struct StockReading;
 
 impl Reading<StockRun> for StockReading {
-    ghost rows = { λ reading s rows. AreStockRuns s.holders rows };
+    ghost rows = { λ reading s rows. AreStockRuns s.cargo.holders rows };
 
     fn hand_out<K: Keeper, S: Sink<StockRun>>(
         &self,
@@ -64,10 +65,25 @@ impl Reading<StockRun> for StockReading {
 }
 
 #[derive(Drop)]
+pub(crate) struct AnnouncedReading;
+
+impl Reading<AnnouncedRow> for AnnouncedReading {
+    ghost rows = { λ reading s rows. AreAnnounced s.cargo rows };
+
+    fn hand_out<K: Keeper, S: Sink<AnnouncedRow>>(
+        &self,
+        keeper: &mut K,
+        sink: &mut S,
+    ) -> Result<(), ActFault> {
+        keeper.announced(sink)
+    }
+}
+
+#[derive(Drop)]
 pub(crate) struct ShedReading;
 
 impl Reading<ShedRow> for ShedReading {
-    ghost rows = { λ reading s rows. rows ≡ shed_rows s };
+    ghost rows = { λ reading s rows. rows ≡ shed_rows s.cargo };
 
     fn hand_out<K: Keeper, S: Sink<ShedRow>>(
         &self,
@@ -82,7 +98,7 @@ impl Reading<ShedRow> for ShedReading {
 pub(crate) struct FlightReading;
 
 impl Reading<FlightRow> for FlightReading {
-    ghost rows = { λ reading s rows. AreFlightRows s rows };
+    ghost rows = { λ reading s rows. AreFlightRows s.cargo rows };
 
     fn hand_out<K: Keeper, S: Sink<FlightRow>>(
         &self,
@@ -99,7 +115,7 @@ pub(crate) struct ExpectedReading {
 }
 
 impl Reading<ExpectedRow> for ExpectedReading {
-    ghost rows = { λ reading s rows. AreExpectedBy reading.query s rows };
+    ghost rows = { λ reading s rows. AreExpectedBy reading.query s.cargo rows };
 
     fn hand_out<K: Keeper, S: Sink<ExpectedRow>>(
         &self,
@@ -115,7 +131,7 @@ impl Reading<ExpectedRow> for ExpectedReading {
 pub(crate) struct IrregularReading;
 
 impl Reading<IrregularRow> for IrregularReading {
-    ghost rows = { λ reading s rows. rows ≡ irregular_rows s };
+    ghost rows = { λ reading s rows. rows ≡ irregular_rows s.cargo };
 
     fn hand_out<K: Keeper, S: Sink<IrregularRow>>(
         &self,
@@ -132,7 +148,7 @@ pub(crate) struct BookReading {
 }
 
 impl Reading<BookRow> for BookReading {
-    ghost rows = { λ reading s rows. rows ≡ book_by reading.query s };
+    ghost rows = { λ reading s rows. rows ≡ book_by reading.query s.cargo };
 
     fn hand_out<K: Keeper, S: Sink<BookRow>>(
         &self,
@@ -149,7 +165,7 @@ pub(crate) struct MessageReading {
 }
 
 impl Reading<Message> for MessageReading {
-    ghost rows = { λ reading s rows. rows ≡ messages_by reading.query s };
+    ghost rows = { λ reading s rows. rows ≡ messages_by reading.query s.cargo };
 
     fn hand_out<K: Keeper, S: Sink<Message>>(
         &self,
@@ -167,7 +183,7 @@ pub(crate) struct SummaryReading {
 }
 
 impl Reading<Summary> for SummaryReading {
-    ghost rows = { λ reading s rows. rows ≡ summary_of s ∷ [] };
+    ghost rows = { λ reading s rows. rows ≡ summary_of s.cargo ∷ [] };
 
     fn hand_out<K: Keeper, S: Sink<Summary>>(
         &self,
@@ -190,7 +206,7 @@ pub(crate) struct TrailReading {
 }
 
 impl Reading<TrailRow> for TrailReading {
-    ghost rows = { λ reading s rows. rows ≡ trail_by reading.query s };
+    ghost rows = { λ reading s rows. rows ≡ trail_by reading.query s.cargo };
 
     fn hand_out<K: Keeper, S: Sink<TrailRow>>(
         &self,

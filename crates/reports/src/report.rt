@@ -7,9 +7,14 @@ ghost use Rattle.reports.specs.Reports.{report_called};
 pub enum Report {
     /// The stock as maximal runs of one holder, ascending: `020 1234567 1234569        3 DESK`.
     Stock,
+    /// The declared waybills of which nothing has come in, ascending:
+    /// `020-12345675 FRAJFK   10   100.0 2026-01-12 CONSOLIDATION`.
+    Announced,
     /// The waybills with pieces in store, ascending:
     /// `020-12345675 FRAJFK free    6    60.0 built    4    40.0 -`.
     Shed,
+    /// The same, each behind the day since which pieces of it have been in store without a break.
+    ShedDays,
     /// The noted flights, by their written form and then by day: `LH400/2026-01-12   JFK    1    4
     /// 40.0 open`.
     Flights,
@@ -18,6 +23,9 @@ pub enum Report {
     Expected,
     /// The waybills with missing or found pieces.
     Irregularities,
+    /// The same, each behind the day since which it has had missing or found pieces without a
+    /// break.
+    IrregularityDays,
     /// The movement book.
     Movements,
     /// The lines of arrived status messages.
@@ -37,14 +45,20 @@ impl Report {
     {
         if name == b"stock".as_slice() {
             Some(Report::Stock)
+        } else if name == b"announced".as_slice() {
+            Some(Report::Announced)
         } else if name == b"shed".as_slice() {
             Some(Report::Shed)
+        } else if name == b"shed-days".as_slice() {
+            Some(Report::ShedDays)
         } else if name == b"flights".as_slice() {
             Some(Report::Flights)
         } else if name == b"expected".as_slice() {
             Some(Report::Expected)
         } else if name == b"irregularities".as_slice() {
             Some(Report::Irregularities)
+        } else if name == b"irregularity-days".as_slice() {
+            Some(Report::IrregularityDays)
         } else if name == b"movements".as_slice() {
             Some(Report::Movements)
         } else if name == b"trail".as_slice() {

@@ -15,12 +15,12 @@ use std::collections::BTreeMap;
 
 /// The pieces and tenths of a kilogram of some movements.
 #[derive(Clone, Copy)]
-struct Count {
-    pieces: u64,
-    tenths: u64,
+pub(crate) struct Count {
+    pub(crate) pieces: u64,
+    pub(crate) tenths: u64,
 }
 
-const ZERO: Count = Count {
+pub(crate) const ZERO: Count = Count {
     pieces: 0,
     tenths: 0,
 };
@@ -28,7 +28,7 @@ const ZERO: Count = Count {
 impl Count {
     /// Returns the count with another movement, if `is_counted`. It is `None` if a sum doesn't fit
     /// into 64 bits, which takes more than 10^12 movements.
-    fn with(self, is_counted: bool, movement: &Move) -> Option<Count>
+    pub(crate) fn with(self, is_counted: bool, movement: &Move) -> Option<Count>
         ensures { IfSome result (λ sum. sum ≡ counted is_counted movement.now self) }
     {
         if !is_counted {

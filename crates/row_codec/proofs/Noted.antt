@@ -131,7 +131,7 @@ is_so : (b : Bool) → T b → b ≡ true
 is_so true h = refl
 is_so false h = absurd h
 
-day_again : (low high : ℕ) (z : ℤ) → is_within low high z ≡ true → z ≡ pos (natural z)
+pub day_again : (low high : ℕ) (z : ℤ) → is_within low high z ≡ true → z ≡ pos (natural z)
 day_again low high (pos n) h = refl
 day_again low high (negsuc n) h = absurd (let no : ⊥ = grind (arith, ints) in no)
 

@@ -7,8 +7,8 @@ use shipment_machine::{
     Amount, Balances, Change, Declared, Expected, FlightDate, Move, Outbound, Part,
 };
 use station_core::{
-    BookQuery, BookRow, Expectation, ExpectedQuery, KeptReply, Key, Load, Message, MessageQuery,
-    NotedFlight, Sink, Sizes, TrailQuery, TrailRow, WaybillBalances,
+    AnnouncedRow, BookQuery, BookRow, Expectation, ExpectedQuery, KeptReply, Key, Load, Message,
+    MessageQuery, NotedFlight, Sink, Sizes, TrailQuery, TrailRow, WaybillBalances,
 };
 
 /// The state of a station in a store, with short calls that read and change it.
@@ -23,7 +23,7 @@ pub trait StateStore {
     ghost use Rattle.agent_stock.specs.Stock.{order_refusal};
     ghost use Rattle.shipment_machine.specs.Book.{balances_of, built, has_moves as is_moved, waybills_on};
     ghost use Rattle.shipment_machine.specs.Cargo.{written};
-    ghost use Rattle.station_core.specs.Readers.{AreNoted, AreExpectations, expected_for, book_by, messages_by, trail_by};
+    ghost use Rattle.station_core.specs.Readers.{AreAnnounced, AreNoted, AreExpectations, expected_for, book_by, messages_by, trail_by};
     ghost use Rattle.station_core.specs.Step.{State, has_room};
     ghost use Rattle.state_store.specs.Store.{Changes, Commits, HandsOut, Reads, ReadsAtRest, Says, Seen, Storing, Survives, at_rest, inside};
     ghost use Rattle.state_store.specs.Waybills.{waybills_for};
@@ -164,6 +164,11 @@ pub trait StateStore {
     fn waybills(&mut self, query: WaybillQuery) -> Result<Vec<WaybillBalances>, StoreFault>
         ensures { ReadsAtRest storing self.old self.new result
             (λ s rows. rows.items ≡ waybills_for query s.cargo.book) };
+
+    /// Returns the declared waybills of which nothing has come in, ascending.
+    fn announced(&mut self) -> Result<Vec<AnnouncedRow>, StoreFault>
+        ensures { ReadsAtRest storing self.old self.new result
+            (λ s rows. AreAnnounced s.cargo rows.items) };
 
     /// Returns the noted flights, by their written form and then by day.
     fn noted(&mut self) -> Result<Vec<NotedFlight>, StoreFault>

@@ -166,15 +166,21 @@ pub record Reads {K A : Type 0} (k : Keeping K) (old new : K) (result : Result A
 
 -- A reader of rows changes nothing. At Ok its sink took all rows in order, or those up to the row
 -- at which it stopped; at Err a prefix. A broken station hands out nothing.
-pub record HandsOut {K S Row : Type 0} (k : Keeping K) (old new : K) (result : Result (Unit {0}) ActFault)
-    (takes : S → Row → Bool → S → Type 0) (AreRows : Cargo → List Row → Type 0) (from to : S) : Type 0 where
+pub record HandsOutOf {K S Row : Type 0} (k : Keeping K) (old new : K) (result : Result (Unit {0}) ActFault)
+    (takes : S → Row → Bool → S → Type 0) (AreRows : State → List Row → Type 0) (from to : S) : Type 0 where
   pub reopen : k.is_broken old ≡ true → (result ≡ Err fault.Reopen) × (new ≡ old) × (to ≡ from)
   pub fault : k.is_broken old ≡ false → IfErr result (IsReadersFault k.may_fail)
   pub reads : OnlyReads k old new
   pub rows : (s : State) → k.keeps old s → k.is_sound new
-      → OnOk result ((rows : List Row) × AreRows s.cargo rows × HandedOut takes rows from to)
+      → OnOk result ((rows : List Row) × AreRows s rows × HandedOut takes rows from to)
   pub beginning : (s : State) → k.keeps old s → k.is_sound new
-      → OnErr result ((rows : List Row) → AreRows s.cargo rows → (n : ℕ)
+      → OnErr result ((rows : List Row) → AreRows s rows → (n : ℕ)
       × HandedOut takes (take n rows) from to)
   -- whatever it returns, the sink took some rows in order
   pub took : (rows : List Row) × HandedOut takes rows from to
+
+-- the same of rows that depend on the cargo alone
+abbrev pub HandsOut : {K S Row : Type 0} → Keeping K → K → K → Result (Unit {0}) ActFault
+    → (S → Row → Bool → S → Type 0) → (Cargo → List Row → Type 0) → S → S → Type 0
+HandsOut k old new result takes AreRows from to =
+    HandsOutOf k old new result takes (λ s. AreRows s.cargo) from to

@@ -18,6 +18,7 @@ use Rattle.shipment_machine.specs.Flights.{same_flight_date}
 use Rattle.shipment_machine.specs.Book.{taken, found, free, store, departed, delivered, missing, transferred, waybills_of, waybills_on, built, same_place}
 use Rattle.shipment_machine.specs.Cargo.{Cargo}
 use Rattle.shipment_machine.specs.Views.{declaration}
+use Rattle.station_core.specs.declared.rows.AnnouncedRow.{AnnouncedRow}
 use Rattle.station_core.specs.declared.rows.IrregularRow.{IrregularRow}
 use Rattle.station_core.specs.declared.rows.ShedRow.{ShedRow}
 use Rattle.station_core.specs.declared.rows.NotedFlight.{NotedFlight}
@@ -87,6 +88,19 @@ shed_row s w = record {
 
 abbrev pub shed_rows : Cargo → List ShedRow
 shed_rows s = flat_map (λ w. if is_in_shed s w then shed_row s w ∷ [] else []) (waybills_of s.book)
+
+-- pieces of the waybill have come in: taken over or found
+abbrev pub has_come : List Move → ℕ → Bool
+has_come book w = nat_lt 0 (taken book w).pieces || nat_lt 0 (found book w).pieces
+
+-- what is declared of a waybill of which nothing has come in
+abbrev pub announced : Cargo → ℕ → Option Declared
+announced s w = if has_come s.book w then None else s.declared w
+
+-- The declared waybills of which nothing has come in, ascending.
+pub record AreAnnounced (s : Cargo) (rows : List AnnouncedRow) : Type 0 where
+  pub rising : IsTrue (is_sorted nat_cmp (map (λ row. (row.awb, row.declared)) rows))
+  pub same : (w : ℕ) → announced s w ≡ option_map (λ row. row.declared) (find (λ row. w == row.awb) rows)
 
 -- Flights are ordered by written form, and then by day.
 abbrev pub by_flight : FlightDate → FlightDate → Ordering

@@ -2,11 +2,12 @@ ghost use Rattle.std.specs.Prelude.{◌≡◌, false, Option, Some};
 
 use crate::answer::{ActFault, Reply};
 use crate::input::Input;
+use crate::key::Key;
 use crate::rows::{
-    BookQuery, BookRow, ExpectedQuery, ExpectedRow, FlightRow, IrregularRow, Message, MessageQuery,
-    ShedRow, TrailQuery, TrailRow, Waybill,
+    AnnouncedRow, BookQuery, BookRow, ExpectedQuery, ExpectedRow, FlightRow, IrregularRow, Message,
+    MessageQuery, ShedRow, TrailQuery, TrailRow, Waybill,
 };
-use crate::stored::Summary;
+use crate::stored::{KeptReply, Summary};
 use agent_stock::{Holder, StockRun};
 use awb_number::Awb;
 use row_sinks::Sink;
@@ -17,11 +18,12 @@ use station_days::Moment;
 /// Its readers change nothing. Readers of rows hand them to a sink in order: all of them, or a
 /// prefix if the sink stops or after a fault.
 pub trait Keeper {
+    ghost use Rattle.std.specs.Option.{option_map};
     ghost use Rattle.agent_stock.specs.Runs.{AreStockRuns};
     ghost use Rattle.station_core.specs.Step.{State, IsLawfulState};
     ghost use Rattle.station_core.specs.Keeping.{Acts, Breaks, FindsOnly, HandsOut, IfWorks, Keeping, KeepsSound, Leaves, Reads, Reopens};
-    ghost use Rattle.station_core.specs.Told.{summary_of};
-    ghost use Rattle.station_core.specs.Readers.{waybill_of, shed_rows, AreFlightRows, AreExpectedBy, AreExpectedRows, irregular_rows, book_rows, book_by, messages_by, pending_messages, trail_rows, trail_by};
+    ghost use Rattle.station_core.specs.Told.{kept_of, summary_of};
+    ghost use Rattle.station_core.specs.Readers.{waybill_of, AreAnnounced, shed_rows, AreFlightRows, AreExpectedBy, AreExpectedRows, irregular_rows, book_rows, book_by, messages_by, pending_messages, trail_rows, trail_by};
 
     /// The keeper as contracts see it: the state that it keeps, whether its disk and its storage
     /// hold what they confirmed, whether it is broken, and the states that reopening may find.
@@ -51,6 +53,11 @@ pub trait Keeper {
         ensures { Reads keeping self.old self.new result
             (λ s waybill. waybill ≡ waybill_of s.cargo number.now) };
 
+    /// Returns the command that was accepted under a key, and the count of its reply.
+    fn kept_key(&mut self, key: &Key) -> Result<Option<KeptReply>, ActFault>
+        ensures { Reads keeping self.old self.new result
+            (λ s kept. option_map kept_of kept ≡ s.kept_keys key.now) };
+
     /// Returns the station at a glance.
     fn summary(&mut self) -> Result<Summary, ActFault>
         ensures { Reads keeping self.old self.new result
@@ -60,6 +67,11 @@ pub trait Keeper {
     fn stock<S: Sink<StockRun>>(&mut self, sink: &mut S) -> Result<(), ActFault>
         ensures { HandsOut keeping self.old self.new result S.takes
             (λ s rows. AreStockRuns s.holders rows) sink.old sink.new };
+
+    /// Hands out the declared waybills of which nothing has come in, ascending.
+    fn announced<S: Sink<AnnouncedRow>>(&mut self, sink: &mut S) -> Result<(), ActFault>
+        ensures { HandsOut keeping self.old self.new result S.takes (λ s rows. AreAnnounced s rows)
+            sink.old sink.new };
 
     /// Hands out the waybills with pieces in store, ascending.
     fn shed<S: Sink<ShedRow>>(&mut self, sink: &mut S) -> Result<(), ActFault>

@@ -31,8 +31,9 @@ pub use ranges::content_range_law;
 pub use repeat::repeated_key;
 pub use row_sinks::{Sink, hand_out};
 pub use rows::{
-    BookQuery, BookRow, Expectation, ExpectedQuery, ExpectedRow, FlightRow, IrregularRow, Message,
-    MessageQuery, NotedFlight, RowText, ShedRow, TrailQuery, TrailRow, Waybill,
+    AnnouncedRow, BookQuery, BookRow, Expectation, ExpectedQuery, ExpectedRow, FlightRow,
+    IrregularRow, Message, MessageQuery, NotedFlight, RowText, ShedRow, TrailQuery, TrailRow,
+    Waybill,
 };
 pub use shipment::shipment_of;
 pub use stock::{count_of_order, refusal_of_order};

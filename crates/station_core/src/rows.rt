@@ -78,6 +78,13 @@ pub struct ShedRow {
     pub notified: bool,
 }
 
+/// A declared waybill of which nothing has come in.
+#[derive(Clone, Copy)]
+pub struct AnnouncedRow {
+    pub awb: Awb,
+    pub declared: Declared,
+}
+
 /// A noted flight: something was built on it.
 #[derive(Clone, Copy)]
 pub struct NotedFlight {

@@ -1,7 +1,7 @@
 ghost use Rattle.std.specs.Prelude.{◌≡◌, true, false, Err, Option, IfOk, IfErr};
 ghost use Rattle.agent_stock.specs.Runs.{AreStockRuns};
 ghost use Rattle.station_core.specs.Keeping.{Acts, Breaks, FindsOnly, IfWorks, KeepsPremise, Leaves, Reads, Reopens};
-ghost use Rattle.station_core.specs.Readers.{AreExpectedBy, AreFlightRows, irregular_rows, shed_rows};
+ghost use Rattle.station_core.specs.Readers.{AreAnnounced, AreExpectedBy, AreFlightRows, irregular_rows, shed_rows};
 ghost use Rattle.station_core.specs.Step.{State, IsLawfulState};
 ghost use Rattle.station_engine.specs.Found.{Finds, station_over};
 ghost use Rattle.state_store.specs.Store.{at_rest};
@@ -12,9 +12,9 @@ use agent_stock::{Holder, StockRun};
 use awb_number::Awb;
 use state_store::{StateStore, expected_rows, flight_rows, irregular_rows, shed_rows, waybill_in};
 use station_core::{
-    ActFault, Answer, BookQuery, BookRow, ExpectedQuery, ExpectedRow, FlightRow, Input,
-    IrregularRow, Keeper, Message, MessageQuery, Reply, ShedRow, Sink, Summary, TrailQuery,
-    TrailRow, Waybill, hand_out,
+    ActFault, AnnouncedRow, Answer, BookQuery, BookRow, ExpectedQuery, ExpectedRow, FlightRow,
+    Input, IrregularRow, Keeper, KeptReply, Key, Message, MessageQuery, Reply, ShedRow, Sink,
+    Summary, TrailQuery, TrailRow, Waybill, hand_out,
 };
 use station_days::Moment;
 use std::alloc::Global;
@@ -121,6 +121,21 @@ impl<S: StateStore> StoredStation<S> {
         }
     }
 
+    /// Returns the declared waybills of which nothing has come in, ascending.
+    #[tactic(auto, using(crate::proofs::Reading::reads_only))]
+    fn announced_rows(&mut self) -> Result<Vec<AnnouncedRow>, ActFault>
+        ensures { Reads ⟦<StoredStation<S> as Keeper>⟧.keeping self.old self.new result
+            (λ s rows. AreAnnounced s.cargo rows.items) }
+    {
+        if self.broken {
+            return Err(ActFault::Reopen);
+        }
+        match self.store.announced() {
+            Err(_) => Err(ActFault::Store),
+            Ok(rows) => Ok(rows),
+        }
+    }
+
     /// Returns the waybills with pieces in store, ascending.
     #[tactic(auto, using(crate::proofs::Reading::reads_only))]
     fn shed_rows(&mut self) -> Result<Vec<ShedRow>, ActFault>
@@ -216,6 +231,16 @@ impl<S: StateStore> Keeper for StoredStation<S> {
         }
     }
 
+    fn kept_key(&mut self, key: &Key) -> Result<Option<KeptReply>, ActFault> {
+        if self.broken {
+            return Err(ActFault::Reopen);
+        }
+        match self.store.kept_key(key) {
+            Err(_) => Err(ActFault::Store),
+            Ok(kept) => Ok(kept),
+        }
+    }
+
     fn summary(&mut self) -> Result<Summary, ActFault> {
         if self.broken {
             return Err(ActFault::Reopen);
@@ -229,6 +254,12 @@ impl<S: StateStore> Keeper for StoredStation<S> {
 
     fn stock<K: Sink<StockRun>>(&mut self, sink: &mut K) -> Result<(), ActFault> {
         let rows = self.runs()?;
+        hand_out(sink, rows);
+        Ok(())
+    }
+
+    fn announced<K: Sink<AnnouncedRow>>(&mut self, sink: &mut K) -> Result<(), ActFault> {
+        let rows = self.announced_rows()?;
         hand_out(sink, rows);
         Ok(())
     }

@@ -43,6 +43,11 @@ pub fails_to_read : {X : Type 0} (Is : X → Type 0) (old new : State) (r : Resu
 fails_to_read Is old new (Ok x) fails stops = absurd (let no : false ≡ true = fails in cc)
 fails_to_read Is old new (Err e) fails stops = stops
 
+-- what was read, and what is so of the tables
+pub read_where : {X So : Type 0} (Is : X → Type 0) (old new : State) (r : Result X Error) → So → Reads old new r Is → Reads old new r (λ x. Is x × So)
+read_where Is old new (Ok x) so h = ((h.0, so), h.1)
+read_where Is old new (Err e) so h = h
+
 same_first : {X : Type 0} (a b : Option X) → option_to_list a ≡ option_to_list b → a ≡ b
 same_first None None is = refl
 same_first None (Some y) is = absurd cc

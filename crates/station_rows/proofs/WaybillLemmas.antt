@@ -1,5 +1,5 @@
 -- What the statements on `waybill2` do.
-use Rattle.std.proofs.Common.{List, Ok, [], false, int_eq, map, refl, ℕ, ℤ, ◌∷◌, ◌≡◌}
+use Rattle.std.proofs.Common.{List, Ok, [], ap, false, int_eq, map, refl, true, ℕ, ℤ, ◌∙◌, ◌∷◌, ◌≡◌}
 use Rattle.std.specs.List.{list_all}
 use Rattle.std.specs.Prelude.{option_to_list}
 use Rattle.sqlite.proofs.Callers.{reads_as}
@@ -11,21 +11,22 @@ use Rattle.sqlite.specs.Term.{holds}
 use Rattle.sqlite.specs.declared.types.Value.TheVariants.{Int, Null, Text}
 use Rattle.sqlite_sql.specs.declared.ops.CompareOp.TheVariants.{Eq}
 use Rattle.sqlite_keyed.proofs.KeyedLemmas.{IsKeyedBy-insert_by}
-use Rattle.sqlite_keyed.specs.Keyed.{get_by, insert_by}
+use Rattle.sqlite_keyed.specs.Keyed.{IsKeyedBy, get_by, insert_by}
 use Rattle.sqlite_keyed.specs.Lists.{update_where}
+use Rattle.sqlite_typed.proofs.AnswerLemmas.{unfiltered}
 use Rattle.sqlite_typed.proofs.TestLemmas.{at_ints, last_term}
 use Rattle.station_schema.proofs.Keyed.{one_table, puts}
-use Rattle.station_schema.proofs.Listed.{changed_at, row_at}
+use Rattle.station_schema.proofs.Listed.{changed_at, row_at, rows_by_key}
 use Rattle.station_schema.proofs.Ran.{IsPlaced, insert_ran, update_ran}
 use Rattle.station_schema.proofs.Shared.{cast_int, cast_null}
-use Rattle.station_schema.proofs.AnyTexts.{asks}
+use Rattle.station_schema.proofs.AnyTexts.{asks, by_column}
 use Rattle.station_schema.proofs.Stored.{edits_waybills}
 use Rattle.station_schema.specs.Calls.{Edits, IsInside}
 use Rattle.station_schema.specs.Schema.{station_schema, waybill2}
 use Rattle.station_schema.specs.Tables.{IsStation, Waybill, tables_of, typed_waybills, waybill_id, waybill_in, waybill_row}
 use Rattle.station_rows.specs.Meant.{changing_waybill, with_waybill}
 use Rattle.station_rows.specs.Shown.{waybill_shown}
-use Rattle.station_rows.proofs.Texts.{get_waybill_is, get_waybill_text, insert_waybill_is, update_waybill_is, update_waybill_terms, waybill_columns, waybill_key_is, waybill_names, waybill_terms}
+use Rattle.station_rows.proofs.Texts.{all_waybill_is, all_waybill_text, get_waybill_is, get_waybill_text, insert_waybill_is, update_waybill_is, update_waybill_terms, waybill_columns, waybill_key_is, waybill_names, waybill_terms}
 use Rattle.station_rows.specs.Ran.{insert_waybill_text, update_waybill_text}
 
 waybill_placed : IsPlaced station_schema 13 waybill2
@@ -58,3 +59,14 @@ pub gets_waybill : (old new : State) (id : ℤ) (rows : List Row) → IsStation 
 gets_waybill old new id rows was h =
     let read = reads_as get_waybill_text (Int id ∷ []) old new station_schema was.schema (Select (asks (one_table 22 waybill_key_is waybill_columns [])) waybill_names) get_waybill_is.0 get_waybill_is.1 get_waybill_is.2 rows h in
     row_at waybill_id waybill_row (λ _. refl) waybill_in old.now.schema old.now.trees 22 (typed_waybills old.now was) (Int id ∷ []) waybill_key_is waybill_columns id (at_key id []) waybill_shown (λ _. refl) rows read
+
+pub lists_all_waybills : (old new : State) (rows : List Row) → IsStation old.now → Shown all_waybill_text [] old new rows
+    → rows ≡ map waybill_shown (tables_of old.now.trees).waybills
+lists_all_waybills old new rows was h =
+    let read = reads_as all_waybill_text [] old new station_schema was.schema (Select (asks (one_table 22 [] waybill_columns (by_column 0 ∷ []))) waybill_names) all_waybill_is.0 all_waybill_is.1 all_waybill_is.2 rows h in
+    rows_by_key waybill_id waybill_row (λ _. refl) waybill_in old.now.schema old.now.trees 22 (typed_waybills old.now was) [] [] waybill_columns (λ _. true) (λ _. refl) waybill_shown (λ _. refl) rows read
+    ∙ ap (map waybill_shown) (unfiltered (tables_of old.now.trees).waybills refl)
+
+-- the numbers ascend
+pub waybills_ascend : (s : State) → IsStation s.now → IsKeyedBy waybill_id (tables_of s.now.trees).waybills
+waybills_ascend s was = (typed_waybills s.now was).keyed

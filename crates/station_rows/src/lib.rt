@@ -47,4 +47,4 @@ pub use stock::{
 };
 pub use store::TableStore;
 pub use trail::{InsertTrailLine, LineQuery, LinesFor, TrailRow};
-pub use waybills::{InsertWaybill, UpdateWaybill, WaybillOf, WaybillRow};
+pub use waybills::{AllWaybills, InsertWaybill, UpdateWaybill, WaybillOf, WaybillRow};

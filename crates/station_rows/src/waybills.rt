@@ -1,11 +1,11 @@
-ghost use Rattle.std.specs.Prelude.{◌≡◌, option_map};
-ghost use Rattle.sqlite_keyed.specs.Keyed.{get_by};
+ghost use Rattle.std.specs.Prelude.{◌≡◌, map, option_map};
+ghost use Rattle.sqlite_keyed.specs.Keyed.{IsKeyedBy, get_by};
 ghost use Rattle.station_schema.specs.Tables.{waybill_id};
 ghost use Rattle.station_rows.specs.Meant.{waybill_meant, with_waybill, changing_waybill};
 ghost use Rattle.station_rows.specs.Shown.{waybill_shown, waybill_read};
 ghost use Rattle.station_rows.specs.Ran.{insert_waybill_text, update_waybill_text};
 
-use crate::queries::first_row;
+use crate::queries::{all_rows, first_row};
 use crate::statements::{Read, Write};
 use sqlite::{Alter, Connection, Error, Row, params};
 use station_schema::ReadRow;
@@ -124,6 +124,25 @@ impl Read for WaybillOf {
             conn,
             "SELECT awb, origin, destination, pieces, tenths, goods, notified, since FROM waybill2 WHERE awb = ?1",
             params![&self.awb],
+        )
+    }
+}
+
+/// The row of each waybill. Their numbers ascend.
+#[derive(Drop)]
+pub struct AllWaybills;
+
+impl Read for AllWaybills {
+    type Found = Vec<WaybillRow>;
+
+    ghost tells = { λ _ tables rows. (map waybill_meant rows.items ≡ tables.waybills)
+        × IsKeyedBy waybill_id tables.waybills };
+
+    fn run<S: Alter>(self, conn: &mut Connection<S>) -> Result<Vec<WaybillRow>, Error> {
+        all_rows(
+            conn,
+            "SELECT awb, origin, destination, pieces, tenths, goods, notified, since FROM waybill2 ORDER BY awb",
+            &[],
         )
     }
 }

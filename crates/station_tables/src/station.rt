@@ -18,8 +18,9 @@ use agent_stock::{Holder, StockRun};
 use awb_number::Awb;
 use sqlite::{Alter, Connection};
 use station_core::{
-    ActFault, BookQuery, BookRow, ExpectedQuery, ExpectedRow, FlightRow, Input, IrregularRow,
-    Keeper, Message, MessageQuery, Reply, ShedRow, Sink, Summary, TrailQuery, TrailRow, Waybill,
+    ActFault, AnnouncedRow, BookQuery, BookRow, ExpectedQuery, ExpectedRow, FlightRow, Input,
+    IrregularRow, Keeper, KeptReply, Key, Message, MessageQuery, Reply, ShedRow, Sink, Summary,
+    TrailQuery, TrailRow, Waybill,
 };
 use station_days::Moment;
 use station_engine::StoredStation;
@@ -128,12 +129,20 @@ impl<S: Alter> Keeper for Station<S> {
         self.stored.waybill(number)
     }
 
+    fn kept_key(&mut self, key: &Key) -> Result<Option<KeptReply>, ActFault> {
+        self.stored.kept_key(key)
+    }
+
     fn summary(&mut self) -> Result<Summary, ActFault> {
         self.stored.summary()
     }
 
     fn stock<K: Sink<StockRun>>(&mut self, sink: &mut K) -> Result<(), ActFault> {
         self.stored.stock(sink)
+    }
+
+    fn announced<K: Sink<AnnouncedRow>>(&mut self, sink: &mut K) -> Result<(), ActFault> {
+        self.stored.announced(sink)
     }
 
     fn shed<K: Sink<ShedRow>>(&mut self, sink: &mut K) -> Result<(), ActFault> {

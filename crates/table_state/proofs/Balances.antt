@@ -30,7 +30,7 @@ use Rattle.state_store.specs.declared.query.WaybillQuery.{WaybillQuery}
 use Rattle.state_store.specs.declared.query.WaybillQuery.TheVariants.{Irregular, Stored}
 use Rattle.state_store.specs.Waybills.{is_asked_for, with_balances, asked, waybills_for}
 
-abbrev numbers : List WaybillBalances → List ℕ
+abbrev pub numbers : List WaybillBalances → List ℕ
 numbers rows = map (λ row. row.awb) rows
 
 abbrev IsRising : List WaybillBalances → Type 0
@@ -85,14 +85,14 @@ here row rows =
     let yes : (row.awb == row.awb) ≡ true = grind (arith, nat_tests) in
     ap (λ (b : Bool). unwrap_or (option_map (λ (r : WaybillBalances). r.balances) (if b then Some row else find (λ (r : WaybillBalances). row.awb == r.awb) rows)) nothing) yes
 
-not_found : (w : ℕ) (rows : List WaybillBalances) → is_in w (numbers rows) ≡ false → looked_up rows w ≡ nothing
+pub not_found : (w : ℕ) (rows : List WaybillBalances) → is_in w (numbers rows) ≡ false → looked_up rows w ≡ nothing
 not_found w [] h = refl
 not_found w (row ∷ rows) h =
     let other : (row.awb == w) ≡ false = no_left (row.awb == w) (is_in w (numbers rows)) h in
     let no : (w == row.awb) ≡ false = grind (arith, nat_tests) in
     past w row rows no ∙ not_found w rows (no_right (row.awb == w) (is_in w (numbers rows)) h)
 
-known_from : (B : ℕ → Balances) (rows : List WaybillBalances) → IsRising rows → ((w : ℕ) → is_in w (numbers rows) ≡ true → B w ≡ looked_up rows w)
+pub known_from : (B : ℕ → Balances) (rows : List WaybillBalances) → IsRising rows → ((w : ℕ) → is_in w (numbers rows) ≡ true → B w ≡ looked_up rows w)
     → AllByRecursion (λ row. row.balances ≡ B row.awb) rows
 known_from B [] up same = tt
 known_from B (row ∷ rows) up same =

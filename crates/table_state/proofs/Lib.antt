@@ -9,4 +9,5 @@ pub mod Values
 pub mod Changes
 pub mod Asked
 pub mod Balances
+pub mod Announced
 mod File

@@ -1,10 +1,12 @@
 -- What was read of a row is what the state has that is shown.
-use Rattle.std.proofs.Common.{◌≡◌, ℕ, ℤ, pos, Bool, true, List, length, Option, Some, option_map, is_some, map, filter, sym, ap, subst, ◌∙◌}
+use Rattle.std.proofs.Common.{◌≡◌, ℕ, ℤ, pos, Bool, true, List, length, Option, Some, option_map, is_some, map, filter, not, sym, ap, subst, ◌∙◌}
 use Rattle.std.specs.Prelude.{nat_lt}
+use Rattle.std.specs.BTreeSet.{BTreeSet, contains}
 use Rattle.std.specs.FinMap.{entries, get}
+use Rattle.std.specs.Ordering.{nat_cmp}
 use Rattle.std.proofs.lemmas.List.{length-map}
 use Rattle.sqlite_trees.proofs.ListLemmas.{map-map}
-use Rattle.sqlite_keyed.specs.Keyed.{get_by}
+use Rattle.sqlite_keyed.specs.Keyed.{IsKeyedBy, get_by}
 use Rattle.imp_fields.specs.Flight.{flight_text}
 use Rattle.agent_stock.specs.Stock.{Holders}
 use Rattle.stock_tables.specs.Stocked.{Stocked}
@@ -14,8 +16,9 @@ use Rattle.row_codec.specs.Counts.{AreCounts, AreBuilds}
 use Rattle.shipment_machine.specs.declared.flight.FlightDate.{FlightDate}
 use Rattle.shipment_machine.specs.declared.moves.Move.{Move}
 use Rattle.shipment_machine.specs.declared.moves.Part.{Part}
-use Rattle.station_core.specs.Readers.{AreExpectations, AreNoted}
+use Rattle.station_core.specs.Readers.{AreAnnounced, AreExpectations, AreNoted}
 use Rattle.station_core.specs.Step.{State}
+use Rattle.station_core.specs.declared.rows.AnnouncedRow.{AnnouncedRow}
 use Rattle.station_core.specs.declared.rows.Expectation.{Expectation}
 use Rattle.station_core.specs.declared.rows.NotedFlight.{NotedFlight}
 use Rattle.station_schema.specs.Tables.{Tables, waybill_id}
@@ -37,6 +40,8 @@ use Rattle.row_codec.specs.Replies.{kept_by}
 use Rattle.row_codec.proofs.Reading.{declared_read, outbound_read, expected_read, part_read, kept_key_read, kept_text_read}
 use Rattle.row_codec.proofs.Telling.{holders_told, book_told}
 use Rattle.row_codec.proofs.Noted.{expectations_told, noted_told}
+use Rattle.table_state.specs.Announced.{HaveCome, announced_by}
+use Rattle.table_state.proofs.Announced.{announced_told}
 use Rattle.table_state.proofs.HasMoves.{any_move}
 
 module _ (t : Tables) (s : State) (means : Means t (Some s)) where
@@ -80,6 +85,12 @@ module _ (t : Tables) (s : State) (means : Means t (Some s)) where
   pub expectations_are : (rows : List ListedWaybillRow) (all : List Expectation) → map Some all ≡ map (λ (row : ListedWaybillRow). expectation_by (listed_waybill_meant row)) rows
       → map listed_waybill_meant rows ≡ entries t.expected → AreExpectations s.cargo.expected all
   expectations_are rows all by tells = expectations_told t s means all (by ∙ sym (map-map expectation_by listed_waybill_meant rows) ∙ ap (map expectation_by) tells)
+
+  pub announced_are : (come : BTreeSet ℕ) (rows : List WaybillRow) (all : List AnnouncedRow) → all ≡ filter (λ (one : AnnouncedRow). not (contains nat_cmp come one.awb)) (map (λ (row : WaybillRow). announced_by (waybill_meant row)) rows)
+      → (map waybill_meant rows ≡ t.waybills) × IsKeyedBy waybill_id t.waybills → HaveCome come s.cargo.book → AreAnnounced s.cargo all
+  announced_are come rows all by tells have =
+      announced_told t s means come all have tells.1
+      (by ∙ ap (filter (λ (one : AnnouncedRow). not (contains nat_cmp come one.awb))) (sym (map-map announced_by waybill_meant rows) ∙ ap (map announced_by) tells.0))
 
   -- what the running counts say of each book whose sums they are
 

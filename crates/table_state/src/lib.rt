@@ -1,6 +1,7 @@
 //! The state of a station in its tables.
 #![tactic(auto)]
 
+mod announcing;
 mod boarding;
 mod changing;
 mod counted;

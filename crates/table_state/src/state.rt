@@ -29,8 +29,8 @@ use shipment_machine::{
 };
 use state_store::{StateStore, StoreFault, WaybillQuery};
 use station_core::{
-    BookQuery, BookRow, Expectation, ExpectedQuery, KeptReply, Key, Load, Message, MessageQuery,
-    NotedFlight, Sink, Sizes, TrailQuery, TrailRow, WaybillBalances,
+    AnnouncedRow, BookQuery, BookRow, Expectation, ExpectedQuery, KeptReply, Key, Load, Message,
+    MessageQuery, NotedFlight, Sink, Sizes, TrailQuery, TrailRow, WaybillBalances,
 };
 use station_rows::{
     AllFlights, ExpectedOn, FlightOn, InsertKept, InsertKeptText, InsertMessage, KeptTextCount,
@@ -328,6 +328,10 @@ impl<S: TableStore> StateStore for TableState<S> {
         let kept = numbers_of(self.alloc, &rows)?;
         self.counted.waybills.keep(query, kept);
         Ok(rows)
+    }
+
+    fn announced(&mut self) -> Result<Vec<AnnouncedRow>, StoreFault> {
+        self.announced_rows()
     }
 
     fn noted(&mut self) -> Result<Vec<NotedFlight>, StoreFault> {

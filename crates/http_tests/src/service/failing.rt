@@ -3,8 +3,9 @@ use agent_stock::{Holder, StockRun};
 use awb_number::Awb;
 use plain_station::PlainStation;
 use station_core::{
-    ActFault, BookQuery, BookRow, ExpectedQuery, ExpectedRow, FlightRow, Input, IrregularRow,
-    Keeper, Message, MessageQuery, Reply, ShedRow, Sink, Summary, TrailQuery, TrailRow, Waybill,
+    ActFault, AnnouncedRow, BookQuery, BookRow, ExpectedQuery, ExpectedRow, FlightRow, Input,
+    IrregularRow, Keeper, KeptReply, Key, Message, MessageQuery, Reply, ShedRow, Sink, Summary,
+    TrailQuery, TrailRow, Waybill,
 };
 use station_days::Moment;
 
@@ -68,6 +69,13 @@ impl Keeper for Failing {
         self.station.waybill(number)
     }
 
+    fn kept_key(&mut self, key: &Key) -> Result<Option<KeptReply>, ActFault> {
+        if self.is_broken {
+            return Err(ActFault::Reopen);
+        }
+        self.station.kept_key(key)
+    }
+
     fn summary(&mut self) -> Result<Summary, ActFault> {
         if self.is_broken {
             return Err(ActFault::Reopen);
@@ -80,6 +88,13 @@ impl Keeper for Failing {
             return Err(ActFault::Reopen);
         }
         self.station.stock(sink)
+    }
+
+    fn announced<S: Sink<AnnouncedRow>>(&mut self, sink: &mut S) -> Result<(), ActFault> {
+        if self.is_broken {
+            return Err(ActFault::Reopen);
+        }
+        self.station.announced(sink)
     }
 
     fn shed<S: Sink<ShedRow>>(&mut self, sink: &mut S) -> Result<(), ActFault> {

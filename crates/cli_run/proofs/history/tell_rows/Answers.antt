@@ -4,15 +4,15 @@ use Rattle.cli_run.proofs.history.tell_rows.Goals as goal
 pub returns-in-Ok-true-clause-rows : goal.returns-in-Ok-true-clause-rows
 returns-in-Ok-true-clause-rows g c = record {
   mid = (c.do_report.new.keeper, g.W.ByteOut.taken c.do_report.new.output);
-  moved = c.do_report.result;
-  moves = c.do_report.ensures.reported;
-  trail = rw (c.in-Ok-true.is, c.in-Ok-true.field-0-test) c.do_report-in-Ok-true.ensures.reported;
+  ended = c.do_report.result;
+  told = c.do_report.ensures.reported;
+  rest = rw (c.in-Ok-true.is, c.in-Ok-true.field-0-test) c.tell_messages.ensures.rows;
 }
 
 pub returns-in-Err-clause-rows : goal.returns-in-Err-clause-rows
 returns-in-Err-clause-rows g c = record {
   mid = (c.do_report.new.keeper, g.W.ByteOut.taken c.do_report.new.output);
-  moved = c.do_report.result;
-  moves = c.do_report.ensures.reported;
-  trail = rw c.in-Err.is (refl, refl);
+  ended = c.do_report.result;
+  told = c.do_report.ensures.reported;
+  rest = rw c.in-Err.is (refl, refl);
 }

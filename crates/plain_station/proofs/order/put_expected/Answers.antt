@@ -1,19 +1,26 @@
-use Rattle.std.proofs.Common.{◌≡◌, true, ◌&&◌, ◌==◌, ◌++◌, ◌∷◌, [], Err, sym, subst}
-use Rattle.std.specs.List.{list_any}
+use Rattle.std.proofs.Common.{◌∙◌, ◌<◌, ◌&&◌, ◌==◌, ◌++◌, ◌∷◌, [], Err, Ordering, get_or, length, rules, ap, sym, subst}
+use Rattle.std.proofs.lemmas.Fn.{always_returns_same}
 use Rattle.std.specs.List.Sorted.{IsBinarySearchResult}
 use Rattle.shipment_machine.specs.Flights.{same_flight_date}
 use Rattle.station_core.specs.Readers.{AreExpectations, by_expectation}
 use Rattle.station_core.specs.declared.rows.Expectation.{Expectation}
 use Rattle.plain_station.specs.Lists.{expected_in}
-use Rattle.plain_station.proofs.Listed.{expected_put, expected_there}
+use Rattle.plain_station.proofs.Listed.{any_at, expected_put, expected_there, same_back}
 use Rattle.plain_station.proofs.order.put_expected.Goals as goal
 
-pub returns-in_ok-insert : goal.returns-in_ok-insert
-returns-in_ok-insert c = λ seen are.
-    let place = subst (λ rows. IsBinarySearchResult (λ (r : Expectation). by_expectation (r.flight, r.awb) (c.args.row.now.flight, c.args.row.now.awb)) rows (Err c.in-Some.at)) c.deref.ensures.value c.in-Some.ensures.place in
-    subst (AreExpectations (expected_in (seen ++ c.args.row.now ∷ []))) (sym c.in_ok-insert.ensures.items) (expected_put seen c.args.row.now c.in-Some.at c.args.rows.now.items are place)
+pub returns-in-Ok : goal.returns-in-Ok
+returns-in-Ok c = λ seen are.
+    let order : Expectation → Ordering = λ r. by_expectation (r.flight, r.awb) (c.args.row.now.flight, c.args.row.now.awb) in
+    let rows = c.args.rows.now.items in
+    let at = c.in-Ok.at in
+    let row = c.index.result.now in
+    let found = c.in-Ok.ensures.position order (always_returns_same _ _ _ (λ a r q k. search rules)) in
+    let ties = c.compare_expected-ties.ensures.order ∙ ap order c.index.ensures ∙ ap (λ l. order (get_or l at row)) (sym c.deref.ensures.value) ∙ found row in
+    expected_there seen c.args.row.now rows are
+    (any_at (λ (r : Expectation). same_flight_date c.args.row.now.flight r.flight && (c.args.row.now.awb == r.awb)) rows at row row (subst (λ l. at < length l) c.deref.ensures.value c.in-Ok.ensures.bound) c.index.ensures (same_back row.flight c.args.row.now.flight row.awb c.args.row.now.awb (c.compare_expected-ties.ensures.same ties)))
 
-pub returns-in_default : goal.returns-in_default
-returns-in_default c = λ seen are.
-    expected_there seen c.args.row.now c.args.rows.now.items are
-    (subst (λ rows. list_any (λ (r : Expectation). same_flight_date c.args.row.now.flight r.flight && (c.args.row.now.awb == r.awb)) rows ≡ true) c.deref.ensures.value (c.expected_place.ensures.listed c.in_default.is))
+pub returns-in_ok-insert-in-Err : goal.returns-in_ok-insert-in-Err
+returns-in_ok-insert-in-Err c = λ seen are.
+    let order : Expectation → Ordering = λ r. by_expectation (r.flight, r.awb) (c.args.row.now.flight, c.args.row.now.awb) in
+    let place = subst (λ rows. IsBinarySearchResult order rows (Err c.in-Err.at)) c.deref.ensures.value (c.in-Err.ensures.position order (always_returns_same _ _ _ (λ a r q k. search rules))) in
+    subst (AreExpectations (expected_in (seen ++ c.args.row.now ∷ []))) (sym c.in_ok-insert-in-Err.ensures.items) (expected_put seen c.args.row.now c.in-Err.at c.args.rows.now.items are place)

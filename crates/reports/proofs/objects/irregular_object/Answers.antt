@@ -6,6 +6,5 @@ use Rattle.reports.proofs.objects.irregular_object.Goals as goal
 pub returns : goal.returns
 returns c =
     told string_bytes c.format.result _ _
-    ((λ i. codes "{" ++ (c.in_ok-route.ensures i ++ (codes ",\"missing\":" ++ (c.in_ok-missing.ensures i ++ (codes ",\"found\":" ++ (c.in_ok-found.ensures i ++ (codes "}")))))))
-    ∙ irregular_whole c.args.row.now)
+    ((λ i. codes "{" ++ (c.in_ok-members.ensures i ++ codes "}")) ∙ irregular_whole c.args.row.now)
     c.format.ensures.ok

@@ -6,6 +6,5 @@ use Rattle.reports.proofs.objects.shed_object.Goals as goal
 pub returns : goal.returns
 returns c =
     told string_bytes c.format.result _ _
-    ((λ i. codes "{" ++ (c.in_ok-route.ensures i ++ (codes ",\"free\":" ++ (c.in_ok-free.ensures i ++ (codes ",\"built\":" ++ (c.in_ok-built.ensures i ++ (codes ",\"notified\":" ++ (c.flag-notified.ensures i ++ (codes "}")))))))))
-    ∙ shed_whole c.args.row.now)
+    ((λ i. codes "{" ++ (c.in_ok-members.ensures i ++ codes "}")) ∙ shed_whole c.args.row.now)
     c.format.ensures.ok

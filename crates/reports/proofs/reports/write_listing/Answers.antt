@@ -1,8 +1,11 @@
 use Rattle.std.proofs.Common.{arith}
 use Rattle.std.proofs.lemmas.Grind.{common_steps}
+use Rattle.reports.specs.Keys.{kept_rows}
+use Rattle.reports.specs.Lines.{kept_line}
 use Rattle.reports.specs.Listings.{IsListing}
+use Rattle.reports.specs.Objects.{kept_data}
 use Rattle.reports.proofs.FlightLists.{one_flights}
-use Rattle.reports.proofs.Handing.{reported_as, reported_rows}
+use Rattle.reports.proofs.Handing.{reported_as, reported_rows, reported_these}
 use Rattle.reports.proofs.OneList.{one_list}
 use Rattle.reports.proofs.reports.write_listing.Goals as goal
 
@@ -35,6 +38,9 @@ returns-in-TrailAfter g c = reported_as _ (λ s. IsListing c.args.form s) _ _ _ 
 
 pub returns-in-TrailLast : goal.returns-in-TrailLast
 returns-in-TrailLast g c = reported_as _ (λ s. IsListing c.args.form s) _ _ _ _ c.in-TrailLast.is c.write_trail-in-TrailLast.ensures
+
+pub returns-in-Kept : goal.returns-in-Kept
+returns-in-Kept g c = reported_as _ (λ s. IsListing c.args.form s) _ _ _ _ c.in-Kept.is (reported_these _ kept_line kept_data c.args.form (λ rows. rows) (λ s. kept_rows s c.in-Kept.key) _ _ _ _ (λ row. grind (arith, common_steps)) c.write_all.ensures)
 
 pub returns-in-Manifest : goal.returns-in-Manifest
 returns-in-Manifest g c = reported_as _ (λ s. IsListing c.args.form s) _ _ _ _ c.in-Manifest.is c.write_manifest.ensures

@@ -14,13 +14,13 @@ returns g c =
       reopen = search rules;
       writes = search rules;
       ended = λ s keeps sound.
-          subst (λ new. HasEndedBy (g.K.Keeper.keeping.is_broken c.args.keeper.now ≡ false) g.K.Keeper.keeping.may_fail (IsTextOf c.args.form g.Row.ReportRow.line g.Row.ReportRow.json (g.R.Reading.rows c.args.reading.now s.cargo) (filter (g.P.Pick.wanted c.args.pick)))
+          subst (λ new. HasEndedBy (g.K.Keeper.keeping.is_broken c.args.keeper.now ≡ false) g.K.Keeper.keeping.may_fail (IsTextOf c.args.form g.Row.ReportRow.line g.Row.ReportRow.json (g.R.Reading.rows c.args.reading.now s) (filter (g.P.Pick.wanted c.args.pick)))
           c.args.front.now (g.W.ByteOut.taken c.args.writer.now) new c.rows_into.result) (search rules)
-          (new_ended g.Row.ReportRow.line g.Row.ReportRow.json (g.R.Reading.rows c.args.reading.now s.cargo) g.P.Pick.wanted _ _ c.new-sink.ensures.form c.new-sink.ensures.pick waiting c.new-sink.ensures.given _ c.rows_into.result
+          (new_ended g.Row.ReportRow.line g.Row.ReportRow.json (g.R.Reading.rows c.args.reading.now s) g.P.Pick.wanted _ _ c.new-sink.ensures.form c.new-sink.ensures.pick waiting c.new-sink.ensures.given _ c.rows_into.result
           (c.rows_into.ensures.ended s keeps sound));
       each = λ s keeps sound one.
-          subst (λ new. HasEndedEach (g.K.Keeper.keeping.is_broken c.args.keeper.now ≡ false) g.K.Keeper.keeping.may_fail (IsTextOf c.args.form g.Row.ReportRow.line g.Row.ReportRow.json (g.R.Reading.rows c.args.reading.now s.cargo) (filter (g.P.Pick.wanted c.args.pick)))
+          subst (λ new. HasEndedEach (g.K.Keeper.keeping.is_broken c.args.keeper.now ≡ false) g.K.Keeper.keeping.may_fail (IsTextOf c.args.form g.Row.ReportRow.line g.Row.ReportRow.json (g.R.Reading.rows c.args.reading.now s) (filter (g.P.Pick.wanted c.args.pick)))
           c.args.front.now (g.W.ByteOut.taken c.args.writer.now) new c.rows_into.result) (search rules)
-          (new_ended_each g.Row.ReportRow.line g.Row.ReportRow.json (g.R.Reading.rows c.args.reading.now s.cargo) g.P.Pick.wanted _ _ c.new-sink.ensures.form c.new-sink.ensures.pick waiting c.new-sink.ensures.given _ c.rows_into.result
+          (new_ended_each g.Row.ReportRow.line g.Row.ReportRow.json (g.R.Reading.rows c.args.reading.now s) g.P.Pick.wanted _ _ c.new-sink.ensures.form c.new-sink.ensures.pick waiting c.new-sink.ensures.given _ c.rows_into.result
           (c.rows_into.ensures.each s keeps sound one));
     }

@@ -5,7 +5,7 @@ use Rattle.reports.specs.Lines.{shed_line, irregular_line, summary_line}
 use Rattle.station_core.specs.Told.{summary_of}
 use Rattle.reports.specs.Listings.{IsWhole}
 use Rattle.reports.specs.Objects.{shed_data, irregular_data, summary_data}
-use Rattle.reports.proofs.FlightLists.{one_flights}
+use Rattle.reports.proofs.FlightLists.{one_announced, one_flights}
 use Rattle.reports.proofs.Handing.{reported_as, reported_rows, reported_these}
 use Rattle.reports.proofs.OneList.{one_list}
 use Rattle.reports.proofs.reports.write_whole.Goals as goal
@@ -13,8 +13,17 @@ use Rattle.reports.proofs.reports.write_whole.Goals as goal
 pub returns-in-Stock : goal.returns-in-Stock
 returns-in-Stock g c = reported_as _ (λ s. IsWhole c.args.form s) _ _ _ _ c.in-Stock.is (reported_rows _ _ _ _ _ _ _ _ (λ row. grind (arith, common_steps)) (λ s. one_list s.cargo.holders) c.write_all.ensures)
 
+pub returns-in-Announced : goal.returns-in-Announced
+returns-in-Announced g c = reported_as _ (λ s. IsWhole c.args.form s) _ _ _ _ c.in-Announced.is (reported_rows _ _ _ _ _ _ _ _ (λ row. grind (arith, common_steps)) (λ s. one_announced s.cargo) c.write_all-in-Announced.ensures)
+
 pub returns-in-Shed : goal.returns-in-Shed
 returns-in-Shed g c = reported_as _ (λ s. IsWhole c.args.form s) _ _ _ _ c.in-Shed.is (reported_these _ shed_line shed_data c.args.form (λ rows. rows) (λ s. shed_rows s.cargo) _ _ _ _ (λ row. grind (arith, common_steps)) c.write_all-in-Shed.ensures)
+
+pub returns-in-ShedDays : goal.returns-in-ShedDays
+returns-in-ShedDays g c = reported_as _ (λ s. IsWhole c.args.form s) _ _ _ _ c.in-ShedDays.is c.write_shed_days.ensures
+
+pub returns-in-IrregularityDays : goal.returns-in-IrregularityDays
+returns-in-IrregularityDays g c = reported_as _ (λ s. IsWhole c.args.form s) _ _ _ _ c.in-IrregularityDays.is c.write_irregularity_days.ensures
 
 pub returns-in-Flights : goal.returns-in-Flights
 returns-in-Flights g c = reported_as _ (λ s. IsWhole c.args.form s) _ _ _ _ c.in-Flights.is (reported_rows _ _ _ _ _ _ _ _ (λ row. grind (arith, common_steps)) (λ s. one_flights s.cargo) c.write_all-in-Flights.ensures)

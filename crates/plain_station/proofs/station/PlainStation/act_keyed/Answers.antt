@@ -3,8 +3,8 @@ use Rattle.desk_commands.specs.Command.{command_text}
 use Rattle.station_core.specs.declared.input.Input.TheVariants.{Keyed}
 use Rattle.station_core.specs.Step.{key_answer, acted}
 use Rattle.plain_station.specs.Lists.{cargo_of}
-use Rattle.plain_station.specs.declared.kept.KeptReply.{KeptReply}
-use Rattle.plain_station.specs.Kept.{kept_under, kept_of}
+use Rattle.plain_station.specs.declared.kept.KeptKey.{KeptKey}
+use Rattle.plain_station.specs.Kept.{count_under, kept_under}
 use Rattle.plain_station.specs.State.{state_of}
 use Rattle.plain_station.proofs.Acting.{acts_ok, acts_err, works_err}
 use Rattle.plain_station.proofs.Keeping.{keyed_more}
@@ -16,7 +16,7 @@ returns-in-Err-clause-acts c =
     acts_err (state_of self) (Keyed c.args.key.now c.args.command.now) c.args.at _ (cargo_of c.do_command.new.self.lists) c.in-Err.fault
     (ap (λ o. key_answer o (command_text c.args.command.now)) c.requires.new_key)
     (c.in-Err.ensures c.args.key.now)
-    (λ i. record { cargo = cargo_of c.do_command.new.self.lists; kept_keys = kept_under (c.try_reserve.ensures.items i); kept_texts = kept_of self.kept_texts.items })
+    (λ i. record { cargo = cargo_of c.do_command.new.self.lists; kept_keys = kept_under (c.try_reserve.ensures.items i); kept_texts = count_under self.kept_texts.items })
 
 pub returns-in-Err-clause-works : goal.returns-in-Err-clause-works
 returns-in-Err-clause-works c =
@@ -25,10 +25,10 @@ returns-in-Err-clause-works c =
 pub returns-clause-acts : goal.returns-clause-acts
 returns-clause-acts c =
     let self = c.args.self.now in
-    let one : KeptReply = record { key = c.args.key.now; request = c.args.request; count = c.in-Ok.count } in
+    let one : KeptKey = record { key = c.args.key.now; reply = record { request = c.args.request; count = c.in-Ok.count } } in
     let items : c.push.new.self.items ≡ self.kept_keys.items ++ one ∷ [] = c.in-Ok-push.ensures.items ∙ ap (λ l. l ++ one ∷ []) c.try_reserve.ensures.items in
     acts_ok (state_of self) (Keyed c.args.key.now c.args.command.now) c.args.at _ (cargo_of c.do_command.new.self.lists) c.in-Ok.count
     (ap (λ o. key_answer o (command_text c.args.command.now)) c.requires.new_key)
     (c.in-Ok.ensures c.args.key.now)
-    (ap (λ l. record { cargo = cargo_of c.do_command.new.self.lists; kept_keys = kept_under l; kept_texts = kept_of self.kept_texts.items }) items
-    ∙ keyed_more (cargo_of c.do_command.new.self.lists) self.kept_keys.items (kept_of self.kept_texts.items) one (command_text c.args.command.now) c.requires.new_key c.requires.request)
+    (ap (λ l. record { cargo = cargo_of c.do_command.new.self.lists; kept_keys = kept_under l; kept_texts = count_under self.kept_texts.items }) items
+    ∙ keyed_more (cargo_of c.do_command.new.self.lists) self.kept_keys.items (count_under self.kept_texts.items) one (command_text c.args.command.now) c.requires.new_key c.requires.request)

@@ -1,9 +1,14 @@
 use Rattle.std.proofs.Common.{◌≡◌}
 use Rattle.agent_stock.specs.Runs.{AreStockRuns}
-use Rattle.station_core.specs.Readers.{AreExpectedBy, AreFlightRows, book_by, irregular_rows, messages_by, shed_rows, trail_by}
+use Rattle.station_core.specs.Readers.{AreAnnounced, AreExpectedBy, AreFlightRows, book_by, irregular_rows, messages_by, shed_rows, trail_by}
 use Rattle.plain_station.specs.State.{state_of}
 use Rattle.plain_station.proofs.Handed.{hands_out}
 use Rattle.plain_station.proofs.station.PlainStationKeeper.TheImpl.Goals as goal
+
+pub announced-tells : goal.announced-tells
+announced-tells g c =
+    hands_out g.S.Sink.takes AreAnnounced state_of c.args.self.now c.new.self.now c.result c.args.sink.now c.new.sink.now
+    c.ensures.hands c.ensures.as_before
 
 pub book_by-tells : goal.book_by-tells
 book_by-tells g c =

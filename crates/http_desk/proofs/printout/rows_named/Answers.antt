@@ -1,0 +1,10 @@
+use Rattle.std.proofs.Common.{◌≡◌, refl, rules}
+use Rattle.std.specs.Prelude.{false, codes}
+use Rattle.std.specs.Str.{bytes_eq}
+use Rattle.http_desk.proofs.printout.rows_named.Goals as goal
+
+pub returns-in_default : goal.returns-in_default
+returns-in_default c =
+    let reports : bytes_eq c.args.kind.now (codes "reports") ≡ false = search rules in
+    let keys : bytes_eq c.args.kind.now (codes "keys") ≡ false = search rules in
+    rw (reports, keys) refl

@@ -1,0 +1,11 @@
+use Rattle.std.proofs.Common.{take}
+use Rattle.station_core.specs.Keeping.{OnlyReads}
+use Rattle.station_core.specs.Step.{State}
+use Rattle.reports.specs.Days.{AreDated}
+use Rattle.reports.proofs.days.all_dated.Given as goal
+
+-- the rows so far have their days
+abbrev pub invariant-loop-row : goal.invariant-loop-row
+invariant-loop-row g l =
+    OnlyReads g.K.Keeper.keeping l.fn.keeper l.keeper
+    × ((s : State) → g.K.Keeper.keeping.keeps l.fn.keeper s → g.K.Keeper.keeping.is_sound l.keeper → AreDated l.lasting g.Row.OfWaybill.number s.cargo (take l.row-index l.rows) l.dated.items)

@@ -1,0 +1,7 @@
+use Rattle.station_core.specs.Readers.{AreAnnounced}
+use Rattle.state_store.proofs.Walks.{rests_then}
+use Rattle.table_state.specs.Shown.{in_tables}
+use Rattle.table_state.proofs.state.TableState.announced_rows.Goals as goal
+
+pub returns : goal.returns
+returns g c = rests_then (in_tables g.S.TableStore.view) c.args.self.now c.all_come.new.self c.declared_except.new.self (λ s rows. AreAnnounced s.cargo rows.items) c.in_ok-come.ensures c.declared_except.ensures (λ s have rows so. so have)
