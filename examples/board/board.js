@@ -19,6 +19,7 @@ const PAUSE = 4000; // milliseconds between two readings, and ten times as long 
 const VIEWS = {
   today: day.make,
   shed: shed.make,
+  announced: shed.makeAnnounced,
   irregularities: shed.makeIrregular,
   movements: movements.make,
   flights: flights.make,

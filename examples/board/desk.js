@@ -74,9 +74,12 @@ const tenthsOf = (weight) => Math.round(Number(weight) * 10);
 const amountOf = (pieces, weight) => ({ pieces: Number(pieces), tenths: tenthsOf(weight) });
 const routeOf = (route) => ({ origin: route.slice(0, 3), destination: route.slice(3) });
 
-const shedRow = ([awb, route, , free, freeWeight, , built, builtWeight, notified], line) => ({
-  line, awb, route, ...routeOf(route), free: amountOf(free, freeWeight), built: amountOf(built, builtWeight),
+const shedRow = ([since, awb, route, , free, freeWeight, , built, builtWeight, notified], line) => ({
+  line, since, awb, route, ...routeOf(route), free: amountOf(free, freeWeight), built: amountOf(built, builtWeight),
   notified: notified === "notified",
+});
+const announcedRow = ([awb, route, pieces, weight, since, ...goods], line) => ({
+  line, awb, route, ...routeOf(route), ...amountOf(pieces, weight), since, goods: goods.join(" "),
 });
 const flightRow = ([flight, unload, waybills, pieces, weight, state], line) => ({
   line, flight, unload, waybills: Number(waybills), ...amountOf(pieces, weight), state,
@@ -131,7 +134,8 @@ function pendingMessages(text) {
 // rows stay, or as many as `readOlder` has read. If the last rows of one with `deep` don't reach back to yesterday, so
 // many are read instead.
 export const REPORTS = {
-  shed: { title: "Shed", path: "/v1/reports/shed", rowsOf: reportRows(shedRow) },
+  shed: { title: "Shed", path: "/v1/reports/shed-days", rowsOf: reportRows(shedRow) },
+  announced: { title: "Announced", path: "/v1/reports/announced", rowsOf: reportRows(announcedRow) },
   flights: { title: "Open flights", path: "/v1/reports/open-flights", rowsOf: reportRows(flightRow) },
   expected: { title: "Expected", path: "/v1/reports/open-expected", rowsOf: reportRows(expectedRow) },
   irregularities: { title: "Irregularities", path: "/v1/reports/irregularities", rowsOf: reportRows(irregularRow) },

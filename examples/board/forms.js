@@ -16,7 +16,7 @@ const PLACE = "unanswered ";
 const under = new Set(); // those whose answer is on its way
 
 function newKey() {
-  const bytes = crypto.getRandomValues(new Uint8Array(16));
+  const bytes = crypto.getRandomValues(new Uint8Array(10));
   return Array.from(bytes, (byte) => byte.toString(16).padStart(2, "0")).join("");
 }
 

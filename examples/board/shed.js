@@ -1,9 +1,9 @@
-// What lies in the shed: all of it, filtered, sorted, and as a list on paper. And what is irregular.
-import { OLD, agePicture, ageText, askAges, isOld, sinceOf } from "./ages.js";
+// What lies in the shed: all of it, filtered, sorted, and as a list on paper. And what is irregular, or announced.
+import { OLD, agePicture, ageText, isOld } from "./ages.js";
 import { REPORTS, rowsOf } from "./desk.js";
 import { keepInAddress, makeList } from "./list.js";
-import { bar, card, counted, el, empty, fill, groupBy, grouped, kilograms, pieces, sum, tonnes,
-  waybillLink } from "./parts.js";
+import { bar, card, counted, el, empty, fill, groupBy, grouped, kilograms, pieces, sum, today,
+  tonnes, waybillLink } from "./parts.js";
 import { here, isHere } from "./station.js";
 import { isUnnotified } from "./today.js";
 
@@ -24,7 +24,7 @@ const COLUMNS = [
   { head: "Built", amount: true, cell: (row) => row.built.pieces, sort: (row) => row.built.pieces },
   { head: "kg", amount: true, cell: (row) => kilograms(row.built.tenths), sort: (row) => row.built.tenths },
   { head: "Consignee", cell: (row) => (row.notified ? "notified" : "-"), sort: (row) => (row.notified ? 0 : 1) },
-  { head: "Here since", kind: "since", cell: (row) => ageText(sinceOf(row)), sort: (row) => sinceOf(row) || "-" },
+  { head: "Here since", kind: "since", cell: (row) => ageText(row.since), sort: (row) => row.since },
 ];
 
 function totalOf(rows) {
@@ -37,7 +37,6 @@ export function make({ query }) {
   const to = { name: query.get("to") ?? "" };
   const list = makeList({
     id: "shed", title: "Shed", columns: COLUMNS, shows: SHOWS, query, totalOf, none: "Nothing is in store.",
-    keyOf: (row) => `${row.line} ${sinceOf(row)}`,
     textOf: ({ awb, route }) => `${awb} ${route}`,
     wanted: (row) => !to.name || row.destination === to.name,
     words: () => to.name && `to ${to.name}`,
@@ -56,13 +55,12 @@ export function make({ query }) {
     const lines = all.map(({ line }) => line).join();
     list.show(all);
     fill(places.body, [lines, to.name, here()], () => placeRows(all, to.name, choose));
-    fill(ages.body, [lines, all.map(sinceOf)], () => (all.length ? agePicture(all) : empty("Nothing is in store.")));
+    fill(ages.body, [lines, today()], () => (all.length ? agePicture(all) : empty("Nothing is in store.")));
   }
   return {
     title: "Shed",
     node: el("div", { class: "view with-side" }, list.node, el("aside", {}, ages.node, places.node)),
     needs: () => [REPORTS.shed, REPORTS.moves],
-    also: async () => (await askAges(rowsOf(REPORTS.shed))) && show(),
     show,
     whole: () => list.whole(),
   };
@@ -118,5 +116,32 @@ export function makeIrregular({ query }) {
   return {
     title: "Irregularities", node: el("div", { class: "view" }, list.node), needs: () => [REPORTS.irregularities],
     show: () => list.show(rowsOf(REPORTS.irregularities)), whole: () => list.whole(),
+  };
+}
+
+// Announced: declared waybills of which nothing has come in.
+const ANNOUNCED = {
+  out: ["Outbound", (row) => isHere(row.origin)],
+  old: [`${OLD} days or more`, isOld],
+};
+
+const ANNOUNCED_COLUMNS = [
+  { head: "Waybill", cell: (row) => waybillLink(row.awb), sort: (row) => row.awb },
+  { head: "Route", cell: (row) => row.route, sort: (row) => row.route },
+  { head: "Pieces", amount: true, cell: (row) => row.pieces, sort: (row) => row.pieces },
+  { head: "kg", amount: true, cell: (row) => kilograms(row.tenths), sort: (row) => row.tenths },
+  { head: "Goods", cell: (row) => row.goods, sort: (row) => row.goods },
+  { head: "Declared", kind: "since", cell: (row) => ageText(row.since), sort: (row) => row.since },
+];
+
+const announcedTotals = (rows) => ["All of these", counted(rows.length, "waybill"),
+  grouped(sum(rows, (row) => row.pieces)), kilograms(sum(rows, (row) => row.tenths)), "", ""];
+
+export function makeAnnounced({ query }) {
+  const list = makeList({ id: "announced", title: "Announced", columns: ANNOUNCED_COLUMNS, shows: ANNOUNCED, query,
+    totalOf: announcedTotals, none: "All that is declared has come." });
+  return {
+    title: "Announced", node: el("div", { class: "view" }, list.node), needs: () => [REPORTS.announced],
+    show: () => list.show(rowsOf(REPORTS.announced)), whole: () => list.whole(),
   };
 }

@@ -1,5 +1,5 @@
 // The picture of the day.
-import { OLD, agePicture, askAges, isOld, sinceOf } from "./ages.js";
+import { OLD, agePicture, isOld } from "./ages.js";
 import { REPORTS, rowsOf } from "./desk.js";
 import { bar, card, counted, drawn, el, empty, fill, flightLink, flightOrder, groupBy, grouped, isLate, legend,
   pieces, sum, today, tonnes, warning, waybillLink } from "./parts.js";
@@ -17,7 +17,7 @@ export const isUnnotified = (row) => row.destination === here() && row.free.piec
 export function make() {
   const figures = el("ul", { class: "figures" });
   const load = card("Flights that load", { id: "loading", wide: true, link: ["#/flights", "All flights"] });
-  const come = card("Expected, and what has come", { id: "coming" });
+  const come = card("Expected, and what has come", { id: "coming", link: ["#/announced", "Announced"] });
   const hours = card("Pieces by the hour", { id: "hours", wide: true });
   const waiting = card("Not notified", { id: "unnotified", link: ["#/shed?show=unnotified", "In the shed"] });
   const wrong = card("Irregular", { id: "irregular", link: ["#/irregularities", "All"] });
@@ -30,7 +30,6 @@ export function make() {
     node: el("div", { class: "view today" }, figures, el("div", { class: "grid" }, ...cards)),
     needs:
       () => ["shed", "flights", "expected", "irregularities", "outbox", "stock", "moves"].map((name) => REPORTS[name]),
-    also: async () => (await askAges(rowsOf(REPORTS.shed))) && document.dispatchEvent(new Event("board-show")),
     show() {
       const day = dayNow();
       const items = figuresOf(day);
@@ -41,7 +40,7 @@ export function make() {
       hours.note.textContent = day.since;
       fill(waiting.body, day.unnotified, () => unnotifiedRows(day));
       fill(wrong.body, day.irregular, () => irregularRows(day));
-      fill(lain.body, [day.shed, day.shed.map(sinceOf)],
+      fill(lain.body, [day.shed, today()],
         () => (day.shed.length ? agePicture(day.shed) : empty("Nothing is in store.")));
       fill(agents.body, day.stock, () => agentRows(day));
       fill(moves.body, day.moves.slice(-THE_LAST), () => moveTable(day.moves.slice(-THE_LAST)));
