@@ -110,14 +110,19 @@ const WRONG_COLUMNS = [
 const wrongTotals = (rows) => ["All of these", counted(rows.length, "waybill"), ...["missing", "found"].flatMap(
   (member) => [grouped(sum(rows, (row) => row[member].pieces)), kilograms(sum(rows, (row) => row[member].tenths))])];
 
-export function makeIrregular({ query }) {
-  const list = makeList({ id: "irregularities", title: "Irregularities", columns: WRONG_COLUMNS, shows: WRONG, query,
-    totalOf: wrongTotals, none: "No pieces are missing, and none were found." });
+// A view that is the list of one report.
+function listView(report, query, about) {
+  const list = makeList({ ...about, query });
   return {
-    title: "Irregularities", node: el("div", { class: "view" }, list.node), needs: () => [REPORTS.irregularities],
-    show: () => list.show(rowsOf(REPORTS.irregularities)), whole: () => list.whole(),
+    title: about.title, node: el("div", { class: "view" }, list.node), needs: () => [report],
+    show: () => list.show(rowsOf(report)), whole: () => list.whole(),
   };
 }
+
+export const makeIrregular = ({ query }) => listView(REPORTS.irregularities, query, {
+  id: "irregularities", title: "Irregularities", columns: WRONG_COLUMNS, shows: WRONG, totalOf: wrongTotals,
+  none: "No pieces are missing, and none were found.",
+});
 
 // Announced: declared waybills of which nothing has come in.
 const ANNOUNCED = {
@@ -137,11 +142,7 @@ const ANNOUNCED_COLUMNS = [
 const announcedTotals = (rows) => ["All of these", counted(rows.length, "waybill"),
   grouped(sum(rows, (row) => row.pieces)), kilograms(sum(rows, (row) => row.tenths)), "", ""];
 
-export function makeAnnounced({ query }) {
-  const list = makeList({ id: "announced", title: "Announced", columns: ANNOUNCED_COLUMNS, shows: ANNOUNCED, query,
-    totalOf: announcedTotals, none: "All that is declared has come." });
-  return {
-    title: "Announced", node: el("div", { class: "view" }, list.node), needs: () => [REPORTS.announced],
-    show: () => list.show(rowsOf(REPORTS.announced)), whole: () => list.whole(),
-  };
-}
+export const makeAnnounced = ({ query }) => listView(REPORTS.announced, query, {
+  id: "announced", title: "Announced", columns: ANNOUNCED_COLUMNS, shows: ANNOUNCED, totalOf: announcedTotals,
+  none: "All that is declared has come.",
+});
