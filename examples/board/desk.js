@@ -116,8 +116,8 @@ const objectRow = (text) => {
   return known.awb ? known : null;
 };
 
-// The outbox has a line `MESSAGE number length`, and then the text of so many bytes, each a character of ASCII.
-function pendingMessages(text) {
+// Messages have a line `MESSAGE number length`, and then the text of so many bytes, each a character of ASCII.
+function messageRows(text) {
   const messages = [];
   for (let start = 0; ;) {
     const stop = text.indexOf("\n", start);
@@ -140,7 +140,7 @@ export const REPORTS = {
   expected: { title: "Expected", path: "/v1/reports/open-expected", rowsOf: reportRows(expectedRow) },
   irregularities: { title: "Irregularities", path: "/v1/reports/irregularities", rowsOf: reportRows(irregularRow) },
   stock: { title: "Stock", path: "/v1/reports/stock", rowsOf: reportRows(stockRow) },
-  outbox: { title: "Outbox", path: "/v1/outbox", rowsOf: pendingMessages },
+  outbox: { title: "Outbox", path: "/v1/outbox", rowsOf: messageRows },
   moves: {
     title: "Last movements", path: "/v1/movements/last/400", after: (number) => `/v1/movements/after/${number}`,
     last: (count) => `/v1/movements/last/${count}`, rowsOf: reportRows(moveRow), kept: 5000, deep: 5000,
@@ -165,6 +165,7 @@ export const waybillReports = (awb) => ({
   holder: { title: `Holder of ${awb}`, path: `/v1/stock/${word(awb)}`, rowsOf: objectRow },
   moves: { title: `Movements of ${awb}`, path: `/v1/waybills/${word(awb)}/movements`, rowsOf: reportRows(moveRow) },
   trail: { title: `Status messages of ${awb}`, path: `/v1/waybills/${word(awb)}/trail.json`, rowsOf: trailRows },
+  sent: { title: `Our messages of ${awb}`, path: `/v1/waybills/${word(awb)}/sent`, rowsOf: messageRows },
 });
 
 // What was read last of each path: its rows, whether they came whole this time, and in which reading that was.

@@ -24,7 +24,7 @@ export function make({ rest }) {
   const facts = card("Declaration", { id: "found" });
   const history = card("History", { id: "history" });
   const trail = card("Status messages from elsewhere", { id: "trail" });
-  const own = card("Our messages not confirmed yet", { id: "own" });
+  const own = card("Our messages", { id: "own" });
   const acts = card("What can be done now", { id: "commands" });
   const state = { awb, reports };
   const forms = waybillForms(state);
@@ -49,7 +49,8 @@ export function make({ rest }) {
       trail.node.hidden = now.trail.length === 0;
       fill(trail.body, now.trail, () => el("ol", { class: "timeline" }, ...now.trail.map(trailItem)));
       own.node.hidden = now.own.length === 0;
-      fill(own.body, now.own, () => el("ol", { class: "timeline" }, ...now.own.map(ownItem)));
+      fill(own.body, [now.own, now.own.filter(({ number }) => now.waiting.has(number)).length],
+        () => el("ol", { class: "timeline" }, ...now.own.map((message) => ownItem(message, now.waiting))));
       for (const [form, applies] of forms) form.refresh(Boolean(applies(now)));
       acts.node.classList.toggle("asking", !now.read);
     },
@@ -80,7 +81,8 @@ function waybillNow({ awb, reports }) {
     built: Object.entries(built).filter(([, many]) => many > 0),
     trail: rowsOf(reports.trail),
     due: rowsOf(REPORTS.expected).filter((row) => row.awb === awb),
-    own: rowsOf(REPORTS.outbox).filter(({ text }) => text.startsWith(`FSU/12\r\n${awb}`)),
+    own: rowsOf(reports.sent),
+    waiting: new Set(rowsOf(REPORTS.outbox).map(({ number }) => number)),
   };
 }
 
@@ -238,8 +240,10 @@ const moveItem = (move) => el("li", { class: move.to.toLowerCase() }, el("time",
 const trailItem = ({ line }) => el("li", { class: "departed" }, el("time", {}, line.slice(0, 3)),
   el("span", {}, `${STATUSES[line.slice(0, 3)] ?? "another status"} `, el("code", {}, line)));
 
-const ownItem = ({ number, text }) => el("li", { class: "hand" }, el("time", {}, statusOf(text)),
-  el("span", {}, messageWords(text)), el("a", { href: "#/messages", class: "quiet" }, `no. ${number}`));
+const ownItem = ({ number, text }, waiting) => el("li", { class: "hand" }, el("time", {}, statusOf(text)),
+  el("span", {}, messageWords(text)),
+  waiting.has(number) ? el("a", { href: "#/messages", class: "quiet" }, `no. ${number}, not confirmed`)
+                      : el("span", { class: "quiet" }, `no. ${number}`));
 
 // The commands, each with what it begins with and whether it can apply.
 function waybillForms(state) {

@@ -1,12 +1,9 @@
 //! The file of a station.
 
 use cli_call::DeskFault;
-use cli_run::is_opening;
-use cli_words::Line;
-use sqlite::{Alter, Connection, Error, ErrorCode, File, FileStore, Options, Unknown};
+use sqlite::{Connection, Error, ErrorCode, File, FileStore, Options, Unknown};
 use sqlite_wal::PageSize;
 use station_files::{OLD_TREES, OwnTrees, open_beside, open_listed, open_new, station_trees};
-use station_schema::has_station;
 use station_tables::AttachFault;
 use std::hash::{BuildHasher, RandomState};
 use std::io::{ErrorKind, Read};
@@ -21,11 +18,6 @@ const PAGE_LEN: usize = 1024;
 const LEAST_CACHE: u64 = 2000;
 
 const MOST_CACHE: u64 = 65_536;
-
-/// The warning about a file whose tables aren't declared as `init` declares them.
-const NOT_AS_INIT: &str =
-    "init declares the tables otherwise, so the promises about a power failure aren't proved \
-    for this file; copy its rows into a new one";
 
 /// A connection to a station's file.
 pub enum FileConnection {
@@ -271,17 +263,4 @@ pub fn tell_unopened(rt: &HostRuntime, path: &str, fault: FileFault) {
         },
         FileFault::Store(code) => eprint!(rt; "{path}: {code}\n"),
     };
-}
-
-/// Returns whether the file of a command line was found, and its tables aren't declared as `init`
-/// declares them: one of them has another text, or an index of another program. A station works in
-/// such a file, but crash safety isn't proved for it.
-pub fn is_undeclared<S: Alter>(line: &Line<'_>, conn: &Connection<S>) -> bool {
-    line.db.is_some() && !is_opening(line) && !has_station(conn)
-}
-
-/// Writes that the tables of the file aren't declared as `init` declares them.
-pub fn tell_undeclared(rt: &HostRuntime, line: &Line<'_>) {
-    let path = line.db.unwrap_or("");
-    let _told = eprint!(rt; "{path}: {NOT_AS_INIT}\n");
 }

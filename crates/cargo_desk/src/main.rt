@@ -3,16 +3,14 @@
 
 mod client;
 mod files;
-mod service;
 mod task;
 mod telegram_files;
 
-use cli_call::{DeskFault, version_line};
+use cli_call::{DeskFault, Service, version_line};
 use cli_run::run_read;
 use cli_words::{Line, LineCommand, WordsFault, parse_words, usage_fault};
 use client::ask_port;
-use desk_server::{Zone, listen, moment_now};
-use service::Service;
+use desk_server::{Setting, Zone, listen, moment_now};
 use station_core::{Counted, InputReader};
 use station_days::Moment;
 use std::cell::RefCell;
@@ -143,8 +141,13 @@ fn serve_at(rt: &HostRuntime, line: &Line<'_>, zone: &Zone, port: u16, count: Op
     match listen(rt, port) {
         Ok(listener) => {
             let task: Task<'_, Stdin> = Task::Serve(Service {
+                net: rt,
+                setting: Setting {
+                    alloc: rt.alloc(),
+                    clock: rt,
+                    zone,
+                },
                 listener: &listener,
-                zone,
                 count,
             });
             run_over(rt, line, task)

@@ -1,9 +1,9 @@
 //! Running a command line over its station, in memory or in a file.
 
-use crate::files::{FileConnection, make_file, open_file, tell_undeclared, tell_unopened};
-use crate::service::{Service, serve_keeper, serve_line};
+use crate::files::{FileConnection, make_file, open_file, tell_unopened};
 use cli_call::{
-    DeskFault, FileEnd, close_file, close_file_beside, end, run_file, run_file_beside, run_gathered,
+    DeskFault, FileEnd, Service, end, run_file, run_file_beside, run_gathered, serve_file,
+    serve_file_beside, serve_kept, tell_undeclared,
 };
 use cli_run::{Feed, airport_of_line, is_migration, is_opening};
 use cli_words::Line;
@@ -22,7 +22,7 @@ pub enum Task<'a, R> {
     /// Run its command on the inputs of a reader, at a moment.
     Run { reader: R, at: Moment },
     /// Run the service.
-    Serve(Service<'a>),
+    Serve(Service<'a, HostRuntime, HostRuntime>),
 }
 
 /// Ends a call on standard error.
@@ -69,44 +69,25 @@ fn run_in_memory<R: InputReader + Drop>(
     let mut station = StoredStation::over(alloc, state);
     match task {
         Task::Run { reader, at } => run_keeper(rt, line, &mut station, reader, at),
-        Task::Serve(service) => serve_keeper(rt, &mut station, service),
+        Task::Serve(service) => {
+            let mut output = Counted::new(rt.stdout());
+            let mut errors = Counted::new(rt.stderr());
+            serve_kept(&service, &mut station, &mut output, &mut errors)
+        }
     }
 }
 
 /// Warns if the tables of the file are declared differently, and returns the exit status.
-fn end_file<D: Disk + Drop>(rt: &HostRuntime, line: &Line<'_>, ended: FileEnd<D>) -> u8 {
+fn end_file<D: Disk + Drop, E: ByteOut>(line: &Line<'_>, ended: FileEnd<D>, errors: &mut E) -> u8 {
     if ended.status <= 1 && !ended.is_declared && !is_opening(line) {
-        tell_undeclared(rt, line);
+        tell_undeclared(errors, line);
     }
     ended.status
 }
 
-/// Closes the file of a service that ended with this status.
-fn close_served<D: Disk + Drop, E: ByteOut>(
-    conn: Connection<FileStore<D>>,
-    status: u8,
-    errors: &mut E,
-) -> FileEnd<D> {
-    let (status, files) = close_file(conn, status, errors);
-    FileEnd {
-        status,
-        is_declared: true,
-        files,
-    }
-}
-
-/// Closes the file of a service over the tables and indexes that `init` makes.
-fn close_served_beside<D: Disk + Drop, E: ByteOut>(
-    conn: Connection<OwnTrees<FileStore<D>>>,
-    status: u8,
-    errors: &mut E,
-) -> FileEnd<D> {
-    let (status, files) = close_file_beside(conn, status, errors);
-    FileEnd {
-        status,
-        is_declared: true,
-        files,
-    }
+/// Returns the exit status of a service whose file was closed.
+fn end_served<D: Disk + Drop>(ended: FileEnd<D>) -> u8 {
+    ended.status
 }
 
 /// Does a command line's task over a connection to a file, and closes the file. Each answer is
@@ -124,12 +105,11 @@ fn run_whole<D: Disk + Drop, R: InputReader + Drop>(
         Task::Run { reader, at } => {
             let mut feed = Feed::new(reader);
             let ended = run_file(alloc, line, conn, &mut feed, &mut output, &mut errors, at);
-            end_file(rt, line, ended)
+            end_file(line, ended, &mut errors)
         }
         Task::Serve(service) => {
-            let (status, conn) = serve_line(rt, line, conn, service);
-            let ended = close_served(conn, status, &mut errors);
-            ended.status
+            let ended = serve_file(&service, line, conn, &mut output, &mut errors);
+            end_served(ended)
         }
     }
 }
@@ -148,12 +128,11 @@ fn run_beside<D: Disk + Drop, R: InputReader + Drop>(
         Task::Run { reader, at } => {
             let mut feed = Feed::new(reader);
             let ended = run_file_beside(alloc, line, conn, &mut feed, &mut output, &mut errors, at);
-            end_file(rt, line, ended)
+            end_file(line, ended, &mut errors)
         }
         Task::Serve(service) => {
-            let (status, conn) = serve_line(rt, line, conn, service);
-            let ended = close_served_beside(conn, status, &mut errors);
-            ended.status
+            let ended = serve_file_beside(&service, line, conn, &mut output, &mut errors);
+            end_served(ended)
         }
     }
 }

@@ -1,5 +1,5 @@
 -- Calls of the program over one file: from one to the next, and all of them.
-use Rattle.std.proofs.Common.{◌<◌, ◌≤◌, length, ◌≡◌, ◌⊎◌, ℕ, zero, suc, ◌+◌, Bool, true, false, IsTrue, inl, inr, Option, Some, None, Result, Ok, Err, List, [], ◌∷◌, ◌++◌, take, refl, sym, ap, subst, ◌∙◌, arith}
+use Rattle.std.proofs.Common.{◌<◌, ◌≤◌, length, ◌≡◌, ◌⊎◌, ℕ, zero, suc, ◌+◌, Bool, true, false, IsTrue, inl, inr, Option, Some, None, Result, Ok, Err, List, [], ◌∷◌, ◌++◌, take, All, refl, sym, ap, subst, ◌∙◌, arith}
 use Rattle.std.specs.Prelude.{OnOk}
 use Rattle.std.proofs.Math.Logic.{∥∥₁_elim, ∥∥₁_map}
 use Rattle.shipment_machine.proofs.Conserved.{is_conserved}
@@ -21,25 +21,33 @@ use Rattle.station_core.specs.Given.{Given}
 use Rattle.station_core.specs.declared.answer.Answer.{Answer}
 use Rattle.station_core.specs.declared.answer.ActFault.TheVariants as fault
 use Rattle.station_core.specs.declared.input.Input.{Input}
-use Rattle.station_core.specs.Keeping.{Keeping}
+use Rattle.station_core.specs.Keeping.{Keeping, KeepsSound}
 use Rattle.station_core.specs.Retries.{RetryEvent, World, after_events, world_after, ActsOnce, committed}
 use Rattle.station_core.specs.Step.{State, IsLawfulState, step, after_all}
 use Rattle.station_tables.specs.Attached.{connection_in}
 use Rattle.station_tables.specs.Called.{GoesOn, HasFound, HasReleased}
 use Rattle.station_tables.specs.Lives.{Life, AreCounted, AreLives, Counts, in_order, IsAfterLife, IsAfterLives}
 use Rattle.station_tables.specs.declared.fault.AttachFault.{AttachFault}
+use Rattle.station_tables.specs.declared.fault.AttachFault.TheVariants as attach
 use Rattle.station_tables.specs.declared.station.Station.{Station}
 use Rattle.stock_list.specs.declared.answer.RunFault.{RunFault}
 use Rattle.cli_words.specs.declared.line.LineCommand.{LineCommand}
 use Rattle.cli_run.specs.Done.{HasDone}
 use Rattle.cli_run.specs.Ends.{reached, Ends, Reached}
 use Rattle.cli_run.specs.Left.{station_fault, AsksAt, HasLeft}
-use Rattle.cli_run.specs.Place.{here_of}
+use Rattle.cli_run.specs.Place.{here_of, is_new}
 use Rattle.cli_call.specs.Closed.{HasClosed, IsCopiedTwice}
+use Rattle.cli_words.specs.declared.line.Line.{Line}
+use Rattle.desk_server.specs.Asked.{store_fault, HasServedInputs}
+use Rattle.desk_server.specs.Served.{Exchange, GoesOn as ServesOn, HaveServed}
+use Rattle.cli_call.specs.declared.closing.FileEnd.{FileEnd}
+use Rattle.cli_call.specs.declared.ended.DeskFault.{DeskFault}
+use Rattle.cli_call.specs.declared.ended.DeskFault.TheVariants as told
+use Rattle.cli_call.specs.Service.{HasEndedService, HasServedStation}
 use Rattle.cli_call.specs.Ended.{run_ended, status_of, HasNoStation}
 use Rattle.line_opening.specs.Opened.{HasOpened}
 use Rattle.cli_call.specs.Ran.{HasEndedCall, HasRunLine}
-use Rattle.cli_call.specs.OneFile.{life_events, may_hold, was_true, opened_by, AreCallsOn, AreEventsOf, AreLivesOf, AreVain, CallOn, HaveLed, IsAfterCalls, IsLifeOf, last_of, RunOn, VainOn}
+use Rattle.cli_call.specs.OneFile.{life_events, may_hold, was_true, opened_by, opened_in, AreCallsOn, AreEventsOf, AreInputsOf, AreLivesOf, AreVain, by_command, by_service, CallOn, DidOver, HaveLed, IsAfterCalls, IsLifeOf, last_of, NoneLost, RunOn, VainOn}
 
 abbrev Inputs : Type 0
 Inputs = List (Input × LocalMinute)
@@ -177,6 +185,38 @@ ends_well (Err e) inputs answered status ran is stays all low =
     let failed : 1 < ran = omega (arith, is) in
     absurd (omega (arith, low, stays failed, is))
 
+-- a service that ended well went on after each connection
+fault_status : (e : DeskFault) → 1 < status_of (Err e)
+fault_status told.Clock = omega arith
+fault_status (told.Run e) = omega arith
+fault_status (told.Attach attach.Store) = omega arith
+fault_status (told.Attach attach.Memory) = omega arith
+fault_status (told.Attach attach.NoStation) = omega arith
+fault_status (told.Attach attach.Occupied) = omega arith
+fault_status (told.Attach (attach.Version version)) = omega arith
+fault_status (told.Attach (attach.Unlawful table)) = omega arith
+
+went_on : (P : Type 0) (ended : Result Bool DeskFault) (status ran : ℕ) → ran ≡ status_of ended → (1 < ran → status ≡ ran) → OnOk ended P → status ≤ 1 → P
+went_on P (Ok good) status ran is stays all low = all
+went_on P (Err e) status ran is stays all low =
+    let failed : 1 < ran = omega (arith, is, fault_status e) in
+    absurd (omega (arith, low, stays failed, failed))
+
+-- what a service keeps of its premise
+kept_served : {K : Type 0} (k : Keeping K) (all : List Exchange) (old new : K) → HaveServed k all old new → KeepsSound k old new
+kept_served k [] old new same = record {
+  clean = λ clean. subst k.is_clean same clean;
+  still = λ sound clean. subst k.is_sound (sym same) sound;
+  sound = λ sound. subst k.is_sound same sound;
+}
+kept_served k (one ∷ all) old new (mid, before, goes, has) =
+    let first = kept_served k all old mid before in
+    record {
+      clean = λ clean. first.clean (has.premise.clean clean);
+      still = λ sound clean. has.premise.still (first.still sound (has.premise.clean clean)) clean;
+      sound = λ sound. first.sound (has.premise.sound sound);
+    }
+
 -- what a close leaves is what the connection could leave, for the next opening
 module _ {D : Type 0} {disk : Ghosts D} (stays : (it : FileStore D disk) → IsTrue (view it).is_open → recovers it (view it).committed) where
   record Closes (ran : Held (FileStore D disk)) (files : Result (Files D) (FileStore D disk)) : Type 0 where
@@ -207,35 +247,111 @@ module _ {D I W E : Type 0} {disk : Ghosts D} (k : Keeping (Station (FileStore D
     (lawful : (it : Station (FileStore D disk) over_files) (s : State) → k.is_sound it → k.may_find it (Some s) → IsLawfulState s)
     (left_of : (c : LineCommand) (here : List ℕ) (at : LocalMinute) (s : State) (old new : Station (FileStore D disk) over_files × Reached I W E) (r : Result Bool RunFault)
     → k.keeps old.0 s → k.is_broken old.0 ≡ false → k.is_sound new.0 → HasDone c here k e at old new r → HasLeft (AsksAt c at) s (k.may_find new.0) r)
+    (served_of : (all : List Exchange) (s : State) (old new : Station (FileStore D disk) over_files) → HaveServed k all old new → k.keeps old s → k.is_broken old ≡ false → k.is_sound new
+    → HasServedInputs all s (k.is_broken new) (k.may_find new))
     (goes_on : (last : Station (FileStore D disk) over_files) (ran other : Held (FileStore D disk)) (opened : Result (Station (FileStore D disk) over_files) (Held (FileStore D disk) × AttachFault))
     → k.is_sound last → HasReleased k last ran → conn.HasCleanDisk (state over_files ran) → (state over_files ran).may_leave (state over_files other).now.trees
     → HasFound over_files k other opened → GoesOn over_files k last opened) where
+  -- the exit status before the file was closed, and its connection
+  abbrev ran_in : {line : Line} {conn : Held (FileStore D disk)} {end : FileEnd D disk} → DidOver k e line conn end → ℕ × Held (FileStore D disk)
+  ran_in (by_command ran) = ran.has.ran
+  ran_in (by_service served) = served.has.ran
+
+  -- what a call leaves of its station, and the inputs that it answered there
+  record Lived {line : Line} {conn : Held (FileStore D disk)} {end : FileEnd D disk} (did : DidOver k e line conn end) (s : State) (last : Station (FileStore D disk) over_files) : Type 0 where
+    pub life : Life
+    pub asked : AreInputsOf did life.inputs
+    pub whole : end.status ≤ 1 → NoneLost did → (life.answered ≡ length life.inputs) × (life.ended ≡ None)
+    pub is : (found : State) → k.may_find last (Some found) → IsAfterLife s life found
+
+  record Ran {line : Line} {conn : Held (FileStore D disk)} {end : FileEnd D disk} (did : DidOver k e line conn end) (station : Station (FileStore D disk) over_files) : Type 0 where
+    pub last : Station (FileStore D disk) over_files
+    pub premise : KeepsSound k station last
+    pub released : HasReleased k last (ran_in did).1
+    pub lived : (s : State) → k.keeps station s → k.is_broken station ≡ false → k.is_sound last → Lived did s last
+
+  module _ (line : Line) (conn : Held (FileStore D disk)) (end : FileEnd D disk) where
+    found_in : (did : DidOver k e line conn end) → is_new line.db line.command ≡ false → (o : Result (Station (FileStore D disk) over_files) (Held (FileStore D disk) × AttachFault)) → opened_in did ≡ o → HasFound over_files k conn o
+    found_in (by_command ran) old o is =
+        let has = ran.has.called.called ran.runs in
+        subst (λ o. HasFound over_files k conn o) is (subst (λ new. HasOpened over_files k new conn (here_of line.station) has.opened) old has.opens)
+    found_in (by_service served) old o is =
+        let has = served.has.called in
+        subst (λ o. HasFound over_files k conn o) is (subst (λ new. HasOpened over_files k new conn (here_of line.station) has.opened) old has.opens)
+
+    closed_in : (did : DidOver k e line conn end) → was_true end.files → Closes stays (ran_in did).1 end.files
+    closed_in (by_command ran) honest = closes stays e.told ran.has.ran.1 _ _ end.files ran.has.closed honest
+    closed_in (by_service served) honest = closes stays e.told served.has.ran.1 _ _ end.files served.has.closed honest
+
+    -- a call that found no station returns the connection of its fault
+    vain_in : (did : DidOver k e line conn end) (none : Held (FileStore D disk) × AttachFault) → opened_in did ≡ Err none → (ran_in did).1 ≡ none.0
+    vain_in (by_command ran) none is =
+        let has = ran.has.called.called ran.runs in
+        let ended : HasNoStation e.told none ran.from ran.has.behind ran.has.ran = subst (λ o. HasEndedCall line k e ran.at o ran.from ran.has.behind ran.has.ran) is has.ended in
+        ended.conn
+    vain_in (by_service served) none is =
+        let has = served.has.called in
+        let ended : HasEndedService k (e.printed, e.told) served.count has.all has.is_declared (Err none) (served.from, served.has.behind) served.has.ran =
+        subst (λ o. HasEndedService k (e.printed, e.told) served.count has.all has.is_declared o (served.from, served.has.behind) served.has.ran) is has.ended in
+        ended.1.conn
+
+    ends_in : (did : DidOver k e line conn end) (station : Station (FileStore D disk) over_files) → opened_in did ≡ Ok station → Ran did station
+    ends_in (by_command ran) station is =
+        let has = ran.has.called.called ran.runs in
+        let run : HasRunLine line k e ran.at station ran.from ran.has.behind ran.has.ran = subst (λ o. HasEndedCall line k e ran.at o ran.from ran.has.behind ran.has.ran) is has.ended in
+        record {
+          last = run.last;
+          premise = run.ran.service.premise;
+          released = run.released;
+          lived = λ s kept works sound.
+              let left = left_of line.command (here_of line.station) ran.at s (station, ran.from) (run.last, reached ran.has.behind.reader ran.has.behind.output run.ran.between) run.ran.ended kept works sound run.ran.done in
+              record {
+                life = record { inputs = left.inputs; answered = left.answered; ended = station_fault run.ran.ended };
+                asked = left.asked;
+                whole = λ low none. ends_well run.ran.ended left.inputs left.answered end.status ran.has.ran.0 run.ran.told.status_is (λ more. ap (λ (p : ℕ × E). p.0) (ran.has.closed.stopped more).0) left.all low;
+                is = λ found may. left.left (Some found) may;
+              };
+        }
+    ends_in (by_service served) station is =
+        let has = served.has.called in
+        let run : HasServedStation k (e.printed, e.told) served.count has.all has.is_declared station (served.from, served.has.behind) served.has.ran =
+        subst (λ o. HasEndedService k (e.printed, e.told) served.count has.all has.is_declared o (served.from, served.has.behind) served.has.ran) is has.ended in
+        let heard = run.ran.listened in
+        record {
+          last = run.last;
+          premise = kept_served k has.all station run.last heard.served;
+          released = run.released;
+          lived = λ s kept works sound.
+              let left = served_of has.all s station run.last heard.served kept works sound in
+              record {
+                life = record { inputs = left.inputs; answered = left.answered; ended = store_fault (k.is_broken run.last) };
+                asked = left.asked;
+                whole = λ low none.
+                    let goes = went_on (All ServesOn has.all) run.ran.ended end.status served.has.ran.0 run.ran.status_is (λ more. ap (λ (p : ℕ × E). p.0) (served.has.closed.stopped more).0) heard.goes low in
+                    let works_on = left.works goes none in
+                    (left.whole works_on, ap store_fault works_on);
+                is = λ found may. left.left (Some found) may;
+              };
+        }
+
   -- what the opening of a call found, and what it came to
   found_as : (c : CallOn k e) (o : Result (Station (FileStore D disk) over_files) (Held (FileStore D disk) × AttachFault)) → opened_by c ≡ o → HasFound over_files k c.conn o
-  found_as c o is =
-      let has = c.has.called.called c.runs in
-      subst (λ o. HasFound over_files k c.conn o) is
-      (subst (λ new. HasOpened over_files k new c.conn (here_of c.line.station) has.opened) c.old has.opens)
-
-  ended_as : (c : CallOn k e) (o : Result (Station (FileStore D disk) over_files) (Held (FileStore D disk) × AttachFault)) → opened_by c ≡ o → HasEndedCall c.line k e c.at o c.from c.has.behind c.has.ran
-  ended_as c o is =
-      let has = c.has.called.called c.runs in
-      subst (λ o. HasEndedCall c.line k e c.at o c.from c.has.behind c.has.ran) is has.ended
+  found_as c o is = found_in c.line c.conn c.end c.did c.old o is
 
   found_by : (c : RunOn k e) → HasFound over_files k c.call.conn (Ok c.station)
   found_by c = found_as c.call (Ok c.station) c.found
 
-  ran_by : (c : RunOn k e) → HasRunLine c.call.line k e c.call.at c.station c.call.from c.call.has.behind c.call.has.ran
-  ran_by c = ended_as c.call (Ok c.station) c.found
+  ends_by : (c : RunOn k e) → Ran c.call.did c.station
+  ends_by c = ends_in c.call.line c.call.conn c.call.end c.call.did c.station c.found
 
-  closed_by : (c : CallOn k e) → was_true c.end.files → Closes stays c.has.ran.1 c.end.files
-  closed_by c honest = closes stays e.told c.has.ran.1 _ _ c.end.files c.has.closed honest
+  closed_by : (c : CallOn k e) → was_true c.end.files → Closes stays (ran_in c.did).1 c.end.files
+  closed_by c honest = closed_in c.line c.conn c.end c.did honest
 
-  last_clean : (c : RunOn k e) → was_true c.call.end.files → k.is_clean (ran_by c).last
-  last_clean c honest = clean_is _ ((ran_by c).released.clean (closed_by c.call honest).clean)
+  last_clean : (c : RunOn k e) → was_true c.call.end.files → k.is_clean (ends_by c).last
+  last_clean c honest = clean_is _ ((ends_by c).released.clean (closed_by c.call honest).clean)
 
   station_clean : (c : RunOn k e) → was_true c.call.end.files → conn.HasCleanDisk (state over_files (connection_in c.station))
-  station_clean c honest = clean_was _ ((ran_by c).ran.service.premise.clean (last_clean c honest))
+  station_clean c honest = clean_was _ ((ends_by c).premise.clean (last_clean c honest))
 
   -- files that hold this have only what a connection could leave
   abbrev Has : Held (FileStore D disk) → Image → Type 0
@@ -245,12 +361,12 @@ module _ {D I W E : Type 0} {disk : Ghosts D} (k : Keeping (Station (FileStore D
   finds_by c = record { holds = c.finds.holds; reads = c.finds.reads }
 
   -- a vain call leaves what it found
-  vain_leaves : (v : VainOn k e) → was_true v.call.end.files → (db : Trees) → recovers v.call.has.ran.1.store db → db ≡ (file_state v.call.conn).committed.trees
+  vain_leaves : (v : VainOn k e) → was_true v.call.end.files → (db : Trees) → recovers (ran_in v.call.did).1.store db → db ≡ (file_state v.call.conn).committed.trees
   vain_leaves v honest db may =
-      let ended : HasNoStation e.told v.none v.call.from v.call.has.behind v.call.has.ran = ended_as v.call (Err v.none) v.found in
+      let same = vain_in v.call.line v.call.conn v.call.end v.call.did v.none v.found in
       let found = found_as v.call (Err v.none) v.found in
-      let clean = subst (λ (c : Held (FileStore D disk)). conn.HasCleanDisk (file_state c)) ended.conn (closed_by v.call honest).clean in
-      let there = subst (λ (c : Held (FileStore D disk)). recovers c.store db) ended.conn may in
+      let clean = subst (λ (c : Held (FileStore D disk)). conn.HasCleanDisk (file_state c)) same (closed_by v.call honest).clean in
+      let there = subst (λ (c : Held (FileStore D disk)). recovers c.store db) same may in
       settles v.call.conn.store db v.call.opens.is_open (either (found.unwritten_at_err.crash clean db there))
 
   through : (ran : Held (FileStore D disk)) (from : Result (Files D) (FileStore D disk)) (vs : List (VainOn k e)) (image : Image) → ((i : Image) → may_hold from i → Has ran i) → AreVain from vs image → Has ran image
@@ -271,14 +387,15 @@ module _ {D I W E : Type 0} {disk : Ghosts D} (k : Keeping (Station (FileStore D
 
   next : (s : State) (c d : RunOn k e) (vs : List (VainOn k e)) → k.keeps c.station s → k.is_sound c.station → was_true c.call.end.files → AreVain c.call.end.files vs (image_of disk d.call.files) → was_true d.call.end.files → ∥ Next s c d ∥₁
   next s c d vs kept sound honest may honest_d =
-      let run = ran_by c in
-      let last_sound = run.ran.service.premise.still sound (last_clean c honest) in
+      let run = ends_by c in
+      let ran = ran_in c.call.did in
+      let last_sound = run.premise.still sound (last_clean c honest) in
       let found = found_by c in
-      let left = left_of c.call.line.command (here_of c.call.line.station) c.call.at s (c.station, c.call.from) (run.last, reached c.call.has.behind.reader c.call.has.behind.output run.ran.between) run.ran.ended kept found.works last_sound run.ran.done in
+      let lived = run.lived s kept found.works last_sound in
       let closed = closed_by c.call honest in
-      ∥∥₁_map (through c.call.has.ran.1 c.call.end.files vs (image_of disk d.call.files) closed.next may d.call.conn (finds_by d.call)) (λ may_leave.
-      let shown = subst (λ (db : Database). recovers c.call.has.ran.1.store db.trees) (sym d.call.opens.clean) may_leave in
-      let on = goes_on run.last c.call.has.ran.1 d.call.conn (Ok d.station) last_sound run.released closed.clean shown (found_by d) in
+      ∥∥₁_map (through ran.1 c.call.end.files vs (image_of disk d.call.files) closed.next may d.call.conn (finds_by d.call)) (λ may_leave.
+      let shown = subst (λ (db : Database). recovers ran.1.store db.trees) (sym d.call.opens.clean) may_leave in
+      let on = goes_on run.last ran.1 d.call.conn (Ok d.station) last_sound run.released closed.clean shown (found_by d) in
       let clean = station_clean d honest_d in
       let it = on.found clean in
       record {
@@ -286,12 +403,9 @@ module _ {D I W E : Type 0} {disk : Ghosts D} (k : Keeping (Station (FileStore D
         kept = it.2;
         sound = on.sound clean;
         law = lawful run.last it.0 last_sound it.1;
-        life = record { inputs = left.inputs; answered = left.answered; ended = station_fault run.ran.ended };
-        of = record {
-          asked = left.asked;
-          whole = ends_well run.ran.ended left.inputs left.answered c.call.end.status c.call.has.ran.0 run.ran.told.status_is (λ more. ap (λ (p : ℕ × E). p.0) (c.call.has.closed.stopped more).0) left.all;
-        };
-        is = left.left (Some it.0) it.1;
+        life = lived.life;
+        of = record { asked = lived.asked; whole = lived.whole };
+        is = lived.is it.0 it.1;
       })
 
   record Chain (s : State) (c : RunOn k e) (ds : List (List (VainOn k e) × RunOn k e)) : Type 0 where

@@ -4,4 +4,5 @@ pub mod Leaving
 pub mod Migrated
 pub mod OneFile
 pub mod Ran
+pub mod Service
 pub mod Version

@@ -1,5 +1,5 @@
 -- Calls of the program over one file, one after another.
-use Rattle.std.specs.Prelude.{◌≤◌, ◌≡◌, ℕ, zero, suc, Bool, true, false, IsTrue, Result, Ok, Err, Some, None, length, List, [], ◌∷◌, ◌++◌}
+use Rattle.std.specs.Prelude.{◌≤◌, ◌≡◌, ℕ, zero, suc, Bool, true, false, IsTrue, Result, Ok, Err, Option, Some, None, length, List, [], ◌∷◌, ◌++◌, All}
 use Rattle.std.specs.List.{AllByRecursion}
 use Rattle.sqlite.specs.Files.{file_state, image_of, over_files, Finds, IsClosed}
 use Rattle.sqlite.specs.Held.{Held}
@@ -26,7 +26,9 @@ use Rattle.cli_run.specs.Ends.{Ends, Reached}
 use Rattle.cli_run.specs.Left.{AsksAt}
 use Rattle.cli_run.specs.Place.{is_migration, is_new}
 use Rattle.cli_call.specs.declared.closing.FileEnd.{FileEnd}
+use Rattle.desk_server.specs.Asked.{AreAskedBy, WasWritten}
 use Rattle.cli_call.specs.Closed.{HasCalledFile, HasClosed, IsCopiedTwice}
+use Rattle.cli_call.specs.Service.{HasServedFile}
 
 module _ {D : Type 0} {disk : Ghosts D} where
   -- the disk is clean; a store whose log wasn't copied was opened by the list of its trees
@@ -39,29 +41,65 @@ module _ {D : Type 0} {disk : Ghosts D} where
   may_hold (Ok files) image = outcomes disk files.log files.db image
   may_hold (Err it) image = (store.state it).may_leave image
 
+module _ {D I W E : Type 0} {disk : Ghosts D} (k : Keeping (Station (FileStore D disk) over_files)) (e : Ends I W E)
+    (line : Line) (conn : Held (FileStore D disk)) (end : FileEnd D disk) where
+  -- a command line ran over a connection to a file, which was then closed
+  pub record RanOver : Type 0 where
+    pub at : LocalMinute
+    pub from : Reached I W E
+    pub to : Reached I W E
+    pub has : HasCalledFile (λ ran. HasClosed disk (IsCopiedTwice ran) (IsClosed ran) e.told) line k e at conn (from, to) end
+    pub runs : is_migration line.command ≡ false
+
+  -- connections were served over a connection to a file, which was then closed
+  pub record ServedOver : Type 0 where
+    pub count : Option ℕ
+    pub from : W × E
+    pub to : W × E
+    pub has : HasServedFile (λ ran. HasClosed disk (IsCopiedTwice ran) (IsClosed ran) e.told) line k (e.printed, e.told) count conn (from, to) end
+
+  -- one of the two
+  pub data DidOver : Type 0 where
+    by_command : RanOver → DidOver
+    by_service : ServedOver → DidOver
+
+module _ {D I W E : Type 0} {disk : Ghosts D} {k : Keeping (Station (FileStore D disk) over_files)} {e : Ends I W E}
+    {line : Line} {conn : Held (FileStore D disk)} {end : FileEnd D disk} where
+  -- the result of the opening
+  abbrev pub opened_in : DidOver k e line conn end → Result (Station (FileStore D disk) over_files) (Held (FileStore D disk) × AttachFault)
+  opened_in (by_command ran) = (ran.has.called.called ran.runs).opened
+  opened_in (by_service served) = served.has.called.opened
+
+  -- the inputs are those of the command, at its moment; or those of the connections that were
+  -- served, each at its moment, in their order
+  abbrev pub AreInputsOf : DidOver k e line conn end → List (Input × LocalMinute) → Type 0
+  AreInputsOf (by_command ran) inputs = AllByRecursion (AsksAt line.command ran.at) inputs
+  AreInputsOf (by_service served) inputs = AreAskedBy served.has.called.all inputs
+
+  -- no write of a service's answer failed
+  abbrev pub NoneLost : DidOver k e line conn end → Type 0
+  NoneLost (by_command ran) = Unit {0}
+  NoneLost (by_service served) = All WasWritten served.has.called.all
+
 module _ {D I W E : Type 0} {disk : Ghosts D} where
-  -- A call of the program: it opened two files, ran a command line over them, and closed them. Any
-  -- fault may have ended it.
+  -- A call of the program: it opened two files, ran a command line over them or served, and closed
+  -- them. Any fault may have ended it.
   pub record CallOn (k : Keeping (Station (FileStore D disk) over_files)) (e : Ends I W E) : Type 0 where
     pub files : Files D
     pub conn : Held (FileStore D disk)
     pub opens : Opens (file_state conn)
     pub finds : Finds files conn
     pub line : Line
-    pub at : LocalMinute
-    pub from : Reached I W E
-    pub to : Reached I W E
-    pub end : FileEnd D disk
-    pub has : HasCalledFile (λ ran. HasClosed disk (IsCopiedTwice ran) (IsClosed ran) e.told) line k e at conn (from, to) end
-    pub runs : is_migration line.command ≡ false
     pub old : is_new line.db line.command ≡ false
+    pub end : FileEnd D disk
+    pub did : DidOver k e line conn end
 
   -- the result of its opening
   abbrev pub opened_by : {k : Keeping (Station (FileStore D disk) over_files)} {e : Ends I W E} → CallOn k e
       → Result (Station (FileStore D disk) over_files) (Held (FileStore D disk) × AttachFault)
-  opened_by call = (call.has.called.called call.runs).opened
+  opened_by call = opened_in call.did
 
-  -- a call that found a station, and ran its command there
+  -- a call that found a station, and ran its command or served there
   pub record RunOn (k : Keeping (Station (FileStore D disk) over_files)) (e : Ends I W E) : Type 0 where
     pub call : CallOn k e
     pub station : Station (FileStore D disk) over_files
@@ -91,11 +129,12 @@ module _ {D I W E : Type 0} {disk : Ghosts D} where
     last_of c [] = c
     last_of c (d ∷ ds) = last_of d.1 ds
 
-    -- The inputs of a life are those of its call's command. A call that succeeded answered all of
-    -- them.
+    -- The inputs of a life are those of its call. A call that succeeded answered all of them; a
+    -- service did if no write of an answer failed.
     pub record IsLifeOf (c : RunOn k e) (life : Life) : Type 0 where
-      pub asked : AllByRecursion (AsksAt c.call.line.command c.call.at) life.inputs
-      pub whole : c.call.end.status ≤ 1 → (life.answered ≡ length life.inputs) × (life.ended ≡ None)
+      pub asked : AreInputsOf c.call.did life.inputs
+      pub whole : c.call.end.status ≤ 1 → NoneLost c.call.did
+          → (life.answered ≡ length life.inputs) × (life.ended ≡ None)
 
     -- the lives of the calls except the last one
     abbrev pub AreLivesOf : RunOn k e → List (List (VainOn k e) × RunOn k e) → List Life → Type 0

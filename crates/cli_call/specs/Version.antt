@@ -2,7 +2,7 @@
 use Rattle.std.specs.Prelude.{ℕ, List, [], ◌++◌, codes}
 use Rattle.std.specs.Fmt.{signed_decimal}
 use Rattle.station_schema.specs.Calls.{new_station}
-use Rattle.cli_words.specs.Version.{program_version}
+use Rattle.reports.specs.Version.{program_version}
 
 -- the kit with which the program is proved
 abbrev pub kit : List ℕ

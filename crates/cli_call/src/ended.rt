@@ -1,15 +1,21 @@
 //! The exit status of a call, and its fault line.
-ghost use Rattle.std.specs.Prelude.{◌≡◌, ◌++◌, ◌∷◌, [], IfErr, OnOk};
+ghost use Rattle.std.specs.Prelude.{◌≡◌, IfErr, OnOk};
 ghost use Rattle.cli_call.specs.Ended.{attach_status, run_ended, run_line, status_of, HasNoStation, HasTold, HasToldEnd};
 ghost use Rattle.cli_run.specs.Ends.{reached};
-ghost use Rattle.station_core.specs.Ends.{SendsLine};
+ghost use Rattle.cli_call.specs.Service.{HasWarned};
 
-use cli_run::{send_part, send_word};
+use cli_run::{tell_line, tell_word};
+use cli_words::Line;
 use itoa::Buffer;
 use sqlite::{Alter, Connection};
 use station_core::ByteOut;
 use station_tables::AttachFault;
 use stock_list::RunFault;
+
+/// The warning about a file whose tables aren't declared as `init` declares them.
+const UNDECLARED: &str =
+    ": init declares the tables otherwise, so the promises about a power failure aren't proved \
+    for this file; copy its rows into a new one";
 
 /// The reason why a call broke off.
 #[derive(Clone, Copy)]
@@ -42,25 +48,12 @@ fn run_line(fault: RunFault) -> &'static str
     }
 }
 
-/// Writes a line, or as much of it as the writer takes. A failure can't be reported anywhere.
-fn tell_line<E: ByteOut>(errors: &mut E, line: &str)
-    ensures { SendsLine line.now (E.taken errors.old) (E.taken errors.new) }
+/// Writes that the tables of a command line's file aren't declared as `init` declares them.
+pub fn tell_undeclared<E: ByteOut>(errors: &mut E, line: &Line<'_>)
+    ensures { HasWarned (E.taken errors.old) (E.taken errors.new) }
 {
-    match send_part(errors, line.as_bytes()) {
-        Ok(()) => {}
-        Err(_unreported) => {}
-    }
-}
-
-/// Writes a line of a head and a word in the same way.
-fn tell_word<E: ByteOut>(errors: &mut E, head: &str, word: &str)
-    ensures { SendsLine (head.now ++ word.now ++ 10 ∷ []) (E.taken errors.old)
-        (E.taken errors.new) }
-{
-    match send_word(errors, head, word.as_bytes()) {
-        Ok(()) => {}
-        Err(_unreported) => {}
-    }
+    let path = line.db.unwrap_or("");
+    tell_word(errors, path, UNDECLARED);
 }
 
 /// Writes the reason why there is no station.

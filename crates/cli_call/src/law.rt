@@ -2,10 +2,11 @@
 ghost use Rattle.std.specs.Prelude.{List};
 ghost use Rattle.station_core.specs.Step.{State, IsLawfulState};
 ghost use Rattle.cli_run.specs.Ends.{ends};
-ghost use Rattle.cli_call.specs.Leaving.{LeavesInputs};
+ghost use Rattle.cli_call.specs.Leaving.{LeavesInputs, LeavesServed};
 ghost use Rattle.cli_call.specs.OneFile.{AreCallsOn, HaveLed, RunOn, VainOn};
 
 use cli_run::{Inputs, left_law};
+use desk_server::served_law;
 use sqlite::{Alter, FileStore};
 use sqlite_disk::Disk;
 use station_core::laws::retry_law;
@@ -22,7 +23,15 @@ fn left_over_store<S: Alter, I: Inputs + Read, W: ByteOut, E: ByteOut>()
     left_law::<Station<S>, I, W, E>();
 }
 
-/// After any number of calls over one file, including vain ones, each of which finds in the files
+/// [`served_law`] of a station over any store.
+fn served_over_store<S: Alter>()
+    ensures { LeavesServed ⟦<Station<S> as Keeper>⟧.keeping }
+{
+    served_law::<Station<S>>();
+}
+
+/// After any number of calls over one file, of commands and of services, and including vain ones,
+/// each of which finds in the files
 /// what the one before it may have left there, the last call's station has the state after every
 /// input that was answered and, for each call whose store failed, perhaps one more. There the
 /// pieces and the tenths are conserved, and each accepted input acted once.
@@ -39,6 +48,7 @@ pub fn calls_over_file_law<D: Disk + Drop, I: Inputs + Read, W: ByteOut, E: Byte
         → AreCallsOn run runs → ∥ HaveLed first run runs ∥₁ }
 {
     left_over_store::<FileStore<D>, I, W, E>();
+    served_over_store::<FileStore<D>>();
     next_call_law::<FileStore<D>>();
     retry_law();
 }

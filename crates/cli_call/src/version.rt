@@ -1,17 +1,9 @@
 //! The output of `--version`.
-ghost use Rattle.std.specs.Prelude.{◌≡◌, [], IfOk, pos, string_bytes};
-ghost use Rattle.station_schema.specs.Calls.{new_station};
+ghost use Rattle.std.specs.Prelude.{◌≡◌, IfOk, string_bytes};
 ghost use Rattle.cli_call.specs.Version.{kit, version_line};
 
-use cli_words::program_version;
+use reports::{file_version, program_version};
 use std::alloc::{AllocError, Global};
-
-/// Returns the version of the files that the program makes and opens.
-fn file_version() -> u32
-    ensures { pos result ≡ (new_station []).version }
-{
-    2
-}
 
 /// Returns the kit with which the program is proved, as `rt version` names it.
 fn kit() -> &'static str

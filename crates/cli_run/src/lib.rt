@@ -36,6 +36,6 @@ pub use place::{airport_of_line, is_migration, is_opening};
 pub use rows::answer_list;
 pub use run::run_over;
 pub use seen::run_read;
-pub use sent::{send_part, send_word};
+pub use sent::{send_part, send_word, tell_line, tell_word};
 pub use takes::answer_takes;
 pub use telling::tell_refusal;

@@ -1,6 +1,6 @@
 //! Lines written in parts.
 ghost use Rattle.std.specs.Prelude.{◌≡◌, ◌++◌, ◌∷◌, [], IfErr, OnErr, OnOk};
-ghost use Rattle.station_core.specs.Ends.{HasCause, HasSent};
+ghost use Rattle.station_core.specs.Ends.{HasCause, HasSent, SendsLine};
 ghost use Rattle.stock_list.specs.Ended.{IsUntroubled};
 
 use station_core::{ByteOut, send};
@@ -39,4 +39,25 @@ pub fn send_word<W: ByteOut>(writer: &mut W, head: &str, word: &[u8]) -> Result<
     send_part(writer, head.as_bytes())?;
     send_part(writer, word)?;
     send_part(writer, b"\n")
+}
+
+/// Writes a line, or as much of it as the writer takes. A failure can't be reported anywhere.
+pub fn tell_line<E: ByteOut>(errors: &mut E, line: &str)
+    ensures { SendsLine line.now (E.taken errors.old) (E.taken errors.new) }
+{
+    match send_part(errors, line.as_bytes()) {
+        Ok(()) => {}
+        Err(_unreported) => {}
+    }
+}
+
+/// Writes a line of a head and a word in the same way.
+pub fn tell_word<E: ByteOut>(errors: &mut E, head: &str, word: &str)
+    ensures { SendsLine (head.now ++ word.now ++ 10 ∷ []) (E.taken errors.old)
+        (E.taken errors.new) }
+{
+    match send_word(errors, head, word.as_bytes()) {
+        Ok(()) => {}
+        Err(_unreported) => {}
+    }
 }

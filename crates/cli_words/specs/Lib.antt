@@ -1,4 +1,3 @@
 pub mod Line
 pub mod Listed
 pub mod Number
-pub mod Version

@@ -210,10 +210,11 @@ Example:
   cargo_desk --db fra.db holder 020-12345675";
 
 pub(crate) const GLANCE: &str =
-    "Prints the airport, and the numbers of the last move, trail line and message";
+    "Prints the airport, the numbers of the last move, trail line and message, and the versions";
 
 pub(crate) const GLANCE_EXAMPLES: &str = "\
-The same as `report station`: `FRA moves 3 trail 0 messages 4 confirmed 3`, and `END 1`.
+The same as `report station`, one line and `END 1`:
+`FRA moves 3 trail 0 messages 4 confirmed 3 program 1.0.0 files 2`.
 
 Example:
   cargo_desk --db fra.db station";

@@ -9,10 +9,8 @@ mod number;
 mod part;
 mod read;
 mod refusals;
-mod version;
 mod words;
 
 pub use fault::{WordsFault, usage_fault};
 pub use line::{Line, LineCommand};
 pub use read::parse_words;
-pub use version::program_version;

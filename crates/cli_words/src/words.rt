@@ -3,10 +3,10 @@
 use crate::commands::{COMMANDS, CommandWords, Given, KEY, OPTIONS, Takes, Word};
 use crate::fault::{WordsFault, usage_fault};
 use crate::help;
-use crate::version::program_version;
 use clap::error::ErrorKind;
 use clap::{Arg, ArgAction, ArgMatches, Command, Error};
 use desk_commands::{VERBS, Verb};
+use reports::program_version;
 use std::alloc::{AllocError, Global};
 use std::convert::AsStr;
 

@@ -5,7 +5,7 @@ ghost use Rattle.desk_client.specs.Status.{fault_line, fault_text, fault_why, la
 
 use crate::ask::AskFault;
 use crate::connect::LastTry;
-use cli_run::{send_part, send_word};
+use cli_run::{send_part, tell_line, tell_word};
 use itoa::Buffer;
 use station_core::ByteOut;
 use stock_list::RunFault;
@@ -75,27 +75,6 @@ fn status_of(ended: Result<bool, RunFault>) -> u8
         Ok(true) => 0,
         Ok(false) => 1,
         Err(_) => 3,
-    }
-}
-
-/// Writes a line, or as much of it as the writer takes. A failure can't be reported anywhere.
-fn tell_line<E: ByteOut>(errors: &mut E, line: &str)
-    ensures { SendsLine line.now (E.taken errors.old) (E.taken errors.new) }
-{
-    match send_part(errors, line.as_bytes()) {
-        Ok(()) => {}
-        Err(_unreported) => {}
-    }
-}
-
-/// Writes a line of a head and a word in the same way.
-fn tell_word<E: ByteOut>(errors: &mut E, head: &str, word: &str)
-    ensures { SendsLine (head.now ++ word.now ++ 10 ∷ []) (E.taken errors.old)
-        (E.taken errors.new) }
-{
-    match send_word(errors, head, word.as_bytes()) {
-        Ok(()) => {}
-        Err(_unreported) => {}
     }
 }
 

@@ -1,2 +1,4 @@
-mod Serving
+mod HeadFound
 mod Instants
+mod ServedInputs
+mod Serving

@@ -1,28 +1,25 @@
 -- Connections that were served, one after another.
-use Rattle.std.proofs.Common.{◌≡◌, ◌≤◌, ◌+◌, refl, ℕ, false, Option, Some, None, MatchOption, List, [], ◌∷◌, ◌++◌, length, All, subst, sym, arith}
+use Rattle.std.proofs.Common.{◌≡◌, ◌≤◌, ◌+◌, refl, ℕ, Option, Some, None, MatchOption, IfOk, List, [], ◌∷◌, ◌++◌, length, All, subst, sym, arith}
 use Rattle.std.specs.Prelude.{⊤}
 use Rattle.std.proofs.lemmas.List.{length-append}
 use Rattle.std.proofs.lemmas.List.Elements.{All-nil, All-cons, All-append}
-use Rattle.station_days.specs.Date.{LocalMinute}
 use Rattle.station_core.specs.Given.{Given, nothing_given}
-use Rattle.station_core.specs.Keeping.{Keeping, KeepsSound, StaysIfBroken}
-use Rattle.station_core.specs.Step.{State}
+use Rattle.station_core.specs.Keeping.{Keeping, IfWorks, KeepsSound, StaysIfBroken}
 use Rattle.http_desk.specs.StationAfter.{station_after}
 use Rattle.http_desk.specs.Serving.{HasServed}
-use Rattle.desk_server.specs.Served.{AtMost, End, GoesOn, HasServedOne, HaveServed}
+use Rattle.desk_server.specs.Served.{AtMost, Exchange, GoesOn, HasServedOne, HaveServed}
 
--- over ends that were fresh
-pub served_fresh : {K : Type 0} (k : Keeping K) (at : LocalMinute) (old new : K) (came : List ℕ) (sent_old sent : Given)
-    (ended : End) → sent_old ≡ nothing_given
-    → ((s : State) → k.keeps old s → k.is_broken old ≡ false → k.is_sound new
-    → HasServed s at came sent_old sent (station_after k new) ended)
+-- over a writer that was fresh
+pub served_fresh : {K : Type 0} (k : Keeping K) (one : Exchange) (old new : K) (sent_old sent : Given) → sent_old ≡ nothing_given
+    → IfWorks k old new (λ s. HasServed s one.at one.came sent_old sent (station_after k new) one.end)
+    → IfWorks k old new (λ s. IfOk one.end (λ served. served.reopen ≡ k.is_broken new))
     → StaysIfBroken k old new → KeepsSound k old new
-    → HasServedOne k at ended old new
-served_fresh k at old new came sent_old sent ended none_sent served same premise = record {
-  came = came;
+    → HasServedOne k one old new
+served_fresh k one old new sent_old sent none_sent served told same premise = record {
   sent = sent;
   served = λ s kept works good.
-      subst (λ given. HasServed s at came given sent (station_after k new) ended) none_sent (served s kept works good);
+      subst (λ given. HasServed s one.at one.came given sent (station_after k new) one.end) none_sent (served s kept works good);
+  told = told;
   same = same;
   premise = premise;
 }
@@ -34,18 +31,18 @@ pub none : {K : Type 0} (k : Keeping K) (most : ℕ) (is_good : Type 0) (old new
 none k most is_good old new same = ([], same, omega arith, λ good. All-nil GoesOn)
 
 -- one was served
-pub one : {K : Type 0} (k : Keeping K) (at : LocalMinute) (ended : End) (is_good : Type 0) (old new : K)
-    → HasServedOne k at ended old new
-    → (is_good → GoesOn ended)
+pub one : {K : Type 0} (k : Keeping K) (last : Exchange) (is_good : Type 0) (old new : K)
+    → HasServedOne k last old new
+    → (is_good → GoesOn last)
     → AtMost k 1 is_good old new
-one k at ended is_good old new served goes = (
-  ended ∷ [],
-  (old, refl, All-nil GoesOn, (at, served)),
+one k last is_good old new served goes = (
+  last ∷ [],
+  (old, refl, All-nil GoesOn, served),
   omega arith,
-  λ good. All-cons GoesOn ended [] (goes good) (All-nil GoesOn),
+  λ good. All-cons GoesOn last [] (goes good) (All-nil GoesOn),
 )
 
-joined : {K : Type 0} (k : Keeping K) (first more : List End) (old mid new : K)
+joined : {K : Type 0} (k : Keeping K) (first more : List Exchange) (old mid new : K)
     → HaveServed k first old mid
     → All GoesOn first
     → HaveServed k more mid new
@@ -79,7 +76,7 @@ wider k a b is_good is_better old new low better (ends, served, few, goes) =
 pub counted : {K : Type 0} (k : Keeping K) (most : ℕ) (count : Option ℕ) (is_good : Type 0) (old new : K)
     → AtMost k most is_good old new
     → MatchOption count ⊤ (λ c. most ≡ c)
-    → (ends : List End) × HaveServed k ends old new × MatchOption count ⊤ (λ c. length ends ≤ c)
-    × (is_good → All GoesOn ends)
+    → (all : List Exchange) × HaveServed k all old new × MatchOption count ⊤ (λ c. length all ≤ c)
+    × (is_good → All GoesOn all)
 counted k most None is_good old new (ends, served, few, goes) is = (ends, served, tt, goes)
 counted k most (Some c) is_good old new (ends, served, few, goes) is = (ends, served, omega (arith, few, is), goes)

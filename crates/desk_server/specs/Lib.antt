@@ -1,2 +1,3 @@
 pub mod Served
+pub mod Asked
 pub mod Clock

@@ -1,6 +1,6 @@
 //! Connections, which are read side by side and answered one after another.
-ghost use Rattle.std.specs.Prelude.{◌≡◌, ◌≤◌, ⊤, false, Ok, Err, IfOk, IsOk, MatchOption, length, List, All};
-ghost use Rattle.desk_server.specs.Served.{AtMost, End, GoesOn, HasExplained, HasServedOne, HaveServed};
+ghost use Rattle.std.specs.Prelude.{◌≡◌, ◌≤◌, ℕ, ⊤, false, Ok, Err, IfOk, IsOk, MatchOption, length, List, All};
+ghost use Rattle.desk_server.specs.Served.{AtMost, Exchange, GoesOn, HasExplained, HasServedOne, HaveServed};
 
 use crate::connections::Connections;
 use crate::held::{Arrival, Held};
@@ -61,7 +61,8 @@ fn answer<C: Clock, K: Keeper>(
     held: &Held,
     at: Moment,
 ) -> Result<Served, ServeFault>
-    ensures served { HasServedOne K.keeping at result keeper.old keeper.new }
+    ensures served { (came : List ℕ) × HasServedOne K.keeping
+        (record { at = at; came = came; end = result }) keeper.old keeper.new }
     // Nothing was written or changed before the request is whole.
     ensures unread { result ≡ Err ServeFault.Read → keeper.new ≡ keeper.old }
 {
@@ -194,8 +195,8 @@ pub fn serve<N: Net, C: Clock, K: Keeper, E: ByteOut>(
 ) -> Result<(), ServerFault>
     // The station changes by what its connections ask, at most so many, and by nothing else. An
     // answer that the station has to be opened again ends the service, with a fault.
-    ensures { (ends : List End) × HaveServed K.keeping ends keeper.old keeper.new × MatchOption
-        count ⊤ (λ most. length ends ≤ most) × (IsOk result → All GoesOn ends) }
+    ensures { (all : List Exchange) × HaveServed K.keeping all keeper.old keeper.new × MatchOption
+        count ⊤ (λ most. length all ≤ most) × (IsOk result → All GoesOn all) }
 {
     let most = most_of(count);
     let mut connections = Connections::new(net, setting.alloc, listener)?;

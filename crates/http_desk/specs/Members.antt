@@ -4,7 +4,8 @@ use Rattle.serde_json.specs.Data.{boolean, string}
 use Rattle.serde_json.specs.Written.{compact_text}
 use Rattle.awb_number.specs.Number.{number_text}
 use Rattle.station_core.specs.declared.rows.Waybill.{Waybill}
-use Rattle.http_desk.specs.Reply.{pair_data, since_text}
+use Rattle.reports.specs.Objects.{since_text}
+use Rattle.http_desk.specs.Reply.{pair_data}
 
 abbrev pub first_members : ℕ → Waybill → List ℕ
 first_members w known =

@@ -4,21 +4,18 @@ ghost use Rattle.http.specs.StatusCode.{IsStatusCode};
 ghost use Rattle.serde_json.specs.View.{view};
 ghost use Rattle.serde_json.specs.Written.{compact_text};
 ghost use Rattle.http_desk.specs.Request.{good_data, bad_data};
-ghost use Rattle.http_desk.specs.Reply.{status_line, allow_line, json_fields, json_answer, media_type, report_head, refused_data, pair_data, holding_data, holder_data, since_text, waybill_data};
-ghost use Rattle.reports.specs.Objects.{holder_word, holder_name};
+ghost use Rattle.http_desk.specs.Reply.{status_line, allow_line, json_fields, json_answer, media_type, report_head, refused_data, pair_data, holding_data, holder_data, waybill_data};
 ghost use Rattle.serde_json.specs.Data.{boolean, string};
 ghost use Rattle.http_desk.specs.Members.{first_members, second_members, third_members, stored_members, last_members};
 
 use crate::printout::Printout;
 use agent_stock::Holder;
 use awb_number::{Awb, ascii_text};
-use desk_commands::day_text;
 use http::StatusCode;
-use reports::Form;
+use reports::{Form, holder_name, holder_word, since_text};
 use serde_json::{Value, json};
 use shipment_machine::Amount;
 use station_core::Waybill;
-use station_days::LocalDay;
 use std::alloc::{AllocError, Global};
 
 /// Returns a line such as `HTTP/1.1 409 Conflict`.
@@ -103,26 +100,6 @@ pub(crate) fn bad_text(alloc: Global, reason: &str) -> Result<String, AllocError
     json!(in alloc; {"good": false, "reason": reason})?.to_string(alloc)
 }
 
-fn holder_word(holder: &Holder) -> &'static str
-    ensures { result.now ≡ holder_word holder.now }
-{
-    match holder {
-        Holder::Desk => "desk",
-        Holder::Agent(_) => "agent",
-        Holder::Used => "used",
-        Holder::Void => "void",
-    }
-}
-
-fn holder_name(holder: &Holder) -> &str
-    ensures { result.now ≡ holder_name holder.now }
-{
-    match holder {
-        Holder::Agent(code) => code.as_str(),
-        _ => "",
-    }
-}
-
 fn holding_text(alloc: Global, awb: &str, holder: &str, name: &str) -> Result<String, AllocError>
     ensures { IfOk result (λ text. string_bytes text ≡ compact_text
         (holding_data awb.now holder.now name.now)) }
@@ -205,26 +182,6 @@ fn third_members(alloc: Global, known: &Waybill) -> Result<String, AllocError>
     format!(in alloc; "\"missing\":{missing},\"notified\":{notified},\"origin\":{origin},")
 }
 
-fn since_text(alloc: Global, since: Option<LocalDay>) -> Result<String, AllocError>
-    ensures { IfOk result (λ text. string_bytes text ≡ since_text since) }
-{
-    match since {
-        Some(day) => {
-            let day = day_text(day);
-            let day = ascii_text(&day);
-            format!(in alloc; "{day}")
-        }
-        None => Ok(String::new(alloc)),
-    }
-}
-
-fn quoted_day(alloc: Global, since: Option<LocalDay>) -> Result<String, AllocError>
-    ensures { IfOk result (λ text. string_bytes text ≡ compact_text (string (since_text since))) }
-{
-    let text = since_text(alloc, since)?;
-    quoted(alloc, text.as_str())
-}
-
 /// Returns the members `store`, `taken`, `tenths` and `transferred`.
 fn stored_members(alloc: Global, known: &Waybill) -> Result<String, AllocError>
     ensures { IfOk result (λ text. string_bytes text ≡ stored_members known.now) }
@@ -243,7 +200,7 @@ fn last_members(alloc: Global, known: &Waybill) -> Result<String, AllocError>
     ensures { IfOk result (λ text. string_bytes text ≡ last_members known.now) }
 {
     let pieces = known.declared.pieces.number();
-    let since = quoted_day(alloc, known.declared.since)?;
+    let since = since_text(alloc, known.declared.since)?;
     let rest = stored_members(alloc, known)?;
     format!(in alloc; "\"pieces\":{pieces},\"since\":{since},{rest}")
 }

@@ -8,9 +8,19 @@ use test_kit::{Narrow, say, shown};
 pub fn answer(alloc: Global, asked: &str, text: &[u8]) -> Option<String> {
     match asked {
         "sent" => sent(alloc, shown(text)),
-        "sent-to-four-bytes" => sent_to_four_bytes(alloc, text),
+        "sent-to-four-bytes" => {
+            let mut room = [0u8; 4];
+            let mut writer = Counted::new(room.as_mut_slice());
+            sent_said(alloc, send(&mut writer, text))
+        }
         "read-haltingly" => read_haltingly(alloc, text),
-        "sent-in-vain" => sent_in_vain(alloc, text),
+        "sent-in-vain" => {
+            let mut writer = Counted::new(Narrow::new(alloc, 0));
+            match ByteOut::write(&mut writer, text) {
+                Ok(_) => None,
+                Err(WriteFault) => sent_said(alloc, send(&mut writer, text)),
+            }
+        }
         _ => None,
     }
 }
@@ -32,12 +42,6 @@ fn sent_said(alloc: Global, sent: Result<(), usize>) -> Option<String> {
     }
 }
 
-fn sent_to_four_bytes(alloc: Global, text: &[u8]) -> Option<String> {
-    let mut room = [0u8; 4];
-    let mut writer = Counted::new(room.as_mut_slice());
-    sent_said(alloc, send(&mut writer, text))
-}
-
 /// Is interrupted, then returns its bytes, and then fails.
 #[derive(Drop)]
 struct Halting<'a> {
@@ -56,27 +60,16 @@ impl Read for Halting<'_> {
     }
 }
 
-fn read_said(alloc: Global, read: Result<usize, ReadFault>) -> Option<String> {
-    match read {
-        Ok(count) => format!(in alloc; "{count}").ok(),
-        Err(ReadFault::Interrupted) => say(alloc, "interrupted"),
-        Err(ReadFault::Failed) => say(alloc, "failed"),
-    }
-}
-
 fn read_haltingly(alloc: Global, bytes: &[u8]) -> Option<String> {
     let mut reader = Counted::new(Halting { calls: 0, bytes });
     let mut buf = [b'-'; 8];
-    let first = read_said(alloc, ByteIn::read(&mut reader, &mut buf))?;
-    let second = read_said(alloc, ByteIn::read(&mut reader, &mut buf))?;
-    let third = read_said(alloc, ByteIn::read(&mut reader, &mut buf))?;
-    format!(in alloc; "{first} {second} {third} [{}]", shown(&buf)).ok()
-}
-
-fn sent_in_vain(alloc: Global, text: &[u8]) -> Option<String> {
-    let mut writer = Counted::new(Narrow::new(alloc, 0));
-    match ByteOut::write(&mut writer, text) {
-        Ok(_) => None,
-        Err(WriteFault) => sent_said(alloc, send(&mut writer, text)),
+    let mut said = String::new(alloc);
+    for _ in 0..3 {
+        match ByteIn::read(&mut reader, &mut buf) {
+            Ok(count) => write!(said, "{count} ").ok()?,
+            Err(ReadFault::Interrupted) => said.push_str("interrupted ").ok()?,
+            Err(ReadFault::Failed) => said.push_str("failed ").ok()?,
+        }
     }
+    format!(in alloc; "{said}[{}]", shown(&buf)).ok()
 }

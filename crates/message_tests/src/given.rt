@@ -1,7 +1,6 @@
 //! Values that the words of a case give.
-use agent_stock::{AgentCode, Order, Run, RunCount};
 use awb_number::Awb;
-use imp_fields::{Airport, Discrepancy, Flight, Pieces};
+use imp_fields::{Airport, Flight, Pieces};
 use shipment_machine::FlightDate;
 use station_days::LocalDay;
 use std::str::SplitWhitespace;
@@ -32,35 +31,4 @@ pub fn flight_date(words: &mut SplitWhitespace<'_>) -> Option<FlightDate> {
         flight: Flight::read(words.next()?.as_bytes())?,
         day: LocalDay::new(next_number(words)?)?,
     })
-}
-
-pub fn agent(words: &mut SplitWhitespace<'_>) -> Option<AgentCode> {
-    AgentCode::read(words.next()?.as_bytes())
-}
-
-pub fn run(words: &mut SplitWhitespace<'_>) -> Option<Run> {
-    Some(Run {
-        first: number(words)?,
-        count: RunCount::new(next_number(words)?)?,
-    })
-}
-
-pub fn order(verb: &str, words: &mut SplitWhitespace<'_>) -> Option<Order> {
-    let run = run(words)?;
-    match verb {
-        "take-in" => Some(Order::TakeIn(run)),
-        "void" => Some(Order::Void(run)),
-        "issue" => Some(Order::Issue(run, agent(words)?)),
-        "return" => Some(Order::GiveBack(run, agent(words)?)),
-        _ => None,
-    }
-}
-
-pub fn discrepancy(code: &str) -> Option<Discrepancy> {
-    match code {
-        "OFLD" => Some(Discrepancy::Offloaded),
-        "MSCA" => Some(Discrepancy::Missing),
-        "FDCA" => Some(Discrepancy::Found),
-        _ => None,
-    }
 }

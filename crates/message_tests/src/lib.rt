@@ -3,28 +3,21 @@
 #![tactic(auto)]
 
 mod arrivals;
-mod bodies;
 mod commands;
-mod consignments;
 mod counted_ends;
 mod ffm;
 mod fields;
 mod fsu;
-mod fwb;
 mod given;
 mod lines;
-mod look;
 mod memory;
-mod notices;
-mod numbers;
 mod orders;
-mod quantities;
 mod replies;
 mod said;
-mod updates;
+mod sent;
 
 use agent_stock::PlainRows;
-use memory::Message;
+use memory::{MESSAGES, is_told};
 use std::alloc::Global;
 use std::io;
 use std::time::Instant;
@@ -61,20 +54,19 @@ impl Answers for FileAnswers<'_> {
     fn answer(&mut self, asked: &str, text: &[u8]) -> Option<String> {
         let alloc = self.alloc;
         match self.file {
-            "numbers" => numbers::answer(alloc, asked, text),
+            "numbers" => fields::numbers(alloc, asked, text),
             "fields" => fields::answer(alloc, asked, text),
-            "quantities" => quantities::answer(alloc, asked, text),
-            "consignments" => consignments::answer(alloc, asked, text),
+            "quantities" => fields::quantities(alloc, asked, text),
+            "consignments" => lines::consignments(alloc, asked, text),
             "lines" => lines::answer(alloc, asked, text),
-            "fwb" => fwb::answer(alloc, asked, text),
+            "fwb" => lines::waybills(alloc, asked, text),
             "ffm" => ffm::answer(alloc, asked, text),
             "fsu" => fsu::answer(alloc, asked, text),
-            "updates" => updates::answer(alloc, asked, text),
+            "updates" => sent::updates(alloc, asked, text),
             "arrivals" => arrivals::answer(alloc, asked, text),
-            "look" => look::answer(alloc, asked, text),
-            "notices" => notices::answer(alloc, asked, text),
-            "commands" => commands::answer(alloc, asked, text),
-            "bodies" => bodies::answer(alloc, asked, text),
+            "look" => arrivals::look(alloc, asked, text),
+            "notices" => sent::notices(alloc, asked, text),
+            "commands" | "bodies" => commands::answer(alloc, asked, text),
             "orders" => orders::answer(alloc, &mut self.stock, asked, text),
             "replies" => replies::answer(alloc, asked, text),
             "counted-ends" => counted_ends::answer(alloc, asked, text),
@@ -96,8 +88,8 @@ pub fn run_file(rt: &HostRuntime, folder: &str, file: &str) -> Result<bool, io::
 /// Prints the outcome for each message. Returns whether all are as expected.
 pub fn run_memory(rt: &HostRuntime) -> Result<bool, io::Error> {
     let mut all = true;
-    for message in Message::ALL {
-        all &= print_told(rt, message.name(), message.is_told(rt.alloc()))?;
+    for message in MESSAGES {
+        all &= print_told(rt, message, is_told(rt.alloc(), message))?;
     }
     Ok(all)
 }
@@ -109,15 +101,15 @@ const TIMES: u64 = 100_000;
 pub fn run_bench(rt: &HostRuntime) -> Result<bool, io::Error> {
     println!(rt; "  a second    ns each  message")?;
     let mut all = true;
-    for message in Message::ALL {
+    for message in MESSAGES {
         let start = Instant::now(rt)?;
         for _ in 0..TIMES {
-            all &= message.is_told(rt.alloc());
+            all &= is_told(rt.alloc(), message);
         }
         let spent = start.elapsed(rt)?.as_nanos();
         let nanos = u64::try_from(spent).unwrap_or(u64::MAX).max(1);
         let rate = TIMES.saturating_mul(1_000_000_000) / nanos;
-        println!(rt; "{rate:>10} {:>10}  {}", nanos / TIMES, message.name())?;
+        println!(rt; "{rate:>10} {:>10}  {message}", nanos / TIMES)?;
     }
     Ok(all)
 }

@@ -1,6 +1,7 @@
 //! Answers as texts, keys, and the counts of orders.
-use crate::given::{airport, flight_date, next_number, next_small_number, number, order};
+use crate::given::{airport, flight_date, next_number, next_small_number, number};
 use crate::said::yes_or_no;
+use agent_stock::{Order, Run, RunCount};
 use imp_fields::{PartNumber, Why};
 use shipment_machine::{Detail, Part, Refusal};
 use station_core::{
@@ -21,11 +22,11 @@ pub fn answer(alloc: Global, asked: &str, text: &[u8]) -> Option<String> {
             let text = RowText::new(text.to_vec(alloc).ok()?);
             say(alloc, shown(text.as_bytes()))
         }
-        _ => answer_said(alloc, asked, &mut shown(text).split_whitespace()),
+        _ => of_words(alloc, asked, &mut shown(text).split_whitespace()),
     }
 }
 
-fn answer_said(alloc: Global, asked: &str, words: &mut SplitWhitespace<'_>) -> Option<String> {
+fn of_words(alloc: Global, asked: &str, words: &mut SplitWhitespace<'_>) -> Option<String> {
     match asked {
         "reply" => {
             let count = next_number(words)?;
@@ -40,15 +41,25 @@ fn answer_said(alloc: Global, asked: &str, words: &mut SplitWhitespace<'_>) -> O
             let said = detail_text(alloc, &detail(words)?).ok()?;
             format!(in alloc; "[{said}]").ok()
         }
-        "count" => {
-            let count = count_of_order(&order(words.next()?, words)?);
-            format!(in alloc; "{count}").ok()
-        }
+        "count" => format!(in alloc; "{}", count_of_order(&order(words)?)).ok(),
         "refusal-of-order" => {
             let refused = next_small_number(words)?;
             let refusal = refusal_of_order(refused, number(words));
             format!(in alloc; "{} [{}]", refusal.number, refusal.detail).ok()
         }
+        _ => None,
+    }
+}
+
+fn order(words: &mut SplitWhitespace<'_>) -> Option<Order> {
+    let verb = words.next()?;
+    let run = Run {
+        first: number(words)?,
+        count: RunCount::new(next_number(words)?)?,
+    };
+    match verb {
+        "take-in" => Some(Order::TakeIn(run)),
+        "void" => Some(Order::Void(run)),
         _ => None,
     }
 }

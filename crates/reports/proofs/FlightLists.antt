@@ -19,11 +19,12 @@ use Rattle.station_core.specs.declared.rows.ExpectedQuery.{ExpectedQuery}
 use Rattle.station_core.specs.declared.rows.ExpectedQuery.TheVariants.{All, Open}
 use Rattle.station_core.specs.declared.rows.ExpectedRow.{ExpectedRow}
 use Rattle.station_core.specs.Readers.{AreAnnounced, by_flight, AreNoted, flight_row, AreFlightRows, by_expectation, AreExpectations, expected_row, AreExpectedBy, AreExpectedRows, asks_for, expected_for}
-use Rattle.reports.specs.Lines.{flight_line, expected_line, report_text}
+use Rattle.reports.specs.Lines.{report_text}
 use Rattle.reports.specs.Reports.{IsFlightReport, IsExpectedReport}
 use Rattle.reports.specs.Listings.{is_awaited}
 use Rattle.station_core.proofs.Asked.{apart, are_asked, expectation_total, flight_total, is_one, one_is, one-refl}
 use Rattle.station_core.proofs.Rising.{one_list}
+use Rattle.reports.specs.Cells.{line_by, flight_cells, expected_cells}
 
 one_noted : (flights : FlightDate → Option Outbound) (xs ys : List NotedFlight) → AreNoted flights xs → AreNoted flights ys → xs ≡ ys
 one_noted flights xs ys are too =
@@ -61,7 +62,7 @@ open_expected s rows are =
     (filter (λ (row : Expectation). asks_for Open row.expected) are.0, are_asked Open s.expected are.0 are.1, ap (filter is_awaited) are.2 ∙ mapped_awaited s are.0)
 
 pub one_flight_text : (s : Cargo) (a b : List ℕ) → IsFlightReport s a → IsFlightReport s b → a ≡ b
-one_flight_text s a b is too = is.2 ∙ ap (report_text flight_line) (one_flights s is.0 too.0 is.1 too.1) ∙ sym too.2
+one_flight_text s a b is too = is.2 ∙ ap (report_text (line_by flight_cells)) (one_flights s is.0 too.0 is.1 too.1) ∙ sym too.2
 
 pub one_expected_text : (s : Cargo) (a b : List ℕ) → IsExpectedReport s a → IsExpectedReport s b → a ≡ b
-one_expected_text s a b is too = is.2 ∙ ap (report_text expected_line) (one_expected All s is.0 too.0 is.1 too.1) ∙ sym too.2
+one_expected_text s a b is too = is.2 ∙ ap (report_text (line_by expected_cells)) (one_expected All s is.0 too.0 is.1 too.1) ∙ sym too.2

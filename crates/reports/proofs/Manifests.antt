@@ -8,12 +8,11 @@ use Rattle.shipment_machine.specs.declared.flight.FlightDate.{FlightDate}
 use Rattle.shipment_machine.specs.declared.moves.Move.{Move}
 use Rattle.shipment_machine.specs.declared.moves.Place.{Place}
 use Rattle.shipment_machine.specs.declared.moves.Place.TheVariants.{Hand, Free, Built, Departed}
-use Rattle.reports.specs.Lines.{manifest_line}
 use Rattle.reports.specs.Listings.{rows_text}
 use Rattle.reports.specs.Manifest.{manifest_of}
-use Rattle.reports.specs.Objects.{manifest_data}
 use Rattle.reports.specs.declared.form.Form.TheVariants.{Text, Json}
 use Rattle.reports.proofs.Examples.{on_the_day, printed}
+use Rattle.reports.specs.Cells.{line_by, data_by, manifest_cells}
 
 -- a move of pieces of ten kilograms, which names the flight
 abbrev move : ℕ → Place → Place → ℕ → Move
@@ -61,11 +60,11 @@ example_two : manifest_of two_waybills on_the_day
 example_two = refl
 
 -- as text and as JSON
-example_lines : rows_text Text manifest_line manifest_data (manifest_of loaded on_the_day) ≡ printed (codes "020-12345675 built    4    40.0 departed    0     0.0" ∷ codes "END 1" ∷ [])
+example_lines : rows_text Text (line_by manifest_cells) (data_by manifest_cells) (manifest_of loaded on_the_day) ≡ printed (codes "020-12345675 built    4    40.0 departed    0     0.0" ∷ codes "END 1" ∷ [])
 unfolding digits
 example_lines = refl
 
-example_object : rows_text Json manifest_line manifest_data (manifest_of departed on_the_day)
+example_object : rows_text Json (line_by manifest_cells) (data_by manifest_cells) (manifest_of departed on_the_day)
     ≡ printed (codes "{\"rows\":[{\"awb\":\"020-12345675\",\"built\":{\"pieces\":0,\"tenths\":0},\"departed\":{\"pieces\":4,\"tenths\":400}}],\"count\":1}" ∷ [])
 unfolding digits serde_json_on_literals
 example_object = refl

@@ -7,8 +7,9 @@ use Rattle.awb_number.specs.Number.{serial_of}
 use Rattle.agent_stock.specs.Stock.{Holders, is_among}
 use Rattle.agent_stock.specs.Runs.{IsMaximalRun, AreApart, AreStockRuns}
 use Rattle.agent_stock.specs.declared.runs.StockRun.{StockRun}
-use Rattle.reports.specs.Lines.{stock_line, report_text}
+use Rattle.reports.specs.Lines.{report_text}
 use Rattle.reports.specs.Reports.{IsStockReport}
+use Rattle.reports.specs.Cells.{line_by, stock_cells}
 
 -- each row begins there at least, and behind the one before it
 abbrev StandFrom : ℕ → List StockRun → Type 0
@@ -105,4 +106,4 @@ module _ (holders : Holders) where
   one_list xs ys are too = one_list_from 0 xs ys are.maximal too.maximal (stand_all xs are.rising) (stand_all ys too.rising) (λ q _ some. are.complete q some) (λ q _ some. too.complete q some)
 
   pub one_text : (a b : List ℕ) → IsStockReport holders a → IsStockReport holders b → a ≡ b
-  one_text a b is too = is.2 ∙ ap (report_text stock_line) (one_list is.0 too.0 is.1 too.1) ∙ sym too.2
+  one_text a b is too = is.2 ∙ ap (report_text (line_by stock_cells)) (one_list is.0 too.0 is.1 too.1) ∙ sym too.2

@@ -26,8 +26,8 @@ use Rattle.station_core.specs.declared.rows.TrailQuery.TheVariants as trail
 use Rattle.station_core.specs.Readers.{AreAnnounced, shed_rows, AreFlightRows, AreExpectedBy, irregular_rows, book_by, messages_after, messages_by, trail_by}
 use Rattle.station_core.specs.Step.{State}
 use Rattle.station_core.specs.Told.{summary_of}
-use Rattle.reports.specs.Lines.{stock_line, announced_line, dated_line, shed_line, flight_line, expected_line, irregular_line, manifest_line, book_line, message_lines, summary_line, kept_line, trail_line, report_text}
-use Rattle.reports.specs.Objects.{object_of, count_data, stock_data, announced_data, dated_data, shed_data, shed_fields, flight_data, expected_data, irregular_data, irregular_fields, manifest_data, book_data, message_data, summary_data, kept_data, trail_data}
+use Rattle.reports.specs.Lines.{message_lines, kept_line, trail_line, report_text}
+use Rattle.reports.specs.Objects.{object_of, count_data, message_data, kept_data, trail_data}
 use Rattle.reports.specs.Days.{AreIrregularityDays, AreShedDays}
 use Rattle.reports.specs.Keys.{kept_rows}
 use Rattle.reports.specs.Manifest.{manifest_rows}
@@ -39,6 +39,7 @@ use Rattle.reports.specs.declared.listing.Listing.{Listing}
 use Rattle.reports.specs.declared.listing.Listing.TheVariants as listing
 use Rattle.reports.specs.declared.report.Report.{Report}
 use Rattle.reports.specs.declared.report.Report.TheVariants as report
+use Rattle.reports.specs.Cells.{line_by, data_by, dated_cells, stock_cells, announced_cells, shed_cells, flight_cells, expected_cells, irregular_cells, manifest_cells, book_cells, summary_cells}
 
 -- The forms.
 
@@ -84,7 +85,7 @@ is_about w message =
 
 -- the queried movements, and lines of the trail
 abbrev pub IsMovements : Form → State → BookQuery → List ℕ → Type 0
-IsMovements f s query text = text ≡ rows_text f book_line book_data (book_by query s.cargo)
+IsMovements f s query text = text ≡ rows_text f (line_by book_cells) (data_by book_cells) (book_by query s.cargo)
 
 abbrev pub IsTrail : Form → State → TrailQuery → List ℕ → Type 0
 IsTrail f s query text = text ≡ rows_text f trail_line trail_data (trail_by query s.cargo)
@@ -97,36 +98,36 @@ abbrev pub IsSent : Form → State → ℕ → List ℕ → Type 0
 IsSent f s w text = text ≡ rows_text f message_lines message_data (filter (is_about w) (messages_after 0 s.cargo))
 
 abbrev pub IsManifest : Form → State → FlightDate → List ℕ → Type 0
-IsManifest f s flight text = text ≡ rows_text f manifest_line manifest_data (manifest_rows s.cargo flight)
+IsManifest f s flight text = text ≡ rows_text f (line_by manifest_cells) (data_by manifest_cells) (manifest_rows s.cargo flight)
 
 abbrev pub IsExpected : Form → State → ExpectedQuery → List ℕ → Type 0
 IsExpected f s query text =
-    (rows : List ExpectedRow) × AreExpectedBy query s.cargo rows × (text ≡ rows_text f expected_line expected_data rows)
+    (rows : List ExpectedRow) × AreExpectedBy query s.cargo rows × (text ≡ rows_text f (line_by expected_cells) (data_by expected_cells) rows)
 
 abbrev pub IsWhole : Form → State → Report → List ℕ → Type 0
-IsWhole f s report.Stock text = (rows : List StockRun) × AreStockRuns s.cargo.holders rows × (text ≡ rows_text f stock_line stock_data rows)
-IsWhole f s report.Announced text = (rows : List AnnouncedRow) × AreAnnounced s.cargo rows × (text ≡ rows_text f announced_line announced_data rows)
-IsWhole f s report.Shed text = text ≡ rows_text f shed_line shed_data (shed_rows s.cargo)
-IsWhole f s report.ShedDays text = (rows : List (Dated ShedRow)) × AreShedDays s.cargo rows × (text ≡ rows_text f (dated_line shed_line) (dated_data shed_fields) rows)
-IsWhole f s report.Flights text = (rows : List FlightRow) × AreFlightRows s.cargo rows × (text ≡ rows_text f flight_line flight_data rows)
+IsWhole f s report.Stock text = (rows : List StockRun) × AreStockRuns s.cargo.holders rows × (text ≡ rows_text f (line_by stock_cells) (data_by stock_cells) rows)
+IsWhole f s report.Announced text = (rows : List AnnouncedRow) × AreAnnounced s.cargo rows × (text ≡ rows_text f (line_by announced_cells) (data_by announced_cells) rows)
+IsWhole f s report.Shed text = text ≡ rows_text f (line_by shed_cells) (data_by shed_cells) (shed_rows s.cargo)
+IsWhole f s report.ShedDays text = (rows : List (Dated ShedRow)) × AreShedDays s.cargo rows × (text ≡ rows_text f (line_by (dated_cells shed_cells)) (data_by (dated_cells shed_cells)) rows)
+IsWhole f s report.Flights text = (rows : List FlightRow) × AreFlightRows s.cargo rows × (text ≡ rows_text f (line_by flight_cells) (data_by flight_cells) rows)
 IsWhole f s report.Expected text = IsExpected f s expected.All text
-IsWhole f s report.Irregularities text = text ≡ rows_text f irregular_line irregular_data (irregular_rows s.cargo)
+IsWhole f s report.Irregularities text = text ≡ rows_text f (line_by irregular_cells) (data_by irregular_cells) (irregular_rows s.cargo)
 IsWhole f s report.IrregularityDays text =
-    (rows : List (Dated IrregularRow)) × AreIrregularityDays s.cargo rows × (text ≡ rows_text f (dated_line irregular_line) (dated_data irregular_fields) rows)
+    (rows : List (Dated IrregularRow)) × AreIrregularityDays s.cargo rows × (text ≡ rows_text f (line_by (dated_cells irregular_cells)) (data_by (dated_cells irregular_cells)) rows)
 IsWhole f s report.Movements text = IsMovements f s book.All text
 IsWhole f s report.Trail text = IsTrail f s trail.All text
 IsWhole f s report.Pending text = IsMessages f s messages.Pending text
 IsWhole f s report.Sent text = IsMessages f s (messages.After 0) text
-IsWhole f s report.Station text = text ≡ rows_text f summary_line summary_data (summary_of s.cargo ∷ [])
+IsWhole f s report.Station text = text ≡ rows_text f (line_by summary_cells) (data_by summary_cells) (summary_of s.cargo ∷ [])
 
 -- the text is that listing of the state in that form
 abbrev pub IsListing : Form → State → Listing → List ℕ → Type 0
 IsListing f s (listing.All r) text = IsWhole f s r text
 IsListing f s listing.OpenFlights text =
-    (rows : List FlightRow) × AreFlightRows s.cargo rows × (text ≡ rows_text f flight_line flight_data (filter is_open rows))
+    (rows : List FlightRow) × AreFlightRows s.cargo rows × (text ≡ rows_text f (line_by flight_cells) (data_by flight_cells) (filter is_open rows))
 IsListing f s listing.OpenExpected text = IsExpected f s expected.Open text
 IsListing f s (listing.AgentStock code) text =
-    (rows : List StockRun) × AreStockRuns s.cargo.holders rows × (text ≡ rows_text f stock_line stock_data (filter (is_held_by code) rows))
+    (rows : List StockRun) × AreStockRuns s.cargo.holders rows × (text ≡ rows_text f (line_by stock_cells) (data_by stock_cells) (filter (is_held_by code) rows))
 IsListing f s (listing.Movements w) text = IsMovements f s (book.Of w) text
 IsListing f s (listing.MovementsAfter n) text = IsMovements f s (book.After n) text
 IsListing f s (listing.MovementsLast n) text = IsMovements f s (book.Last n) text

@@ -11,6 +11,11 @@ abbrev pub before_row : ℕ → List ℕ
 before_row zero = codes "{\"rows\":["
 before_row (suc rows) = codes ","
 
+-- a row, by its line and its object
+abbrev pub in_form : Form → List ℕ → Data → List ℕ
+in_form form.Text line data_of = line
+in_form form.Json line data_of = compact_text data_of
+
 -- a row, after `rows` others
 abbrev pub row_piece : Form → ℕ → List ℕ → Data → List ℕ
 row_piece form.Text rows line data_of = line

@@ -34,7 +34,7 @@ pub enum Report {
     Pending,
     /// All messages, confirmed or not, in the same form.
     Sent,
-    /// The station at a glance: `FRA moves 3 trail 0 messages 4 confirmed 3`.
+    /// The station at a glance: `FRA moves 3 trail 0 messages 4 confirmed 3 program 1.0.0 files 2`.
     Station,
 }
 

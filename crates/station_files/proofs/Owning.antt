@@ -1,5 +1,5 @@
 -- What a call does to the trees that are shown is what it does inside.
-use Rattle.std.proofs.Common.{◌≡◌, ◌≢◌, ◌<◌, ◌≤◌, ◌-◌, ◌+◌, if◌then◌else◌, ℕ, pos, ◌++◌, List, [], ◌∷◌, length, map, suc, zero, Bool, true, false, Option, Some, None, find, get_or, option_map, Ordering, Less, Equal, Greater, is_eq, refl, sym, ap, ap₂, subst, ◌∙◌, inl, inr, arith, ltb, ne_eqb, eq-eqb, ltb-true, ltb-false, slice_index, slice_index_or, take, drop, add-one, append_assoc, append-nil, subst₂, IsTrue}
+use Rattle.std.proofs.Common.{◌≡◌, ◌≢◌, ◌<◌, ◌≤◌, ◌-◌, ◌+◌, if◌then◌else◌, ℕ, pos, ◌++◌, List, [], ◌∷◌, length, map, suc, zero, Bool, true, false, Option, Some, None, Result, Ok, Err, IfErr, OnOk, find, get_or, option_map, Ordering, Less, Equal, Greater, is_eq, refl, sym, ap, ap₂, subst, ◌∙◌, inl, inr, arith, ltb, ne_eqb, eq-eqb, ltb-true, ltb-false, slice_index, slice_index_or, take, drop, add-one, append_assoc, append-nil, subst₂, IsTrue}
 use Rattle.std.proofs.Math.Path.{fun_ext}
 use Rattle.std.proofs.Math.Seq.{drop-cons}
 use Rattle.std.proofs.lemmas.Bool.{cases_eq, cases_Bool}
@@ -13,13 +13,14 @@ use Rattle.sqlite_value.specs.Order.{Row, column, value_cmp}
 use Rattle.sqlite_value.proofs.OrderLemmas.{value_cmp-Int, value_cmp_total}
 use Rattle.sqlite_trees.specs.Objects.{catalog_tree, version_tree, version_rows, object_row, set_at, Creates, IsListed}
 use Rattle.sqlite_trees.specs.Tree.{Trees, rowid, has_rowid, with_tree, put_row}
-use Rattle.sqlite_trees.specs.View.{Snapshot, View, newest, snapshot, Commits, GoesBack, IsClean, IsRolledBack, KeepsCommitted, Marks, OnlyCommits, Releases, SetsTree}
+use Rattle.sqlite_trees.specs.View.{Snapshot, View, doubt, newest, snapshot, Commits, GoesBack, IsClean, IsFailure, IsRolledBack, KeepsCommitted, Marks, Releases, SetsTree}
+use Rattle.sqlite_trees.specs.declared.error.StoreError.{StoreError}
 use Rattle.sqlite_trees.specs.declared.schema.Object.{Object}
 use Rattle.sqlite_trees.specs.declared.store.Shape.{Shape}
-use Rattle.sqlite_trees.specs.declared.store.Shape.TheVariants.{Absent}
-use Rattle.station_files.specs.Own.{own_reals, own_shapes, own_snapshot, own_trees, own_view, reals_by, renumbered, rows_from, shapes_by, shown_row, AreLaidOut, IsNumberOf}
+use Rattle.sqlite_trees.specs.declared.store.Shape.TheVariants.{Absent, Table}
+use Rattle.station_files.specs.Own.{own_reals, own_shapes, own_snapshot, own_trees, own_view, reals_by, renumbered, rows_from, shapes_by, shown_row, AreApart, AreLaidOut, IsNumberOf, IsShown}
 use Rattle.station_files.specs.declared.layout.Layout.{Layout}
-use Rattle.station_files.specs.OwnLaws.{all_past, id_below, own_at, own_past, reals_at, reals_past, shape_at, shape_past, AreLow, GoBack, IsPast}
+use Rattle.station_files.specs.OwnLaws.{all_past, id_below, kind_of, own_at, own_past, own_values, value_at, value_past, GoBack, IsPast}
 
 id_same : (a : ℕ) → value_cmp (Int (pos a)) (Int (pos a)) ≡ Equal
 id_same a = value_cmp-Int (pos a) (pos a) ∙ grind (arith, ints, nat_tests)
@@ -106,75 +107,88 @@ no_marks : {X Y : Type 0} (f : X → Y) (xs : List X) → map f xs ≡ [] → xs
 no_marks f [] none = refl
 no_marks f (x ∷ xs) none = absurd (cc)
 
--- the trees of the list are apart from each other
-abbrev pub AreApart : List ℕ → Type 0
-AreApart numbers = (s t : ℕ) → s < length numbers → t < length numbers → slice_index numbers s ≡ slice_index numbers t → s ≡ t
+pub get_mapped : {X Y : Type 0} (f : X → Y) (xs : List X) (at : ℕ) (d : Y) (e : X) → at < length xs → get_or (map f xs) at d ≡ f (get_or xs at e)
+get_mapped f [] at d e low = absurd (omega arith)
+get_mapped f (x ∷ xs) zero d e low = refl
+get_mapped f (x ∷ xs) (suc at) d e low = get_mapped f xs at d e (omega arith)
 
-module _ (numbers : List ℕ) (few : length numbers < 65536) where
+past_map : {X Y : Type 0} (f : X → Y) (xs : List X) (t : ℕ) (d : Y) → length xs ≤ t → get_or (map f xs) t d ≡ d
+past_map f [] t d h = refl
+past_map f (x ∷ xs) zero d h = absurd (omega arith)
+past_map f (x ∷ xs) (suc t) d h = past_map f xs t d (omega arith)
+
+-- the shapes or the REAL columns
+module _ {X : Type 0} (none first : X) (numbers : List ℕ) (few : length numbers < 65536) where
+  -- they are those of the layouts, if they are at each place
+  values_by : (of : Layout → X) (layouts : List Layout) (f : ℕ → X) → length layouts ≡ length numbers
+      → ((t : ℕ) (d : Layout) → t < length numbers → of (slice_index_or layouts t d) ≡ f (slice_index numbers t)) → Layout
+      → own_values none first numbers f ≡ set_at (set_at (λ t. slice_index_or (map of layouts) t none) catalog_tree first) version_tree first
+  values_by of layouts f all each d = fun_ext (λ t. elim (kind_of numbers t) [
+    | inl is ↦ rw (eq-eqb t version_tree is) refl
+    | inr (inl is) ↦ rw is refl
+    | inr (inr (inl here)) ↦
+        value_at none first numbers f t few here ∙ sym (each t d here) ∙ sym (get_mapped of layouts t none d (omega arith))
+        ∙ rw (ne_eqb t version_tree (omega arith), ne_eqb t catalog_tree (omega arith)) refl
+    | inr (inr (inr past)) ↦
+        value_past none first numbers f t past ∙ sym (past_map of layouts t none (omega (arith, past.high)))
+        ∙ rw (ne_eqb t version_tree past.other, ne_eqb t catalog_tree past.apart) refl
+  ])
+
+  values_set : (apart : AreApart numbers) (t : ℕ) → t < length numbers → (f : ℕ → X) (x : X)
+      → own_values none first numbers (set_at f (slice_index numbers t) x) ≡ set_at (own_values none first numbers f) t x
+  values_set apart t here f x = let g = set_at f (slice_index numbers t) x in let own = own_values none first numbers in fun_ext (λ k. elim (cases_eq k t) [
+    | inl is ↦ subst (λ k. own g k ≡ set_at (own f) t x k) (sym is) (value_at none first numbers g t few here ∙ set_same f (slice_index numbers t) x ∙ sym (set_same (own f) t x))
+    | inr other ↦ elim (kind_of numbers k) [
+      | inl is ↦ subst (λ k. own g k ≡ own f k) (sym is) refl
+      | inr (inl is) ↦ subst (λ k. own g k ≡ own f k) (sym is) refl
+      | inr (inr (inl low)) ↦ value_at none first numbers g k few low ∙ set_other f (slice_index numbers t) x (slice_index numbers k) (λ e. other (apart.apart k t low here e))
+          ∙ sym (value_at none first numbers f k few low)
+      | inr (inr (inr past)) ↦ value_past none first numbers g k past ∙ sym (value_past none first numbers f k past)
+    ] ∙ sym (set_other (own f) t x k other)
+  ])
+
+-- trees are laid out as they are at each place
+pub laid_out : (numbers : List ℕ) → length numbers < 65536 → (layouts : List Layout) → length layouts ≡ length numbers → (shape : ℕ → Shape) (reals : ℕ → ℕ)
+    → ((t : ℕ) (d : Layout) → t < length numbers → ((slice_index_or layouts t d).shape ≡ shape (slice_index numbers t)) × ((slice_index_or layouts t d).reals ≡ reals (slice_index numbers t)))
+    → AreLaidOut numbers layouts shape reals
+laid_out numbers few layouts all shape reals each =
+    let none : Layout = record { shape = Absent; reals = 0 } in
+    record {
+      shaped = values_by Absent Table numbers few (λ l. l.shape) layouts shape all (λ t d low. (each t d low).0) none;
+      typed = values_by 0 0 numbers few (λ l. l.reals) layouts reals all (λ t d low. (each t d low).1) none;
+    }
+
+module _ (numbers : List ℕ) (apart : AreApart numbers) where
   trees_agree : (T U : Trees) (k : ℕ) → (k ≡ version_tree → T version_tree ≡ U version_tree) → (k ≡ catalog_tree → T catalog_tree ≡ U catalog_tree)
       → (k < length numbers → T (slice_index numbers k) ≡ U (slice_index numbers k)) → own_trees numbers T k ≡ own_trees numbers U k
-  trees_agree T U k version catalog inside = elim (cases_eq k version_tree) [
+  trees_agree T U k version catalog inside = elim (kind_of numbers k) [
     | inl is ↦ subst (λ x. own_trees numbers T x ≡ own_trees numbers U x) (sym is) (version is)
-    | inr other ↦ elim (cases_eq k catalog_tree) [
-      | inl is ↦ subst (λ x. own_trees numbers T x ≡ own_trees numbers U x) (sym is) (ap (rows_from 0 numbers) (catalog is))
-      | inr apart ↦ elim (cases_Bool (ltb k (length numbers))) [
-        | inl low ↦ let here = ltb-true k (length numbers) low in own_at numbers T k few here ∙ inside here ∙ sym (own_at numbers U k few here)
-        | inr high ↦ let past = ltb-false k (length numbers) high in own_past numbers T k other apart past ∙ sym (own_past numbers U k other apart past)
-      ]
-    ]
+    | inr (inl is) ↦ subst (λ x. own_trees numbers T x ≡ own_trees numbers U x) (sym is) (ap (rows_from 0 numbers) (catalog is))
+    | inr (inr (inl here)) ↦ own_at numbers T k apart.few here ∙ inside here ∙ sym (own_at numbers U k apart.few here)
+    | inr (inr (inr past)) ↦ own_past numbers T k past ∙ sym (own_past numbers U k past)
   ]
 
-  shapes_agree : (f g : ℕ → Shape) (k : ℕ) → (k < length numbers → f (slice_index numbers k) ≡ g (slice_index numbers k)) → own_shapes numbers f k ≡ own_shapes numbers g k
-  shapes_agree f g k inside = elim (cases_eq k version_tree) [
-    | inl is ↦ subst (λ x. own_shapes numbers f x ≡ own_shapes numbers g x) (sym is) refl
-    | inr other ↦ elim (cases_eq k catalog_tree) [
-      | inl is ↦ subst (λ x. own_shapes numbers f x ≡ own_shapes numbers g x) (sym is) refl
-      | inr apart ↦ elim (cases_Bool (ltb k (length numbers))) [
-        | inl low ↦ let here = ltb-true k (length numbers) low in shape_at numbers f k few here ∙ inside here ∙ sym (shape_at numbers g k few here)
-        | inr high ↦ let past = ltb-false k (length numbers) high in shape_past numbers f k other apart past ∙ sym (shape_past numbers g k other apart past)
-      ]
-    ]
-  ]
+  own_version : (trees : Trees) (es : List Row) → own_trees numbers (with_tree trees version_tree es) ≡ with_tree (own_trees numbers trees) version_tree es
+  own_version trees es = fun_ext (λ k. elim (cases_eq k version_tree) [
+    | inl is ↦ subst (λ x. own_trees numbers (with_tree trees version_tree es) x ≡ with_tree (own_trees numbers trees) version_tree es x) (sym is) refl
+    | inr other ↦
+        trees_agree (with_tree trees version_tree es) trees k (λ e. absurd (other e)) (λ _. refl)
+        (λ h. let small = apart.low k h in with_other trees version_tree es (slice_index numbers k) (λ e. absurd (omega arith)))
+        ∙ sym (with_other (own_trees numbers trees) version_tree es k other)
+  ])
 
-  reals_agree : (f g : ℕ → ℕ) (k : ℕ) → (k < length numbers → f (slice_index numbers k) ≡ g (slice_index numbers k)) → own_reals numbers f k ≡ own_reals numbers g k
-  reals_agree f g k inside = elim (cases_eq k version_tree) [
-    | inl is ↦ subst (λ x. own_reals numbers f x ≡ own_reals numbers g x) (sym is) refl
-    | inr other ↦ elim (cases_eq k catalog_tree) [
-      | inl is ↦ subst (λ x. own_reals numbers f x ≡ own_reals numbers g x) (sym is) refl
-      | inr apart ↦ elim (cases_Bool (ltb k (length numbers))) [
-        | inl low ↦ let here = ltb-true k (length numbers) low in reals_at numbers f k few here ∙ inside here ∙ sym (reals_at numbers g k few here)
-        | inr high ↦ let past = ltb-false k (length numbers) high in reals_past numbers f k other apart past ∙ sym (reals_past numbers g k other apart past)
-      ]
-    ]
-  ]
-
-  module _ (low : AreLow numbers) (apart : AreApart numbers) (t : ℕ) (here : t < length numbers) where
-    pub own_edit : (trees : Trees) (es : List Row) → own_trees numbers (with_tree trees (slice_index numbers t) es) ≡ with_tree (own_trees numbers trees) t es
+  module _ (t : ℕ) (here : t < length numbers) where
+    own_edit : (trees : Trees) (es : List Row) → own_trees numbers (with_tree trees (slice_index numbers t) es) ≡ with_tree (own_trees numbers trees) t es
     own_edit trees es = fun_ext (λ k. elim (cases_eq k t) [
       | inl is ↦ subst (λ x. own_trees numbers (with_tree trees (slice_index numbers t) es) x ≡ with_tree (own_trees numbers trees) t es x) (sym is)
-          (own_at numbers (with_tree trees (slice_index numbers t) es) t few here ∙ with_same trees (slice_index numbers t) es ∙ sym (with_same (own_trees numbers trees) t es))
+          (own_at numbers (with_tree trees (slice_index numbers t) es) t apart.few here ∙ with_same trees (slice_index numbers t) es ∙ sym (with_same (own_trees numbers trees) t es))
       | inr other ↦
-          let small = low t here in
+          let small = apart.low t here in
+          let few = apart.few in
           trees_agree (with_tree trees (slice_index numbers t) es) trees k (λ _. with_other trees (slice_index numbers t) es version_tree (λ e. absurd (omega arith)))
           (λ _. with_other trees (slice_index numbers t) es catalog_tree (λ e. absurd (omega arith)))
-          (λ h. with_other trees (slice_index numbers t) es (slice_index numbers k) (λ e. other (apart k t h here e)))
+          (λ h. with_other trees (slice_index numbers t) es (slice_index numbers k) (λ e. other (apart.apart k t h here e)))
           ∙ sym (with_other (own_trees numbers trees) t es k other)
-    ])
-
-    pub shapes_set : (shape : ℕ → Shape) (x : Shape) → own_shapes numbers (set_at shape (slice_index numbers t) x) ≡ set_at (own_shapes numbers shape) t x
-    shapes_set shape x = let f = set_at shape (slice_index numbers t) x in fun_ext (λ k. elim (cases_eq k t) [
-      | inl is ↦ subst (λ k. own_shapes numbers f k ≡ set_at (own_shapes numbers shape) t x k) (sym is)
-          (shape_at numbers f t few here ∙ set_same shape (slice_index numbers t) x ∙ sym (set_same (own_shapes numbers shape) t x))
-      | inr other ↦ shapes_agree f shape k (λ h. set_other shape (slice_index numbers t) x (slice_index numbers k) (λ e. other (apart k t h here e)))
-          ∙ sym (set_other (own_shapes numbers shape) t x k other)
-    ])
-
-    pub reals_set : (reals : ℕ → ℕ) (x : ℕ) → own_reals numbers (set_at reals (slice_index numbers t) x) ≡ set_at (own_reals numbers reals) t x
-    reals_set reals x = let f = set_at reals (slice_index numbers t) x in fun_ext (λ k. elim (cases_eq k t) [
-      | inl is ↦ subst (λ k. own_reals numbers f k ≡ set_at (own_reals numbers reals) t x k) (sym is)
-          (reals_at numbers f t few here ∙ set_same reals (slice_index numbers t) x ∙ sym (set_same (own_reals numbers reals) t x))
-      | inr other ↦ reals_agree f reals k (λ h. set_other reals (slice_index numbers t) x (slice_index numbers k) (λ e. other (apart k t h here e)))
-          ∙ sym (set_other (own_reals numbers reals) t x k other)
     ])
 
     tree_made : (o : Object) (trees : Trees)
@@ -186,264 +200,214 @@ module _ (numbers : List ℕ) (few : length numbers < 65536) where
         let es = put_row (object_row n o) (trees catalog_tree) in
         fun_ext (λ k. elim (cases_eq k catalog_tree) [
           | inl is ↦ subst (λ x. own_trees numbers (with_tree empty catalog_tree es) x ≡ with_tree (with_tree (own_trees numbers trees) t []) catalog_tree (put_row (object_row t o) (own_trees numbers trees catalog_tree)) x) (sym is)
-              (rows_put 0 t t o numbers (trees catalog_tree) (omega arith) here (λ s h e. apart s t h here e))
+              (rows_put 0 t t o numbers (trees catalog_tree) (omega arith) here (λ s h e. apart.apart s t h here e))
           | inr other ↦
               trees_agree (with_tree empty catalog_tree es) empty k (λ _. refl) (λ e. absurd (other e))
-              (λ h. let small = low k h in with_other empty catalog_tree es (slice_index numbers k) (λ e. absurd (omega arith)))
+              (λ h. let small = apart.low k h in with_other empty catalog_tree es (slice_index numbers k) (λ e. absurd (omega arith)))
               ∙ ap (λ (trees : Trees). trees k) (own_edit trees [])
               ∙ sym (with_other (with_tree (own_trees numbers trees) t []) catalog_tree (put_row (object_row t o) (own_trees numbers trees catalog_tree)) k other)
         ])
-
-    module _ (layouts before : List Layout) (a b : View) where
-      pub own_sets : (edit : List Row → List Row) → SetsTree a b (slice_index numbers t) edit → SetsTree (own_view numbers layouts before a) (own_view numbers layouts before b) t edit
-      own_sets edit sets = record {
-        sound = sets.sound;
-        is = ap (own_view numbers layouts before) sets.is ∙ ap (λ (trees : Trees). record (own_view numbers layouts before a) { trees = trees; cursors = b.cursors })
-            (own_edit a.trees (edit (a.trees (slice_index numbers t))) ∙ ap (λ es. with_tree (own_trees numbers a.trees) t (edit es)) (sym (own_at numbers a.trees t few here)));
-      }
-
-      pub own_creates : (new : List Layout) (o : Object) → AreLaidOut numbers layouts a.shape a.reals → AreLaidOut numbers new b.shape b.reals
-          → Creates a b (slice_index numbers t) o → Creates (own_view numbers layouts before a) (own_view numbers new before b) t o
-      own_creates new o was now makes =
-          let made = with_tree (with_tree (own_trees numbers a.trees) t []) catalog_tree (put_row (object_row t o) (own_trees numbers a.trees catalog_tree)) in
-          record {
-            sound = makes.sound;
-            is = ap (own_view numbers new before) makes.is
-                ∙ ap (λ (trees : Trees). record (own_view numbers layouts before a) { trees = trees; shape = shapes_by new; reals = reals_by new; cursors = b.cursors }) (tree_made o a.trees)
-                ∙ ap₂ (λ (shape : ℕ → Shape) (reals : ℕ → ℕ). record (own_view numbers layouts before a) { trees = made; shape = shape; reals = reals; cursors = b.cursors })
-                (sym now.shaped ∙ ap (λ (v : View). own_shapes numbers v.shape) makes.is ∙ shapes_set a.shape o.shape ∙ ap (λ (f : ℕ → Shape). set_at f t o.shape) was.shaped)
-                (sym now.typed ∙ ap (λ (v : View). own_reals numbers v.reals) makes.is ∙ reals_set a.reals o.reals ∙ ap (λ (f : ℕ → ℕ). set_at f t o.reals) was.typed);
-          }
-
--- the same, of the number that a call finds
-module _ (numbers : List ℕ) (few : length numbers < 65536) (low : AreLow numbers) (apart : AreApart numbers) (layouts before : List Layout) (a b : View) (t n : ℕ)
-    (inside : IsNumberOf numbers layouts a t n) where
-  pub sets_inside : (edit : List Row → List Row) → SetsTree a b n edit → SetsTree (own_view numbers layouts before a) (own_view numbers layouts before b) t edit
-  sets_inside edit sets = own_sets numbers few low apart t inside.low layouts before a b edit (subst (λ k. SetsTree a b k edit) inside.is sets)
-
-  pub creates_inside : (new : List Layout) (o : Object) → AreLaidOut numbers layouts a.shape a.reals → AreLaidOut numbers new b.shape b.reals → Creates a b n o
-      → Creates (own_view numbers layouts before a) (own_view numbers new before b) t o
-  creates_inside new o was now makes = own_creates numbers few low apart t inside.low layouts before a b new o was now (subst (λ k. Creates a b k o) inside.is makes)
-
-  pub has_inside : own_trees numbers a.trees t ≡ a.trees n
-  has_inside = own_at numbers a.trees t few inside.low ∙ ap a.trees (sym inside.is)
-
-pub get_mapped : {X Y : Type 0} (f : X → Y) (xs : List X) (at : ℕ) (d : Y) (e : X) → at < length xs → get_or (map f xs) at d ≡ f (get_or xs at e)
-get_mapped f [] at d e low = absurd (omega arith)
-get_mapped f (x ∷ xs) zero d e low = refl
-get_mapped f (x ∷ xs) (suc at) d e low = get_mapped f xs at d e (omega arith)
-
-past_map : {X Y : Type 0} (f : X → Y) (xs : List X) (t : ℕ) (d : Y) → length xs ≤ t → get_or (map f xs) t d ≡ d
-past_map f [] t d h = refl
-past_map f (x ∷ xs) zero d h = absurd (omega arith)
-past_map f (x ∷ xs) (suc t) d h = past_map f xs t d (omega arith)
-
--- trees are laid out as they are at each place
-module _ (numbers : List ℕ) (few : length numbers < 65536) (layouts : List Layout) (all : length layouts ≡ length numbers) (shape : ℕ → Shape) (reals : ℕ → ℕ)
-    (each : (t : ℕ) (d : Layout) → t < length numbers → ((slice_index_or layouts t d).shape ≡ shape (slice_index numbers t)) × ((slice_index_or layouts t d).reals ≡ reals (slice_index numbers t))) where
-  none : Layout
-  none = record { shape = Absent; reals = 0 }
-
-  pub laid_out : AreLaidOut numbers layouts shape reals
-  laid_out = record {
-    shaped = fun_ext (λ t. elim (cases_eq t version_tree) [
-      | inl is ↦ rw (eq-eqb t version_tree is) refl
-      | inr other ↦ elim (cases_eq t catalog_tree) [
-        | inl is ↦ rw (ne_eqb t version_tree other, eq-eqb t catalog_tree is) refl
-        | inr apart ↦ elim (cases_Bool (ltb t (length numbers))) [
-          | inl low ↦ let here = ltb-true t (length numbers) low in
-              shape_at numbers shape t few here ∙ sym (each t none here).0 ∙ sym (get_mapped (λ (l : Layout). l.shape) layouts t Absent none (omega arith))
-              ∙ rw (ne_eqb t version_tree other, ne_eqb t catalog_tree apart) refl
-          | inr high ↦ let past = ltb-false t (length numbers) high in
-              shape_past numbers shape t other apart past ∙ sym (past_map (λ (l : Layout). l.shape) layouts t Absent (omega arith))
-              ∙ rw (ne_eqb t version_tree other, ne_eqb t catalog_tree apart) refl
-        ]
-      ]
-    ]);
-    typed = fun_ext (λ t. elim (cases_eq t version_tree) [
-      | inl is ↦ rw (eq-eqb t version_tree is) refl
-      | inr other ↦ elim (cases_eq t catalog_tree) [
-        | inl is ↦ rw (ne_eqb t version_tree other, eq-eqb t catalog_tree is) refl
-        | inr apart ↦ elim (cases_Bool (ltb t (length numbers))) [
-          | inl low ↦ let here = ltb-true t (length numbers) low in
-              reals_at numbers reals t few here ∙ sym (each t none here).1 ∙ sym (get_mapped (λ (l : Layout). l.reals) layouts t 0 none (omega arith))
-              ∙ rw (ne_eqb t version_tree other, ne_eqb t catalog_tree apart) refl
-          | inr high ↦ let past = ltb-false t (length numbers) high in
-              reals_past numbers reals t other apart past ∙ sym (past_map (λ (l : Layout). l.reals) layouts t 0 (omega arith))
-              ∙ rw (ne_eqb t version_tree other, ne_eqb t catalog_tree apart) refl
-        ]
-      ]
-    ]);
-  }
-
-module _ (numbers : List ℕ) (few : length numbers < 65536) (low : AreLow numbers) (layouts before : List Layout) (a b : View) where
-  own_version : (trees : Trees) (es : List Row) → own_trees numbers (with_tree trees version_tree es) ≡ with_tree (own_trees numbers trees) version_tree es
-  own_version trees es = fun_ext (λ k. elim (cases_eq k version_tree) [
-    | inl is ↦ subst (λ x. own_trees numbers (with_tree trees version_tree es) x ≡ with_tree (own_trees numbers trees) version_tree es x) (sym is) refl
-    | inr other ↦
-        trees_agree numbers few (with_tree trees version_tree es) trees k (λ e. absurd (other e)) (λ _. refl)
-        (λ h. let small = low k h in with_other trees version_tree es (slice_index numbers k) (λ e. absurd (omega arith)))
-        ∙ sym (with_other (own_trees numbers trees) version_tree es k other)
-  ])
-
-  pub own_sets_version : (version : ℕ) → SetsTree a b version_tree (λ _. version_rows version) → SetsTree (own_view numbers layouts before a) (own_view numbers layouts before b) version_tree (λ _. version_rows version)
-  own_sets_version version sets = record {
-    sound = sets.sound;
-    is = ap (own_view numbers layouts before) sets.is ∙ ap (λ (trees : Trees). record (own_view numbers layouts before a) { trees = trees; cursors = b.cursors }) (own_version a.trees (version_rows version));
-  }
 
 last : {X : Type 0} (xs : List X) → xs ≢ [] → length xs - 1 < length xs
 last [] some = absurd (some refl)
 last (x ∷ xs) some = omega arith
 
-module _ (numbers : List ℕ) (layouts before : List Layout) (a b : View) where
-  pub own_releases : Releases a b → Releases (own_view numbers layouts before a) (own_view numbers layouts before b)
-  own_releases is = ap (own_view numbers layouts before) is ∙ ap (λ (marks : List Snapshot). record (own_view numbers layouts before a) { marks = marks })
-      (rw length-map (sym (take-map (own_snapshot numbers) (length a.marks - 1) a.marks)))
+-- the last commit stands
+pub record KeepsCommit (a b : View) : Type 0 where
+  pub shape : b.committed_shape ≡ a.committed_shape
+  pub reals : b.committed_reals ≡ a.committed_reals
+  pub numbered : b.is_numbered ≡ a.is_numbered
+  pub was_open : IsTrue b.is_open → IsTrue a.is_open
+  pub committed : IsTrue b.is_open → b.committed ≡ a.committed
 
-  pub own_marks : AreLaidOut numbers layouts a.shape a.reals → Marks a b → Marks (own_view numbers layouts before a) (own_view numbers layouts before b)
-  own_marks shown marks = record {
-    sound = marks.sound;
-    is = ap (own_view numbers layouts before) marks.is ∙ ap (λ (ms : List Snapshot). record (own_view numbers layouts before a) { marks = ms })
-        (map-append (own_snapshot numbers) a.marks (snapshot a ∷ [])
-        ∙ ap₂ (λ (shape : ℕ → Shape) (reals : ℕ → ℕ). map (own_snapshot numbers) a.marks ++ record { trees = own_trees numbers a.trees; shape = shape; reals = reals } ∷ []) shown.shaped shown.typed);
-  }
+-- and the trees have their layouts
+pub record Stays (a b : View) : Type 0 where
+  pub commit : KeepsCommit a b
+  pub shape : b.shape ≡ a.shape
+  pub reals : b.reals ≡ a.reals
 
-  newest_own : a.marks ≢ [] → newest (own_view numbers layouts before a) ≡ own_snapshot numbers (newest a)
-  newest_own some = rw length-map (get_mapped (own_snapshot numbers) a.marks (length a.marks - 1) (snapshot (own_view numbers layouts before a)) (snapshot a) (last a.marks some))
+pub commit_kept : {a b : View} {trees : Trees} {shape : ℕ → Shape} {reals : ℕ → ℕ} {cursors : ℕ → Option (List Row)} {marks : List Snapshot} {is_broken : Bool}
+    → b ≡ record a { trees = trees; shape = shape; reals = reals; cursors = cursors; marks = marks; is_broken = is_broken } → KeepsCommit a b
+commit_kept is = record {
+  shape = ap (λ (v : View). v.committed_shape) is;
+  reals = ap (λ (v : View). v.committed_reals) is;
+  numbered = ap (λ (v : View). v.is_numbered) is;
+  was_open = λ on. subst (λ (v : View). IsTrue v.is_open) is on;
+  committed = λ on. ap (λ (v : View). v.committed) is;
+}
 
-  pub own_goes_back : (new : List Layout) → AreLaidOut numbers new b.shape b.reals → map (own_snapshot numbers) a.marks ≢ [] → (a.marks ≢ [] → GoesBack a b)
-      → GoesBack (own_view numbers layouts before a) (own_view numbers new before b)
-  own_goes_back new now shown goes =
-      let some : a.marks ≢ [] = λ none. shown (ap (map (own_snapshot numbers)) none) in
-      let back = goes some in
-      record {
-        was_open = back.was_open;
-        is = ap (own_view numbers new before) back.is
-            ∙ ap₂ (λ (shape : ℕ → Shape) (reals : ℕ → ℕ). record (own_view numbers layouts before a) { trees = own_trees numbers (newest a).trees; shape = shape; reals = reals; cursors = b.cursors; is_broken = false })
-            (sym now.shaped ∙ ap (λ (v : View). own_shapes numbers v.shape) back.is) (sym now.typed ∙ ap (λ (v : View). own_reals numbers v.reals) back.is)
-            ∙ ap (λ (s : Snapshot). record (own_view numbers layouts before a) { trees = s.trees; shape = s.shape; reals = s.reals; cursors = b.cursors; is_broken = false }) (sym (newest_own some));
-      }
+pub stays : {a b : View} {trees : Trees} {cursors : ℕ → Option (List Row)} {marks : List Snapshot}
+    → b ≡ record a { trees = trees; cursors = cursors; marks = marks } → Stays a b
+stays is = record { commit = commit_kept is; shape = ap (λ (v : View). v.shape) is; reals = ap (λ (v : View). v.reals) is }
 
-  pub own_stays : (new : List Layout) → AreLaidOut numbers layouts a.shape a.reals → AreLaidOut numbers new b.shape b.reals → map (own_snapshot numbers) a.marks ≡ [] → (a.marks ≡ [] → b ≡ a)
-      → own_view numbers new before b ≡ own_view numbers layouts before a
-  own_stays new was now none stays =
-      let same = stays (no_marks (own_snapshot numbers) a.marks none) in
-      ap (own_view numbers new before) same
-      ∙ ap₂ (λ (shape : ℕ → Shape) (reals : ℕ → ℕ). record (own_view numbers layouts before a) { shape = shape; reals = reals })
-      (sym now.shaped ∙ ap (λ (v : View). own_shapes numbers v.shape) same ∙ was.shaped) (sym now.typed ∙ ap (λ (v : View). own_reals numbers v.reals) same ∙ was.typed)
+stays_failed : {a b : View} → KeepsCommitted a b → Stays a b
+stays_failed k = record {
+  commit = record { shape = k.committed_shape; reals = k.committed_reals; numbered = k.numbered; was_open = k.was_open; committed = k.committed };
+  shape = k.shape;
+  reals = k.reals;
+}
 
-  pub own_commits : Commits a b → Commits (own_view numbers layouts before a) (own_view numbers layouts layouts b)
-  own_commits commits = record { sound = commits.sound; is = ap (own_view numbers layouts layouts) commits.is }
+-- after a call that may fail
+pub stays_after : {X : Type 0} {a b : View} (r : Result X StoreError) → OnOk r (IsClean b → Stays a b) → IfErr r (IsFailure a b) → IsClean b → Stays a b
+stays_after (Ok x) done failed clean = done clean
+stays_after (Err e) done failed clean = stays_failed failed.kept
 
-  pub own_only_commits : OnlyCommits a b → OnlyCommits (own_view numbers layouts before a) (own_view numbers layouts layouts b)
-  own_only_commits commits = ap (own_view numbers layouts layouts) commits
+module _ {numbers : List ℕ} {layouts before : List Layout} {makes : Bool} {a : View} (it : IsShown numbers layouts before makes a) where
+  abbrev own : View → View
+  own = own_view numbers layouts before
 
--- what the store keeps of its layouts, and of the last commit
-pub record IsKept (numbers : List ℕ) (layouts before : List Layout) (v : View) : Type 0 where
-  pub shown : AreLaidOut numbers layouts v.shape v.reals
-  pub kept : AreLaidOut numbers before v.committed_shape v.committed_reals
-  pub listed : IsTrue v.is_open → IsListed (v.committed catalog_tree) v.committed_shape v.committed_reals
+  -- what a call of one tree does
+  module _ {t n : ℕ} (inside : IsNumberOf numbers layouts a t n) where
+    pub rows_inside : own_trees numbers a.trees t ≡ a.trees n
+    rows_inside = own_at numbers a.trees t it.apart.few inside.low ∙ ap a.trees (sym inside.is)
 
-module _ (numbers : List ℕ) (layouts before new : List Layout) (a b : View) (broken : b.is_open ≡ false → IsTrue b.is_broken) (back : IsRolledBack a b) (went : GoBack layouts before new b) where
-  went_to : (on broken : Bool) → b.is_open ≡ on → b.is_broken ≡ broken → new ≡ (if broken then layouts else before) → new ≡ (if on then before else layouts)
-  went_to true true on is at = absurd (let u = back.undone on in cc)
-  went_to true false on is at = at
-  went_to false true on is at = at
-  went_to false false on is at = absurd (let u = broken on in cc)
+    pub sets_inside : (b : View) (edit : Shape → List Row → List Row) → SetsTree a b n (edit (a.shape n)) → SetsTree (own a) (own b) t (edit (shapes_by layouts t))
+    sets_inside b edit sets = record {
+      sound = sets.sound;
+      is = ap own sets.is ∙ ap (λ (trees : Trees). record (own a) { trees = trees; cursors = b.cursors })
+          (ap (λ m. own_trees numbers (with_tree a.trees m (edit (a.shape n) (a.trees n)))) inside.is ∙ own_edit numbers it.apart t inside.low a.trees (edit (a.shape n) (a.trees n))
+          ∙ ap₂ (λ s es. with_tree (own_trees numbers a.trees) t (edit s es)) inside.shaped (sym rows_inside));
+    }
 
-  pub layouts_back : IsClean b → new ≡ (if b.is_open then before else layouts)
-  layouts_back clean = went_to b.is_open b.is_broken refl refl (went.1 clean)
+    pub creates_inside : (b : View) {new : List Layout} (o : Object) → doubt a.is_clean ≤ doubt b.is_clean → AreLaidOut numbers new b.shape b.reals → IsClean b → Creates a b n o
+        → Creates (own a) (own_view numbers new before b) t o
+    creates_inside b {new = new} o falls now clean makes =
+        let made = with_tree (with_tree (own_trees numbers a.trees) t []) catalog_tree (put_row (object_row t o) (own_trees numbers a.trees catalog_tree)) in
+        let was = it.now (omega arith) in
+        let is = subst (λ k. Creates a b k o) inside.is makes in
+        record {
+          sound = makes.sound;
+          is = ap (own_view numbers new before) is.is
+              ∙ ap (λ (trees : Trees). record (own a) { trees = trees; shape = shapes_by new; reals = reals_by new; cursors = b.cursors }) (tree_made numbers it.apart t inside.low o a.trees)
+              ∙ ap₂ (λ (shape : ℕ → Shape) (reals : ℕ → ℕ). record (own a) { trees = made; shape = shape; reals = reals; cursors = b.cursors })
+              (sym now.shaped ∙ ap (λ (v : View). own_shapes numbers v.shape) is.is ∙ values_set Absent Table numbers it.apart.few it.apart t inside.low a.shape o.shape ∙ ap (λ (f : ℕ → Shape). set_at f t o.shape) was.shaped)
+              (sym now.typed ∙ ap (λ (v : View). own_reals numbers v.reals) is.is ∙ values_set 0 0 numbers it.apart.few it.apart t inside.low a.reals o.reals ∙ ap (λ (f : ℕ → ℕ). set_at f t o.reals) was.typed);
+        }
 
-  shapes_back : (on : Bool) → new ≡ (if on then before else layouts) → shapes_by new ≡ (if on then shapes_by before else shapes_by layouts)
-  shapes_back true e = ap shapes_by e
-  shapes_back false e = ap shapes_by e
+  -- what is shown after a call
+  module _ (b : View) (falls : doubt a.is_clean ≤ doubt b.is_clean) where
+    pub shown_laid : {new : List Layout} → length new ≡ length layouts → (IsClean b → AreLaidOut numbers new b.shape b.reals) → (IsClean b → KeepsCommit a b)
+        → IsShown numbers new before makes b
+    shown_laid same now keeps = record {
+      apart = it.apart;
+      all = (same ∙ it.all.0, it.all.1);
+      numbered = λ may clean. subst IsTrue (sym (keeps clean).numbered) (it.numbered may (omega arith));
+      now = now;
+      kept = λ clean. let k = keeps clean in let was = it.kept (omega arith) in
+          record { shaped = ap (own_shapes numbers) k.shape ∙ was.shaped; typed = ap (own_reals numbers) k.reals ∙ was.typed };
+      listed = λ clean on. let k = keeps clean in subst (λ (trees : Trees). IsListed (trees catalog_tree) b.committed_shape b.committed_reals) (sym (k.committed on))
+          (subst₂ (IsListed (a.committed catalog_tree)) (sym k.shape) (sym k.reals) (it.listed (omega arith) (k.was_open on)));
+    }
 
-  reals_back : (on : Bool) → new ≡ (if on then before else layouts) → reals_by new ≡ (if on then reals_by before else reals_by layouts)
-  reals_back true e = ap reals_by e
-  reals_back false e = ap reals_by e
+    pub shown : (IsClean b → Stays a b) → IsShown numbers layouts before makes b
+    shown still = shown_laid refl
+        (λ clean. let s = still clean in let was = it.now (omega arith) in record { shaped = ap (own_shapes numbers) s.shape ∙ was.shaped; typed = ap (own_reals numbers) s.reals ∙ was.typed })
+        (λ clean. (still clean).commit)
 
-  pub own_rolled_back : IsRolledBack (own_view numbers layouts before a) (own_view numbers new before b)
-  own_rolled_back = record {
-    kept = λ clean. let k = back.kept clean in record {
-      shape = shapes_back b.is_open (layouts_back clean);
-      reals = reals_back b.is_open (layouts_back clean);
+    pub shown_committed : {new : List Layout} → new ≡ layouts → (a.is_broken ≡ false → IsListed (a.trees catalog_tree) a.shape a.reals) → (IsClean b → Commits a b) → IsShown numbers layouts new makes b
+    shown_committed same listed commits = subst (λ new. IsShown numbers layouts new makes b) (sym same) (record {
+      apart = it.apart;
+      all = (it.all.0, it.all.0);
+      numbered = λ may clean. subst (λ (v : View). IsTrue v.is_numbered) (sym (commits clean).is) (it.numbered may (omega arith));
+      now = λ clean. subst (λ (v : View). AreLaidOut numbers layouts v.shape v.reals) (sym (commits clean).is) (it.now (omega arith));
+      kept = λ clean. subst (λ (v : View). AreLaidOut numbers layouts v.committed_shape v.committed_reals) (sym (commits clean).is) (it.now (omega arith));
+      listed = λ clean on. subst (λ (v : View). IsListed (v.committed catalog_tree) v.committed_shape v.committed_reals) (sym (commits clean).is) (listed (commits clean).sound);
+    })
+
+    pub marks_shown : IsClean b → Marks a b → Marks (own a) (own b)
+    marks_shown clean marks = let was = it.now (omega arith) in record {
+      sound = marks.sound;
+      is = ap own marks.is ∙ ap (λ (ms : List Snapshot). record (own a) { marks = ms })
+          (map-append (own_snapshot numbers) a.marks (snapshot a ∷ [])
+          ∙ ap₂ (λ (shape : ℕ → Shape) (reals : ℕ → ℕ). map (own_snapshot numbers) a.marks ++ record { trees = own_trees numbers a.trees; shape = shape; reals = reals } ∷ []) was.shaped was.typed);
+    }
+
+  -- what a rollback does, or a commit that failed
+  module _ {new : List Layout} (b : View) (falls : doubt a.is_clean ≤ doubt b.is_clean) (broken : b.is_open ≡ false → IsTrue b.is_broken) (back : IsRolledBack a b)
+      (went : GoBack layouts before new b) where
+    went_to : {X : Type 0} (of : List Layout → X) (on broken : Bool) → b.is_open ≡ on → b.is_broken ≡ broken → new ≡ (if broken then layouts else before)
+        → of new ≡ (if on then of before else of layouts)
+    went_to of true true on is at = absurd (let u = back.undone on in cc)
+    went_to of true false on is at = ap of at
+    went_to of false true on is at = ap of at
+    went_to of false false on is at = absurd (let u = broken on in cc)
+
+    goes : {X : Type 0} (of : List Layout → X) → IsClean b → of new ≡ (if b.is_open then of before else of layouts)
+    goes of clean = went_to of b.is_open b.is_broken refl refl (went.1 clean)
+
+    pub back_shown : IsRolledBack (own a) (own_view numbers new before b)
+    back_shown = record {
+      kept = λ clean. let k = back.kept clean in record {
+        shape = goes shapes_by clean;
+        reals = goes reals_by clean;
+        committed_shape = refl;
+        committed_reals = refl;
+        numbered = refl;
+        was_open = k.was_open;
+        committed = λ on. ap (own_trees numbers) (k.committed on);
+        marks = λ on. ap (map (own_snapshot numbers)) (k.marks on);
+      };
+      shape = λ same. elim went.0 [ inl e ↦ ap shapes_by e | inr e ↦ ap shapes_by e ∙ sym same ];
+      reals = λ same. elim went.0 [ inl e ↦ ap reals_by e | inr e ↦ ap reals_by e ∙ sym same ];
       committed_shape = refl;
       committed_reals = refl;
       numbered = refl;
-      was_open = k.was_open;
-      committed = λ on. ap (own_trees numbers) (k.committed on);
-      marks = λ on. ap (map (own_snapshot numbers)) (k.marks on);
-    };
-    shape = λ same. elim went.0 [ inl e ↦ ap shapes_by e | inr e ↦ ap shapes_by e ∙ sym same ];
-    reals = λ same. elim went.0 [ inl e ↦ ap reals_by e | inr e ↦ ap reals_by e ∙ sym same ];
-    committed_shape = refl;
-    committed_reals = refl;
-    numbered = refl;
-    undone = λ on. let u = back.undone on in (ap (own_trees numbers) u.0, u.1);
-  }
+      undone = λ on. let u = back.undone on in (ap (own_trees numbers) u.0, u.1);
+    }
 
-  laid_back : (on : Bool) → new ≡ (if on then before else layouts) → b.shape ≡ (if on then a.committed_shape else a.shape) → b.reals ≡ (if on then a.committed_reals else a.reals)
-      → IsKept numbers layouts before a → AreLaidOut numbers new b.shape b.reals
-  laid_back true at shape reals k = record { shaped = ap (own_shapes numbers) shape ∙ k.kept.shaped ∙ ap shapes_by (sym at); typed = ap (own_reals numbers) reals ∙ k.kept.typed ∙ ap reals_by (sym at) }
-  laid_back false at shape reals k = record { shaped = ap (own_shapes numbers) shape ∙ k.shown.shaped ∙ ap shapes_by (sym at); typed = ap (own_reals numbers) reals ∙ k.shown.typed ∙ ap reals_by (sym at) }
+    laid_back : (on : Bool) → new ≡ (if on then before else layouts) → b.shape ≡ (if on then a.committed_shape else a.shape) → b.reals ≡ (if on then a.committed_reals else a.reals)
+        → AreLaidOut numbers layouts a.shape a.reals → AreLaidOut numbers before a.committed_shape a.committed_reals → AreLaidOut numbers new b.shape b.reals
+    laid_back true at shape reals now kept = record { shaped = ap (own_shapes numbers) shape ∙ kept.shaped ∙ ap shapes_by (sym at); typed = ap (own_reals numbers) reals ∙ kept.typed ∙ ap reals_by (sym at) }
+    laid_back false at shape reals now kept = record { shaped = ap (own_shapes numbers) shape ∙ now.shaped ∙ ap shapes_by (sym at); typed = ap (own_reals numbers) reals ∙ now.typed ∙ ap reals_by (sym at) }
 
-  pub kept_rolled_back : IsClean b → IsKept numbers layouts before a → IsKept numbers new before b
-  kept_rolled_back clean k =
-      let same = back.kept clean in
-      record {
-        shown = laid_back b.is_open (layouts_back clean) same.shape same.reals k;
-        kept = record { shaped = ap (own_shapes numbers) back.committed_shape ∙ k.kept.shaped; typed = ap (own_reals numbers) back.committed_reals ∙ k.kept.typed };
-        listed = λ on. subst (λ (trees : Trees). IsListed (trees catalog_tree) b.committed_shape b.committed_reals) (sym (same.committed on))
-            (subst₂ (IsListed (a.committed catalog_tree)) (sym same.committed_shape) (sym same.committed_reals) (k.listed (same.was_open on)));
-      }
+    pub shown_back : IsShown numbers new before makes b
+    shown_back = shown_laid b falls (elim went.0 [ inl e ↦ ap length e | inr e ↦ ap length e ∙ it.all.1 ∙ sym it.all.0 ])
+        (λ clean. let k = back.kept clean in laid_back b.is_open (goes (λ l. l) clean) k.shape k.reals (it.now (omega arith)) (it.kept (omega arith)))
+        (λ clean. let k = back.kept clean in record { shape = back.committed_shape; reals = back.committed_reals; numbered = back.numbered; was_open = k.was_open; committed = k.committed })
 
--- the last commit is the same
-record KeepsCommit (b a : View) : Type 0 where
-  shape : b.committed_shape ≡ a.committed_shape
-  reals : b.committed_reals ≡ a.committed_reals
-  committed : b.committed ≡ a.committed
-  was_open : IsTrue b.is_open → IsTrue a.is_open
+  newest_own : a.marks ≢ [] → newest (own a) ≡ own_snapshot numbers (newest a)
+  newest_own some = rw length-map (get_mapped (own_snapshot numbers) a.marks (length a.marks - 1) (snapshot (own a)) (snapshot a) (last a.marks some))
 
--- and keeps
+  -- what going back to the newest mark does
+  module _ {new : List Layout} (b : View) (falls : doubt a.is_clean ≤ doubt b.is_clean) (laid : AreLaidOut numbers new b.shape b.reals) where
+    pub goes_back_shown : map (own_snapshot numbers) a.marks ≢ [] → (a.marks ≢ [] → GoesBack a b) → GoesBack (own a) (own_view numbers new before b)
+    goes_back_shown marked goes =
+        let some : a.marks ≢ [] = λ none. marked (ap (map (own_snapshot numbers)) none) in
+        let back = goes some in
+        record {
+          was_open = back.was_open;
+          is = ap (own_view numbers new before) back.is
+              ∙ ap₂ (λ (shape : ℕ → Shape) (reals : ℕ → ℕ). record (own a) { trees = own_trees numbers (newest a).trees; shape = shape; reals = reals; cursors = b.cursors; is_broken = false })
+              (sym laid.shaped ∙ ap (λ (v : View). own_shapes numbers v.shape) back.is) (sym laid.typed ∙ ap (λ (v : View). own_reals numbers v.reals) back.is)
+              ∙ ap (λ (s : Snapshot). record (own a) { trees = s.trees; shape = s.shape; reals = s.reals; cursors = b.cursors; is_broken = false }) (sym (newest_own some));
+        }
+
+    pub unmarked_shown : IsClean b → map (own_snapshot numbers) a.marks ≡ [] → (a.marks ≡ [] → b ≡ a) → own_view numbers new before b ≡ own a
+    unmarked_shown clean none stays =
+        let same = stays (no_marks (own_snapshot numbers) a.marks none) in
+        let was = it.now (omega arith) in
+        ap (own_view numbers new before) same
+        ∙ ap₂ (λ (shape : ℕ → Shape) (reals : ℕ → ℕ). record (own a) { shape = shape; reals = reals })
+        (sym laid.shaped ∙ ap (λ (v : View). own_shapes numbers v.shape) same ∙ was.shaped) (sym laid.typed ∙ ap (λ (v : View). own_reals numbers v.reals) same ∙ was.typed)
+
+    pub shown_to : length new ≡ length layouts → (IsClean b → a.marks ≢ [] → GoesBack a b) → (IsClean b → a.marks ≡ [] → b ≡ a) → IsShown numbers new before makes b
+    shown_to same back stays = shown_laid b falls same (λ _. laid) (λ clean. go clean a.marks refl)
+      where
+        go : IsClean b → (marks : List Snapshot) → a.marks ≡ marks → KeepsCommit a b
+        go clean [] none = commit_kept (stays clean none)
+        go clean (x ∷ xs) is = commit_kept (back clean (λ none. absurd (cc))).is
+
 module _ (numbers : List ℕ) (layouts before : List Layout) (a b : View) where
-  pub kept_commit : (a.is_broken ≡ false → IsListed (a.trees catalog_tree) a.shape a.reals) → AreLaidOut numbers layouts a.shape a.reals → Commits a b → IsKept numbers layouts layouts b
-  kept_commit listed shown commits = subst (IsKept numbers layouts layouts) (sym commits.is) (record { shown = shown; kept = shown; listed = λ on. listed commits.sound })
+  pub releases_shown : Releases a b → Releases (own_view numbers layouts before a) (own_view numbers layouts before b)
+  releases_shown is = ap (own_view numbers layouts before) is ∙ ap (λ (marks : List Snapshot). record (own_view numbers layouts before a) { marks = marks })
+      (rw length-map (sym (take-map (own_snapshot numbers) (length a.marks - 1) a.marks)))
 
-  pub kept_committed : KeepsCommitted a b → IsKept numbers layouts before a → IsKept numbers layouts before b
-  kept_committed same k = record {
-    shown = record { shaped = ap (own_shapes numbers) same.shape ∙ k.shown.shaped; typed = ap (own_reals numbers) same.reals ∙ k.shown.typed };
-    kept = record { shaped = ap (own_shapes numbers) same.committed_shape ∙ k.kept.shaped; typed = ap (own_reals numbers) same.committed_reals ∙ k.kept.typed };
-    listed = λ on. subst (λ (trees : Trees). IsListed (trees catalog_tree) b.committed_shape b.committed_reals) (sym (same.committed on))
-        (subst₂ (IsListed (a.committed catalog_tree)) (sym same.committed_shape) (sym same.committed_reals) (k.listed (same.was_open on)));
-  }
-
-  pub kept_marked : Marks a b → IsKept numbers layouts before a → IsKept numbers layouts before b
-  kept_marked m k = subst (IsKept numbers layouts before) (sym m.is) (record { shown = k.shown; kept = k.kept; listed = k.listed })
-
-  pub kept_back : (new : List Layout) → IsClean b → (IsClean b → a.marks ≢ [] → GoesBack a b) → (IsClean b → a.marks ≡ [] → b ≡ a) → AreLaidOut numbers new b.shape b.reals
-      → IsKept numbers layouts before a → IsKept numbers new before b
-  kept_back new clean back stays now k = go a.marks refl
-    where
-      same : KeepsCommit b a → IsKept numbers new before b
-      same e = record {
-        shown = now;
-        kept = record { shaped = ap (own_shapes numbers) e.shape ∙ k.kept.shaped; typed = ap (own_reals numbers) e.reals ∙ k.kept.typed };
-        listed = λ on. subst (λ (trees : Trees). IsListed (trees catalog_tree) b.committed_shape b.committed_reals) (sym e.committed)
-            (subst₂ (IsListed (a.committed catalog_tree)) (sym e.shape) (sym e.reals) (k.listed (e.was_open on)));
-      }
-
-      go : (marks : List Snapshot) → a.marks ≡ marks → IsKept numbers new before b
-      go [] none = let e = stays clean none in same (record { shape = ap (λ (v : View). v.committed_shape) e; reals = ap (λ (v : View). v.committed_reals) e; committed = ap (λ (v : View). v.committed) e; was_open = λ on. subst (λ (v : View). IsTrue v.is_open) e on })
-      go (x ∷ xs) is =
-          let it = back clean (λ none. absurd (cc)) in
-          same (record { shape = ap (λ (v : View). v.committed_shape) it.is; reals = ap (λ (v : View). v.committed_reals) it.is; committed = ap (λ (v : View). v.committed) it.is; was_open = λ on. it.was_open })
-
-  pub kept_creates : (new : List Layout) (n : ℕ) (o : Object) → Creates a b n o → AreLaidOut numbers new b.shape b.reals → IsKept numbers layouts before a → IsKept numbers new before b
-  kept_creates new n o makes now k = record {
-    shown = now;
-    kept = record { shaped = ap (λ (v : View). own_shapes numbers v.committed_shape) makes.is ∙ k.kept.shaped; typed = ap (λ (v : View). own_reals numbers v.committed_reals) makes.is ∙ k.kept.typed };
-    listed = λ on. subst (λ (v : View). IsListed (v.committed catalog_tree) v.committed_shape v.committed_reals) (sym makes.is) (k.listed (subst (λ (v : View). IsTrue v.is_open) makes.is on));
+  pub sets_version : (apart : AreApart numbers) (version : ℕ) → SetsTree a b version_tree (λ _. version_rows version)
+      → SetsTree (own_view numbers layouts before a) (own_view numbers layouts before b) version_tree (λ _. version_rows version)
+  sets_version apart version sets = record {
+    sound = sets.sound;
+    is = ap (own_view numbers layouts before) sets.is
+        ∙ ap (λ (trees : Trees). record (own_view numbers layouts before a) { trees = trees; cursors = b.cursors }) (own_version numbers apart a.trees (version_rows version));
   }
 
 -- a tree's row among the first five columns

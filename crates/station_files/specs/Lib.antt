@@ -1,6 +1,7 @@
 pub mod Begun
 pub mod Beside
 pub mod ByList
+pub mod Connected
 pub mod Listed
 pub mod Own
 pub mod OwnFiles

@@ -1,10 +1,10 @@
 -- The part of a store that is shown, if it has trees of other programs besides those of a list.
-use Rattle.std.specs.Prelude.{◌≡◌, ◌<◌, ℕ, ◌+◌, ◌==◌, pos, true, if◌then◌else◌, List, [], ◌∷◌, ◌++◌, length, map, find, nat_lt, slice_index, slice_index_or, Option, Some, None}
+use Rattle.std.specs.Prelude.{◌≡◌, ◌<◌, ℕ, ◌+◌, ◌==◌, pos, true, if◌then◌else◌, IsTrue, Bool, List, [], ◌∷◌, ◌++◌, length, map, find, nat_lt, slice_index, slice_index_or, Option, Some, None}
 use Rattle.sqlite_value.specs.declared.value.Value.TheVariants.{Int}
 use Rattle.sqlite_value.specs.Order.{Row, column}
-use Rattle.sqlite_trees.specs.Objects.{catalog_tree, version_tree, number_in, set_at}
+use Rattle.sqlite_trees.specs.Objects.{catalog_tree, version_tree, number_in, set_at, IsListed}
 use Rattle.sqlite_trees.specs.Tree.{Trees, has_rowid}
-use Rattle.sqlite_trees.specs.View.{Snapshot, View}
+use Rattle.sqlite_trees.specs.View.{Snapshot, View, IsClean}
 use Rattle.sqlite_trees.specs.declared.store.Shape.{Shape}
 use Rattle.sqlite_trees.specs.declared.store.Shape.TheVariants.{Absent, Table}
 use Rattle.station_files.specs.declared.layout.Layout.{Layout}
@@ -69,6 +69,26 @@ own_view numbers layouts before v = record v {
 pub record AreLaidOut (numbers : List ℕ) (layouts : List Layout) (shape : ℕ → Shape) (reals : ℕ → ℕ) : Type 0 where
   pub shaped : own_shapes numbers shape ≡ shapes_by layouts
   pub typed : own_reals numbers reals ≡ reals_by layouts
+
+-- each number is less than those of the list and of the version
+abbrev pub AreLow : List ℕ → Type 0
+AreLow numbers = (t : ℕ) → t < length numbers → slice_index numbers t < 65536
+
+-- fewer than 65536 numbers, which are low and different
+pub record AreApart (numbers : List ℕ) : Type 0 where
+  pub few : length numbers < 65536
+  pub low : AreLow numbers
+  pub apart : (s t : ℕ) → s < length numbers → t < length numbers → slice_index numbers s ≡ slice_index numbers t → s ≡ t
+
+-- A store's trees with these numbers have these layouts, now and at the last commit. Their shapes
+-- at the last commit follow from its list. Trees are made only in a numbered store.
+pub record IsShown (numbers : List ℕ) (layouts before : List Layout) (makes : Bool) (v : View) : Type 0 where
+  pub apart : AreApart numbers
+  pub all : (length layouts ≡ length numbers) × (length before ≡ length numbers)
+  pub numbered : IsTrue makes → IsClean v → IsTrue v.is_numbered
+  pub now : IsClean v → AreLaidOut numbers layouts v.shape v.reals
+  pub kept : IsClean v → AreLaidOut numbers before v.committed_shape v.committed_reals
+  pub listed : IsClean v → IsTrue v.is_open → IsListed (v.committed catalog_tree) v.committed_shape v.committed_reals
 
 -- the inner number of a tree that is shown, with the same layout
 pub record IsNumberOf (numbers : List ℕ) (layouts : List Layout) (v : View) (tree number : ℕ) : Type 0 where

@@ -5,10 +5,11 @@ ghost use Rattle.sqlite.specs.Files.{IsClosed};
 ghost use Rattle.sqlite.specs.Held.{state};
 ghost use Rattle.sqlite_wal.specs.Reads.{AreClean};
 ghost use Rattle.station_files.specs.ByList.{IsCopiedByList};
+ghost use Rattle.station_files.specs.Connected.{IsInside};
 ghost use Rattle.station_files.specs.OwnFiles.{IsClosedOwn, IsCopiedOwn};
 
 use crate::own_trees::OwnTrees;
-use sqlite::{Connection, FileStore};
+use sqlite::{Alter, Connection, FileStore};
 use sqlite_disk::{Disk, Files};
 use sqlite_trees::store::Store;
 
@@ -37,6 +38,21 @@ pub fn give_back<D: Disk + Drop>(conn: Connection<FileStore<D>>) -> FileStore<D>
     conn.into_store()
 }
 
+/// Rolls back and returns the store inside.
+fn inside<S: Alter + Drop>(conn: Connection<OwnTrees<S>>) -> S
+    ensures { IsInside S.Store (state ⟦<OwnTrees<S> as Store>⟧ conn) result }
+{
+    conn.into_store().into_inner()
+}
+
+// One call at the concrete store, as each one costs a proof of the whole `impl Store`.
+fn file_inside<D: Disk + Drop>(conn: Connection<OwnTrees<FileStore<D>>>) -> FileStore<D>
+    ensures { IsInside ⟦<FileStore<D> as Store>⟧
+        (state ⟦<OwnTrees<FileStore<D>> as Store>⟧ conn) result }
+{
+    inside(conn)
+}
+
 /// Closes like `close_files`, for a connection to some trees of its files.
 pub fn close_beside<D: Disk + Drop>(
     conn: Connection<OwnTrees<FileStore<D>>>,
@@ -46,7 +62,7 @@ pub fn close_beside<D: Disk + Drop>(
     ensures left { IfErr result (λ store.
         IsClosedOwn (state ⟦<OwnTrees<FileStore<D>> as Store>⟧ conn) store) }
 {
-    let mut store = conn.into_store().into_inner();
+    let mut store = file_inside(conn);
     // Rolls back again, as only this store's rollback has a contract about the log.
     store.rollback();
     match store.checkpoint() {
@@ -59,5 +75,5 @@ pub fn close_beside<D: Disk + Drop>(
 pub fn give_back_beside<D: Disk + Drop>(conn: Connection<OwnTrees<FileStore<D>>>) -> FileStore<D>
     ensures { IsClosedOwn (state ⟦<OwnTrees<FileStore<D>> as Store>⟧ conn) result }
 {
-    conn.into_store().into_inner()
+    file_inside(conn)
 }

@@ -9,7 +9,7 @@ ghost use Rattle.sqlite.specs.Held.{IsNew};
 ghost use Rattle.sqlite.specs.Files.{file_state, image_of, IsCleanLeft, IsEmpty, IsOpened};
 ghost use Rattle.station_files.specs.Begun.{IsBegun, LeavesUnstarted};
 
-use crate::opening::with_list;
+use crate::opening::{connect, with_list};
 use sqlite::{Connection, Error, ErrorCode, FileStore, Leftover, Options};
 use sqlite_disk::{Disk, Files};
 use sqlite_pool::probe_blank;
@@ -111,7 +111,7 @@ pub fn open_new<D: Disk + Drop>(
         Err(code) => return Err((code, Leftover::Files(files))),
     }
     let store = store_begun(alloc, files, size, options)?;
-    match Connection::over(alloc, store) {
+    match connect(alloc, store) {
         Ok(conn) => Ok(Some(conn)),
         Err((error, store)) => Err((open_code(error), Leftover::Store(store))),
     }

@@ -5,14 +5,17 @@ ghost use Rattle.sqlite_store.specs.FileStore.{view, is_shielded};
 ghost use Rattle.sqlite_store.specs.Unopened.{files_of, state_of, wanted_by};
 ghost use Rattle.sqlite_store.specs.Catalog.{Describes};
 ghost use Rattle.sqlite.specs.State.{HasCleanDisk};
+ghost use Rattle.sqlite_trees.specs.View.{IsClean};
 ghost use Rattle.sqlite.specs.Held.{IsNew};
+ghost use Rattle.sqlite.specs.Steps.{IsFresh};
 ghost use Rattle.sqlite.specs.Files.{file_state, Finds, IsCleanLeft, IsOpened};
 ghost use Rattle.station_files.specs.ByList.{FindsByList};
+ghost use Rattle.station_files.specs.Connected.{IsOver, Spares};
 ghost use Rattle.station_files.specs.Listed.{IsReadByList};
 ghost use Rattle.station_files.specs.Spared.{SparesFiles};
 
 use crate::first_page::{begins_plain, named_size};
-use sqlite::{Connection, FileStore, Leftover, Options};
+use sqlite::{Connection, Error, FileStore, Leftover, Options};
 use sqlite_disk::{Disk, Files};
 use sqlite_pager::Pager;
 use sqlite_store::Unopened;
@@ -75,6 +78,22 @@ fn store_by_list<D: Disk>(
     }
 }
 
+/// Connects to a store that was just opened, or returns the store with the error.
+// One call at the concrete store, as each one costs a proof of the whole `impl Store`.
+pub(crate) fn connect<D: Disk + Drop>(
+    alloc: Global,
+    store: FileStore<D>,
+) -> Result<Connection<FileStore<D>>, (Error, FileStore<D>)>
+    requires { IsClean (view store) → IsFresh (view store) }
+    ensures over { IfOk result (IsOver store) }
+    ensures left { IfErr result (λ e. Spares store e.1) }
+{
+    match Connection::over(alloc, store) {
+        Ok(over) => Ok(over),
+        Err(left) => Err(left),
+    }
+}
+
 /// Opens two files with a database of exactly these trees, in this order, whose pages have no
 /// checksums. It recovers the log once, while `Connection::open_files` recovers it twice: first to
 /// read the list of trees.
@@ -101,7 +120,7 @@ pub fn open_listed<D: Disk + Drop>(
     ensures spared { IfErr result (λ left. IsCleanLeft left → SparesFiles files objects.now left) }
 {
     let store = store_by_list(alloc, files, options, objects)?;
-    match Connection::over(alloc, store) {
+    match connect(alloc, store) {
         Ok(conn) => Ok(conn),
         Err((_, store)) => Err(Leftover::Store(store)),
     }

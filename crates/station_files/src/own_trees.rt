@@ -3,14 +3,14 @@ ghost use Rattle.std.specs.Prelude.{◌≡◌, ◌≢◌, ◌⊎◌, ◌<◌, �
 ghost use Rattle.std.specs.List.{AllByRecursion};
 ghost use Rattle.sqlite_value.specs.declared.value.Value.TheVariants.{Text};
 ghost use Rattle.sqlite_value.specs.Order.{column};
-ghost use Rattle.sqlite_trees.specs.Objects.{catalog_tree, IsListed};
+ghost use Rattle.sqlite_trees.specs.Objects.{catalog_tree};
 ghost use Rattle.sqlite_trees.specs.Tree.{Trees};
 ghost use Rattle.sqlite_trees.specs.View.{IsClean};
 ghost use Rattle.sqlite_trees.specs.declared.error.StoreError.{StoreError as Failure};
 ghost use Rattle.sqlite_trees.specs.declared.error.StoreError.TheVariants.{OutOfMemory};
 ghost use Rattle.sqlite_trees.specs.declared.store.Shape.TheVariants.{Absent};
 ghost use Rattle.sqlite.specs.Steps.{IsFresh};
-ghost use Rattle.station_files.specs.Own.{as_numbered, number_inside, own_trees, own_view, renumbered, rows_from, AreLaidOut, IsNumberOf};
+ghost use Rattle.station_files.specs.Own.{as_numbered, number_inside, own_trees, own_view, renumbered, rows_from, AreApart, AreLaidOut, IsNumberOf, IsShown};
 ghost use Rattle.station_files.specs.OwnLaws.{GoBack};
 
 use crate::layout::Layout;
@@ -35,22 +35,7 @@ pub struct OwnTrees<S: Alter> {
     before: Vec<Layout>,
     makes: bool,
     alloc: Global,
-    ghost few: { length numbers.items < 65536 },
-    ghost low: { (t : ℕ) → t < length numbers.items → slice_index numbers.items t < 65536 },
-    ghost apart: { (s t : ℕ) → s < length numbers.items → t < length numbers.items
-        → slice_index numbers.items s ≡ slice_index numbers.items t → s ≡ t },
-    ghost all: { (length layouts.items ≡ length numbers.items)
-        × (length before.items ≡ length numbers.items) },
-    ghost numbered: { IsTrue makes → IsClean (S.Store.view store)
-        → IsTrue (S.Store.view store).is_numbered },
-    ghost shown: { IsClean (S.Store.view store) → AreLaidOut numbers.items layouts.items
-        (S.Store.view store).shape (S.Store.view store).reals },
-    ghost kept: { IsClean (S.Store.view store) → AreLaidOut numbers.items before.items
-        (S.Store.view store).committed_shape (S.Store.view store).committed_reals },
-    // The shapes follow from the list of the last commit.
-    ghost listed: { IsClean (S.Store.view store) → IsTrue (S.Store.view store).is_open
-        → IsListed ((S.Store.view store).committed catalog_tree)
-        (S.Store.view store).committed_shape (S.Store.view store).committed_reals },
+    ghost inside: { IsShown numbers.items layouts.items before.items makes (S.Store.view store) },
 }
 
 // Written out, so that callers needn't prove again how each part is dropped.
@@ -77,11 +62,7 @@ fn comes_before(numbers: &[u32], at: usize) -> bool
 }
 
 fn are_apart(numbers: &[u32]) -> bool
-    ensures few { IsTrue result → length numbers.now < 65536 }
-    ensures low { IsTrue result → (t : ℕ) → t < length numbers.now
-        → slice_index numbers.now t < 65536 }
-    ensures apart { IsTrue result → (s t : ℕ) → s < length numbers.now → t < length numbers.now
-        → slice_index numbers.now s ≡ slice_index numbers.now t → s ≡ t }
+    ensures { IsTrue result → AreApart numbers.now }
 {
     if numbers.len() >= 65536 {
         return false;
@@ -102,7 +83,7 @@ fn layout_of<S: Alter>(store: &S, number: u32) -> Layout
     Layout { shape, reals }
 }
 
-fn lay_out<S: Alter>(store: &S, numbers: &[u32], layouts: &mut [Layout])
+fn lay_out_each<S: Alter>(store: &S, numbers: &[u32], layouts: &mut [Layout])
     requires few { length numbers.now < 65536 }
     requires all { length layouts.old ≡ length numbers.now }
     ensures all { length layouts.new ≡ length layouts.old }
@@ -114,14 +95,24 @@ fn lay_out<S: Alter>(store: &S, numbers: &[u32], layouts: &mut [Layout])
     }
 }
 
+fn lay_out<S: Alter>(store: &S, numbers: &Vec<u32>, layouts: &mut Vec<Layout>)
+    requires few { length numbers.now.items < 65536 }
+    requires all { length layouts.old.items ≡ length numbers.now.items }
+    ensures all { length layouts.new.items ≡ length layouts.old.items }
+    ensures shown { AreLaidOut numbers.now.items layouts.new.items
+        (S.Store.view store.now).shape (S.Store.view store.now).reals }
+{
+    lay_out_each(store, numbers, layouts);
+}
+
 fn layouts_of<S: Alter>(
     alloc: Global,
     store: &S,
-    numbers: &[u32],
+    numbers: &Vec<u32>,
 ) -> Result<Vec<Layout>, AllocError>
-    requires { length numbers.now < 65536 }
-    ensures all { IfOk result (λ layouts. length layouts.items ≡ length numbers.now) }
-    ensures shown { IfOk result (λ layouts. AreLaidOut numbers.now layouts.items
+    requires { length numbers.now.items < 65536 }
+    ensures all { IfOk result (λ layouts. length layouts.items ≡ length numbers.now.items) }
+    ensures shown { IfOk result (λ layouts. AreLaidOut numbers.now.items layouts.items
         (S.Store.view store.now).shape (S.Store.view store.now).reals) }
 {
     let none = Layout {
@@ -134,10 +125,9 @@ fn layouts_of<S: Alter>(
 }
 
 /// Restores the layouts of the last commit, unless the store is shut.
-fn go_back<S: Alter>(store: &S, layouts: &mut [Layout], before: &[Layout])
-    requires { length layouts.old ≡ length before.now }
-    ensures went { GoBack layouts.old before.now layouts.new (S.Store.view store.now) }
-    ensures all { length layouts.new ≡ length layouts.old }
+fn go_back<S: Alter>(store: &S, layouts: &mut Vec<Layout>, before: &Vec<Layout>)
+    requires { length layouts.old.items ≡ length before.now.items }
+    ensures { GoBack layouts.old.items before.now.items layouts.new.items (S.Store.view store.now) }
 {
     if !store.is_broken() {
         layouts.copy_from_slice(before);
@@ -288,7 +278,7 @@ impl<S: Alter> OwnTrees<S> {
 impl<S: Alter> Store for OwnTrees<S> {
     ghost use Rattle.std.proofs.Common.{refl, ap, ◌∙◌};
     ghost use Rattle.std.proofs.Math.Logic.{∥∥₁_map};
-    ghost use Rattle.station_files.specs.OwnLaws.{clean_if_sound, open_if_sound, own_nothing, view_ordered, view_unaltered};
+    ghost use Rattle.station_files.specs.OwnLaws.{own_nothing, view_ordered, view_unaltered};
 
     ghost view = { λ it. own_view it.numbers.items it.layouts.items it.before.items
         (S.Store.view it.store) };
@@ -308,11 +298,9 @@ impl<S: Alter> Store for OwnTrees<S> {
 
     ghost names = { λ old new e. S.Store.names old.store new.store e ⊎ (e ≡ OutOfMemory) };
 
-    ghost ordered = { λ it sound. let v = S.Store.view it.store in
-        let clean = clean_if_sound v (S.Store.shut_if_dirty it.store)
-        (S.Store.broken_if_shut it.store) sound in
-        view_ordered it.numbers.items it.layouts.items it.before.items v it.few it.low
-        (it.shown clean) (S.Alter.listed it.store sound) (S.Store.ordered it.store sound) };
+    ghost ordered = { λ it sound. view_ordered it.inside (S.Store.shut_if_dirty it.store)
+        (S.Store.broken_if_shut it.store) sound (S.Alter.listed it.store sound)
+        (S.Store.ordered it.store sound) };
 
     ghost shut_if_dirty = { λ it. S.Store.shut_if_dirty it.store };
 
@@ -336,13 +324,8 @@ impl<S: Alter> Store for OwnTrees<S> {
     ghost survives = { λ it clean. ∥∥₁_map (S.Store.survives it.store clean)
         (λ left. (own_trees it.numbers.items left.0, (left.0, left.1, refl))) };
 
-    ghost unaltered = { λ it sound same. let v = S.Store.view it.store in
-        let clean = clean_if_sound v (S.Store.shut_if_dirty it.store)
-        (S.Store.broken_if_shut it.store) sound in
-        let is_open = open_if_sound v (S.Store.broken_if_shut it.store) sound in
-        view_unaltered it.numbers.items it.layouts.items it.before.items v it.few it.low
-        (it.shown clean) (S.Alter.listed it.store sound) (it.kept clean)
-        (it.listed clean is_open) same };
+    ghost unaltered = { λ it sound. view_unaltered it.inside (S.Store.shut_if_dirty it.store)
+        (S.Store.broken_if_shut it.store) sound (S.Alter.listed it.store sound) };
 
     fn is_broken(&self) -> bool {
         self.store.is_broken()
@@ -460,13 +443,10 @@ impl<S: Alter> Store for OwnTrees<S> {
 }
 
 impl<S: Alter> Alter for OwnTrees<S> {
-    ghost use Rattle.station_files.specs.OwnLaws.{clean_if_sound, view_listed};
+    ghost use Rattle.station_files.specs.OwnLaws.{view_listed};
 
-    ghost listed = { λ it sound. let v = S.Store.view it.store in
-        let clean = clean_if_sound v (S.Store.shut_if_dirty it.store)
-        (S.Store.broken_if_shut it.store) sound in
-        view_listed it.numbers.items it.layouts.items it.before.items v it.few it.low
-        (it.shown clean) (S.Alter.listed it.store sound) };
+    ghost listed = { λ it sound. view_listed it.inside (S.Store.shut_if_dirty it.store)
+        (S.Store.broken_if_shut it.store) sound (S.Alter.listed it.store sound) };
 
     fn objects(&self, alloc: Global) -> Result<Vec<Row>, AllocError> {
         let rows = self.store.objects(alloc)?;

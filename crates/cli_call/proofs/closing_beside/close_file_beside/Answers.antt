@@ -1,5 +1,4 @@
 use Rattle.std.proofs.Common.{rules}
-use Rattle.cli_call.specs.Closed.{HasClosed}
 use Rattle.cli_call.proofs.closing_beside.close_file_beside.Goals as goal
 
 pub returns-in-Ok : goal.returns-in-Ok

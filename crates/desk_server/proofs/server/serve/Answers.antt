@@ -1,6 +1,5 @@
-use Rattle.std.proofs.Common.{◌+◌, ◌-◌, sym, subst, arith}
+use Rattle.std.proofs.Common.{◌+◌, ◌-◌, arith}
 use Rattle.std.specs.Prelude.{⊤}
-use Rattle.desk_server.specs.Served.{AtMost}
 use Rattle.desk_server.proofs.Serving.{then_more, wider, counted}
 use Rattle.desk_server.proofs.server.serve.Goals as goal
 

@@ -1,10 +1,12 @@
 use Rattle.std.proofs.Common.{◌∙◌, ap, ℕ, List, ◌++◌, codes, string_bytes}
+use Rattle.serde_json.proofs.OnLiterals.{serde_json_on_literals}
 use Rattle.serde_json.specs.Data.{string}
 use Rattle.serde_json.specs.Written.{compact_text}
 use Rattle.desk_commands.proofs.Written.{told}
 use Rattle.reports.proofs.objects.holder_members.Goals as goal
 
 pub returns : goal.returns
+unfolding serde_json_on_literals
 returns c =
     let text : List ℕ → List ℕ = λ t. compact_text (string t) in
     let word = c.in_ok-word.ensures ∙ ap text c.holder_word.ensures in

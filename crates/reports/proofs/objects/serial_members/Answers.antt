@@ -1,4 +1,5 @@
 use Rattle.std.proofs.Common.{rules, ◌≡◌, ◌∙◌, ap, ℕ, List, ◌++◌, codes, string_bytes}
+use Rattle.serde_json.proofs.OnLiterals.{serde_json_on_literals}
 use Rattle.serde_json.specs.Data.{string}
 use Rattle.serde_json.specs.Written.{compact_text}
 use Rattle.awb_number.specs.Digits.{padded}
@@ -7,6 +8,7 @@ use Rattle.desk_commands.proofs.Written.{told}
 use Rattle.reports.proofs.objects.serial_members.Goals as goal
 
 pub returns : goal.returns
+unfolding serde_json_on_literals
 returns c =
     let text : List ℕ → List ℕ = λ t. compact_text (string t) in
     let row = c.args.run.now in

@@ -1,14 +1,13 @@
 use Rattle.std.proofs.Common.{arith, ◌∷◌, []}
 use Rattle.std.proofs.lemmas.Grind.{common_steps}
 use Rattle.station_core.specs.Readers.{shed_rows, irregular_rows}
-use Rattle.reports.specs.Lines.{shed_line, irregular_line, summary_line}
 use Rattle.station_core.specs.Told.{summary_of}
 use Rattle.reports.specs.Listings.{IsWhole}
-use Rattle.reports.specs.Objects.{shed_data, irregular_data, summary_data}
 use Rattle.reports.proofs.FlightLists.{one_announced, one_flights}
 use Rattle.reports.proofs.Handing.{reported_as, reported_rows, reported_these}
 use Rattle.reports.proofs.OneList.{one_list}
 use Rattle.reports.proofs.reports.write_whole.Goals as goal
+use Rattle.reports.specs.Cells.{line_by, data_by, shed_cells, irregular_cells, summary_cells}
 
 pub returns-in-Stock : goal.returns-in-Stock
 returns-in-Stock g c = reported_as _ (λ s. IsWhole c.args.form s) _ _ _ _ c.in-Stock.is (reported_rows _ _ _ _ _ _ _ _ (λ row. grind (arith, common_steps)) (λ s. one_list s.cargo.holders) c.write_all.ensures)
@@ -17,7 +16,7 @@ pub returns-in-Announced : goal.returns-in-Announced
 returns-in-Announced g c = reported_as _ (λ s. IsWhole c.args.form s) _ _ _ _ c.in-Announced.is (reported_rows _ _ _ _ _ _ _ _ (λ row. grind (arith, common_steps)) (λ s. one_announced s.cargo) c.write_all-in-Announced.ensures)
 
 pub returns-in-Shed : goal.returns-in-Shed
-returns-in-Shed g c = reported_as _ (λ s. IsWhole c.args.form s) _ _ _ _ c.in-Shed.is (reported_these _ shed_line shed_data c.args.form (λ rows. rows) (λ s. shed_rows s.cargo) _ _ _ _ (λ row. grind (arith, common_steps)) c.write_all-in-Shed.ensures)
+returns-in-Shed g c = reported_as _ (λ s. IsWhole c.args.form s) _ _ _ _ c.in-Shed.is (reported_these _ (line_by shed_cells) (data_by shed_cells) c.args.form (λ rows. rows) (λ s. shed_rows s.cargo) _ _ _ _ (λ row. grind (arith, common_steps)) c.write_all-in-Shed.ensures)
 
 pub returns-in-ShedDays : goal.returns-in-ShedDays
 returns-in-ShedDays g c = reported_as _ (λ s. IsWhole c.args.form s) _ _ _ _ c.in-ShedDays.is c.write_shed_days.ensures
@@ -32,7 +31,7 @@ pub returns-in-Expected : goal.returns-in-Expected
 returns-in-Expected g c = reported_as _ (λ s. IsWhole c.args.form s) _ _ _ _ c.in-Expected.is c.write_expected.ensures
 
 pub returns-in-Irregularities : goal.returns-in-Irregularities
-returns-in-Irregularities g c = reported_as _ (λ s. IsWhole c.args.form s) _ _ _ _ c.in-Irregularities.is (reported_these _ irregular_line irregular_data c.args.form (λ rows. rows) (λ s. irregular_rows s.cargo) _ _ _ _ (λ row. grind (arith, common_steps)) c.write_all-in-Irregularities.ensures)
+returns-in-Irregularities g c = reported_as _ (λ s. IsWhole c.args.form s) _ _ _ _ c.in-Irregularities.is (reported_these _ (line_by irregular_cells) (data_by irregular_cells) c.args.form (λ rows. rows) (λ s. irregular_rows s.cargo) _ _ _ _ (λ row. grind (arith, common_steps)) c.write_all-in-Irregularities.ensures)
 
 pub returns-in-Movements : goal.returns-in-Movements
 returns-in-Movements g c = reported_as _ (λ s. IsWhole c.args.form s) _ _ _ _ c.in-Movements.is c.write_movements.ensures
@@ -47,4 +46,4 @@ pub returns-in-Sent : goal.returns-in-Sent
 returns-in-Sent g c = reported_as _ (λ s. IsWhole c.args.form s) _ _ _ _ c.in-Sent.is c.write_messages-in-Sent.ensures
 
 pub returns-in-Station : goal.returns-in-Station
-returns-in-Station g c = reported_as _ (λ s. IsWhole c.args.form s) _ _ _ _ c.in-Station.is (reported_these _ summary_line summary_data c.args.form (λ rows. rows) (λ s. summary_of s.cargo ∷ []) _ _ _ _ (λ row. grind (arith, common_steps)) c.write_all-in-Station.ensures)
+returns-in-Station g c = reported_as _ (λ s. IsWhole c.args.form s) _ _ _ _ c.in-Station.is (reported_these _ (line_by summary_cells) (data_by summary_cells) c.args.form (λ rows. rows) (λ s. summary_of s.cargo ∷ []) _ _ _ _ (λ row. grind (arith, common_steps)) c.write_all-in-Station.ensures)

@@ -25,7 +25,7 @@ returns-in-Err-over-clause-left g c clean db may =
       back.0,
       subst (λ s. g.S.Store.recovers s back.0) same back.1,
       back.2 ∙ ap (λ (n : Vec ℕ Global). own_trees n.items back.0) numbers,
-      subst (λ (n : Vec ℕ Global). length n.items < 65536) numbers first.few,
-      subst (λ (n : Vec ℕ Global). (t : ℕ) → t < length n.items → slice_index n.items t < 65536) numbers first.low,
+      subst (λ (n : Vec ℕ Global). length n.items < 65536) numbers first.inside.apart.few,
+      subst (λ (n : Vec ℕ Global). (t : ℕ) → t < length n.items → slice_index n.items t < 65536) numbers first.inside.apart.low,
       beside,
     )

@@ -1,4 +1,4 @@
-use Rattle.std.proofs.Common.{IsTrue, inl, inr, subst, subst₂}
+use Rattle.std.proofs.Common.{inl, inr, subst, subst₂}
 use Rattle.std.proofs.lemmas.Bool.{cases_Bool, both_ways}
 use Rattle.sqlite_trees.proofs.Doubt.{no_doubt}
 use Rattle.sqlite_trees.specs.Objects.{catalog_tree, IsListed}
@@ -15,7 +15,7 @@ returns g c = λ it is_open.
     let v = view it.store in
     let clean : IsClean v = elim (cases_Bool v.is_clean) [ inl on ↦ no_doubt v.is_clean on | inr off ↦ absurd (both_ways _ (shut_if_dirty_at it.store off) is_open) ] in
     let numbers = it.numbers.items in
-    let kept = it.kept clean in (
-      subst (λ shape. IsOrdered shape (own_trees numbers v.committed)) kept.shaped (own_ordered numbers it.few it.low v.committed v.committed_shape v.committed_reals whole.1 whole.0),
-      subst₂ (IsListed (own_trees numbers v.committed catalog_tree)) kept.shaped kept.typed (own_listed numbers it.few it.low v.committed v.committed_shape v.committed_reals whole.1),
+    let kept = it.inside.kept clean in (
+      subst (λ shape. IsOrdered shape (own_trees numbers v.committed)) kept.shaped (own_ordered numbers it.inside.apart.few it.inside.apart.low v.committed v.committed_shape v.committed_reals whole.1 whole.0),
+      subst₂ (IsListed (own_trees numbers v.committed catalog_tree)) kept.shaped kept.typed (own_listed numbers it.inside.apart.few it.inside.apart.low v.committed v.committed_shape v.committed_reals whole.1),
     )

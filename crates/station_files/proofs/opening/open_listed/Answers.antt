@@ -1,4 +1,4 @@
-use Rattle.std.proofs.Common.{sym, ap, subst, ◌∙◌, inl, arith}
+use Rattle.std.proofs.Common.{sym, subst, ◌∙◌, inl, arith}
 use Rattle.std.proofs.Math.Logic.{∥∥₁_map}
 use Rattle.sqlite_pool.proofs.ResealLemmas.{adopts_of}
 use Rattle.sqlite_trees.proofs.Doubt.{clean_of as sure, no_doubt}
@@ -11,15 +11,15 @@ use Rattle.station_files.proofs.OwnFiles.{held_by_list, held_own}
 use Rattle.station_files.proofs.Once.{held_by_list as held_once}
 use Rattle.station_files.proofs.opening.open_listed.Goals as goal
 
-pub over-requires : goal.over-requires
-over-requires g c none = (c.in_ok-store.ensures.listed (sure _ none)).fresh
+pub connect-requires : goal.connect-requires
+connect-requires g c none = (c.in_ok-store.ensures.listed (sure _ none)).fresh
 
 pub returns-in-Ok-clause-found : goal.returns-in-Ok-clause-found
 returns-in-Ok-clause-found g c now =
     let store = c.in_ok-store.store in
-    let it = c.in_ok-store.ensures.listed (sure (shown store).is_clean (omega (arith, c.in-Ok.ensures.clean))) in
-    let opens = c.in-Ok.ensures.opens now in
-    let trees = sym (ap (λ d. d.trees) opens.0.clean) ∙ c.in-Ok.ensures.trees now in
+    let it = c.in_ok-store.ensures.listed (sure (shown store).is_clean (omega (arith, c.in-Ok.ensures.over.clean))) in
+    let opens = c.in-Ok.ensures.over.opens now in
+    let trees = c.in-Ok.ensures.over.trees now in
     let sound = subst (IsSound (file_state c.in-Ok.conn).committed.schema) trees (opens.1 opens.0.is_open).1 in
     record {
       honest = it.honest;
@@ -32,9 +32,9 @@ returns-in-Ok-clause-by_list g c now =
     let store = c.in_ok-store.store in
     let image = image_of g.D.Disk c.args.files in
     let objects = c.args.objects.now in
-    let it = c.in_ok-store.ensures.listed (sure (shown store).is_clean (omega (arith, c.in-Ok.ensures.clean))) in
-    let opens = c.in-Ok.ensures.opens now in
-    let trees = sym (ap (λ d. d.trees) opens.0.clean) ∙ c.in-Ok.ensures.trees now in
+    let it = c.in_ok-store.ensures.listed (sure (shown store).is_clean (omega (arith, c.in-Ok.ensures.over.clean))) in
+    let opens = c.in-Ok.ensures.over.opens now in
+    let trees = c.in-Ok.ensures.over.trees now in
     record {
       honest = it.honest;
       size = it.size;
@@ -48,14 +48,14 @@ returns-in-Ok-clause-by_list g c now =
 
 pub returns-in-Ok-clause-plain : goal.returns-in-Ok-clause-plain
 returns-in-Ok-clause-plain g c now =
-    c.in-Ok.ensures.sums now ∙ c.in_ok-store.ensures.plain (sure (shown c.in_ok-store.store).is_clean (omega (arith, c.in-Ok.ensures.clean)))
+    c.in-Ok.ensures.over.sums now ∙ c.in_ok-store.ensures.plain (sure (shown c.in_ok-store.store).is_clean (omega (arith, c.in-Ok.ensures.over.clean)))
 
 pub returns-in-Ok-clause-guarded : goal.returns-in-Ok-clause-guarded
 returns-in-Ok-clause-guarded g c now =
-    c.in-Ok.ensures.shield (c.in_ok-store.ensures.guarded (sure (shown c.in_ok-store.store).is_clean (omega (arith, c.in-Ok.ensures.clean))))
+    c.in-Ok.ensures.over.shield (c.in_ok-store.ensures.guarded (sure (shown c.in_ok-store.store).is_clean (omega (arith, c.in-Ok.ensures.over.clean))))
 
 pub returns-in-Err-clause-spared : goal.returns-in-Err-clause-spared
 returns-in-Err-clause-spared g c late db may =
     let store = c.in_ok-store.store in
-    let it = c.in_ok-store.ensures.listed (sure (shown store).is_clean (omega (arith, no_doubt _ late, c.in-Err.ensures.unharmed.clean))) in
-    (it.size, _, it.found, settled_at store g.met.D.Disk.seen_may_stay db it.is_open (c.in-Err.ensures.unharmed.outcomes db may) ∙ sym it.fresh.clean ∙ it.reads)
+    let it = c.in_ok-store.ensures.listed (sure (shown store).is_clean (omega (arith, no_doubt _ late, c.in-Err.ensures.left.clean))) in
+    (it.size, _, it.found, settled_at store g.met.D.Disk.seen_may_stay db it.is_open (c.in-Err.ensures.left.outcomes db may) ∙ sym it.fresh.clean ∙ it.reads)

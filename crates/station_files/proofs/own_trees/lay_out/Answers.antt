@@ -1,9 +1,13 @@
-use Rattle.std.proofs.Common.{arith}
-use Rattle.station_files.proofs.Owning.{laid_out}
+use Rattle.std.proofs.Common.{◌≡◌, ◌∙◌, ap, length, sym, subst₂, rules}
+use Rattle.station_files.specs.Own.{AreLaidOut}
+use Rattle.station_files.proofs.Owning.{written_back}
 use Rattle.station_files.proofs.own_trees.lay_out.Goals as goal
 
 pub returns-clause-shown : goal.returns-clause-shown
 returns-clause-shown g c =
     let v = g.S.Store.view c.args.store.now in
-    laid_out c.args.numbers.now c.requires.few c.loop-at.layouts c.loop-at.invariant.all v.shape v.reals
-    (λ t d low. c.loop-at.invariant.each t d (omega (arith, low, c.loop-at-test.false)))
+    let layouts = c.args.layouts.now in
+    let new = c.lay_out_each.new.layouts in
+    let full : layouts.len ≡ length layouts.items = search rules in
+    let same = written_back new layouts.items layouts.len (c.lay_out_each.ensures.all ∙ ap length c.deref_mut.ensures.value) full in
+    subst₂ (λ n l. AreLaidOut n l v.shape v.reals) c.deref.ensures.value (sym same) c.lay_out_each.ensures.shown

@@ -1,10 +1,12 @@
 use Rattle.std.proofs.lemmas.Result.{on_ok_weaker}
-use Rattle.station_files.proofs.Owning.{own_sets_version}
+use Rattle.station_files.proofs.Owning.{sets_version, shown, stays, stays_after}
 use Rattle.station_files.proofs.own_trees.OwnTreesAlter.set_version.Goals as goal
 
 pub returns-clause-ok : goal.returns-clause-ok
 returns-clause-ok g c =
     let it = c.args.self.now in
     on_ok_weaker c.set_version.result
-    (λ h clean. own_sets_version it.numbers.items it.few it.low it.layouts.items it.before.items (g.S.Store.view it.store) (g.S.Store.view c.set_version.new.self) c.args.version (h clean))
-    c.set_version.ensures.ok
+    (λ h clean. sets_version it.numbers.items it.layouts.items it.before.items _ _ it.inside.apart c.args.version (h clean)) c.set_version.ensures.ok
+
+pub invariant_of-self : goal.invariant_of-self
+invariant_of-self g c = record { inside = shown c.args.self.now.inside (g.S.Store.view c.set_version.new.self) c.set_version.ensures.quiet.clean (stays_after c.set_version.result (on_ok_weaker c.set_version.result (λ h clean. stays (h clean).is) c.set_version.ensures.ok) c.set_version.ensures.err) }

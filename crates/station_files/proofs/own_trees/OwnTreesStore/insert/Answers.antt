@@ -1,19 +1,10 @@
-use Rattle.std.proofs.Common.{subst}
 use Rattle.std.proofs.lemmas.Result.{on_ok_weaker}
 use Rattle.sqlite_trees.specs.Tree.{order_of, insert_entry}
-use Rattle.sqlite_trees.specs.View.{SetsTree}
-use Rattle.station_files.specs.Own.{own_view}
-use Rattle.station_files.proofs.Owning.{sets_inside}
+use Rattle.station_files.proofs.Owning.{sets_inside, shown, stays, stays_after}
 use Rattle.station_files.proofs.own_trees.OwnTreesStore.insert.Goals as goal
 
 pub returns-clause-ok : goal.returns-clause-ok
-returns-clause-ok g c =
-    let it = c.args.self.now in
-    let old = g.S.Store.view it.store in
-    let new = g.S.Store.view c.insert.new.self in
-    let inside = c.in-Some.ensures in
-    on_ok_weaker c.insert.result
-    (λ h clean. subst (λ s. SetsTree (own_view it.numbers.items it.layouts.items it.before.items old) (own_view it.numbers.items it.layouts.items it.before.items new) c.args.index (insert_entry (order_of s) c.args.entry.now))
-    inside.shaped
-    (sets_inside it.numbers.items it.few it.low it.apart it.layouts.items it.before.items old new c.args.index c.in-Some.number inside _ (h clean)))
-    c.insert.ensures.ok
+returns-clause-ok g c = on_ok_weaker c.insert.result (λ h clean. sets_inside c.args.self.now.inside c.in-Some.ensures (g.S.Store.view c.insert.new.self) (λ s. insert_entry (order_of s) c.args.entry.now) (h clean)) c.insert.ensures.ok
+
+pub invariant_of-self : goal.invariant_of-self
+invariant_of-self g c = record { inside = shown c.args.self.now.inside (g.S.Store.view c.insert.new.self) c.insert.ensures.quiet.clean (stays_after c.insert.result (on_ok_weaker c.insert.result (λ h clean. stays (h clean)) c.insert.ensures.frame) c.insert.ensures.err) }

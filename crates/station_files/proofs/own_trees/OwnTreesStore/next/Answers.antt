@@ -1,9 +1,10 @@
 use Rattle.std.proofs.Common.{Bool, true, false, ap, List, ℕ}
-use Rattle.std.proofs.lemmas.Result.{IfOk-weaker}
+use Rattle.std.proofs.lemmas.Result.{on_ok_weaker, IfOk-weaker}
 use Rattle.sqlite_value.specs.Order.{Row}
 use Rattle.sqlite_trees.specs.View.{Advances, View}
 use Rattle.station_files.specs.Own.{own_view}
 use Rattle.station_files.specs.declared.layout.Layout.{Layout}
+use Rattle.station_files.proofs.Owning.{shown, stays, stays_after}
 use Rattle.station_files.proofs.own_trees.OwnTreesStore.next.Goals as goal
 
 advances : (numbers : List ℕ) (layouts before : List Layout) (a b : View) (cursor : ℕ) (row : Row) (found : Bool) → Advances a b cursor row found
@@ -16,3 +17,6 @@ returns-clause-ok g c =
     let it = c.args.self.now in
     IfOk-weaker c.next.result _ _
     (λ found h clean. advances it.numbers.items it.layouts.items it.before.items (g.S.Store.view it.store) (g.S.Store.view c.next.new.self) c.args.cursor c.next.new.row found (h clean)) c.next.ensures.ok
+
+pub invariant_of-self : goal.invariant_of-self
+invariant_of-self g c = record { inside = shown c.args.self.now.inside (g.S.Store.view c.next.new.self) c.next.ensures.quiet.clean (stays_after c.next.result (on_ok_weaker c.next.result (λ h clean. stays (h clean).same) c.next.ensures.moves) c.next.ensures.err) }

@@ -1,12 +1,9 @@
-use Rattle.std.proofs.Common.{arith}
 use Rattle.std.proofs.lemmas.Result.{on_ok_weaker}
-use Rattle.sqlite_trees.specs.View.{IsClean}
-use Rattle.station_files.proofs.Owning.{own_marks}
+use Rattle.station_files.proofs.Owning.{marks_shown, shown, stays, stays_after}
 use Rattle.station_files.proofs.own_trees.OwnTreesStore.savepoint.Goals as goal
 
 pub returns-clause-ok : goal.returns-clause-ok
-returns-clause-ok g c =
-    let it = c.args.self.now in
-    on_ok_weaker c.savepoint.result (λ h clean.
-    let was : IsClean (g.S.Store.view it.store) = omega (arith, c.savepoint.ensures.quiet.clean) in
-    own_marks it.numbers.items it.layouts.items it.before.items _ _ (it.shown was) (h clean)) c.savepoint.ensures.ok
+returns-clause-ok g c = on_ok_weaker c.savepoint.result (λ h clean. marks_shown c.args.self.now.inside (g.S.Store.view c.savepoint.new.self) c.savepoint.ensures.quiet.clean clean (h clean)) c.savepoint.ensures.ok
+
+pub invariant_of-self : goal.invariant_of-self
+invariant_of-self g c = record { inside = shown c.args.self.now.inside (g.S.Store.view c.savepoint.new.self) c.savepoint.ensures.quiet.clean (stays_after c.savepoint.result (on_ok_weaker c.savepoint.result (λ h clean. stays (h clean).is) c.savepoint.ensures.ok) c.savepoint.ensures.err) }

@@ -3,18 +3,19 @@ use Rattle.std.proofs.lemmas.Result.{on_ok_weaker}
 use Rattle.sqlite_trees.specs.Tree.{order_of, sought}
 use Rattle.sqlite_trees.specs.View.{with_cursor}
 use Rattle.station_files.specs.Own.{own_view}
-use Rattle.station_files.proofs.Owning.{has_inside}
+use Rattle.station_files.proofs.Owning.{rows_inside, shown, stays, stays_after}
 use Rattle.station_files.proofs.own_trees.OwnTreesStore.seek.Goals as goal
 
 pub returns-clause-ok : goal.returns-clause-ok
 returns-clause-ok g c =
     let it = c.args.self.now in
-    let old = g.S.Store.view it.store in
-    let new = g.S.Store.view c.seek.new.self in
     let own = own_view it.numbers.items it.layouts.items it.before.items in
     let inside = c.in-Some.ensures in
     on_ok_weaker c.seek.result
     (λ h clean. ap own (h clean)
-    ∙ ap₂ (λ s rows. with_cursor (own old) c.args.cursor (sought (order_of s) c.args.direction c.args.key.now rows)) inside.shaped
-    (sym (has_inside it.numbers.items it.few it.low it.apart it.layouts.items it.before.items old new c.args.tree c.in-Some.number inside)))
+    ∙ ap₂ (λ s rows. with_cursor (own (g.S.Store.view it.store)) c.args.cursor (sought (order_of s) c.args.direction c.args.key.now rows)) inside.shaped
+    (sym (rows_inside it.inside inside)))
     c.seek.ensures.ok
+
+pub invariant_of-self : goal.invariant_of-self
+invariant_of-self g c = record { inside = shown c.args.self.now.inside (g.S.Store.view c.seek.new.self) c.seek.ensures.quiet.clean (stays_after c.seek.result (on_ok_weaker c.seek.result (λ h clean. stays (h clean)) c.seek.ensures.ok) c.seek.ensures.err) }

@@ -1,0 +1,7 @@
+use Rattle.std.proofs.Common.{◌≡◌, ◌++◌, take}
+use Rattle.std.specs.List.{flat_map}
+use Rattle.reports.specs.Cells.{next_text}
+use Rattle.reports.proofs.cells.put_rest.Given as goal
+
+abbrev pub invariant-loop-cell : goal.invariant-loop-cell
+invariant-loop-cell l = l.out.items ≡ l.fn.out.items ++ flat_map (next_text l.fn.form) (take l.cell-index l.cells)
