@@ -29,10 +29,7 @@ use Rattle.cli_run.specs.Done.{HasDone}
 use Rattle.stock_list.specs.Answered.{HasAnsweredRows}
 use Rattle.cli_run.specs.Ended.{IsStopped}
 use Rattle.stock_list.specs.Ended.{kept_by}
-use Rattle.cli_run.specs.Ends.{come_to, told_to, Ends, Reached, Told}
-use Rattle.cli_run.specs.History.{GoesOnWith, HasToldHistory, HasToldThen, by_listing}
-use Rattle.reports.specs.declared.listing.Listing.{Listing}
-use Rattle.reports.specs.declared.listing.Listing.TheVariants as listing
+use Rattle.cli_run.specs.Ends.{come_to, Ends, Reached}
 use Rattle.stock_list.specs.Come.{Come}
 use Rattle.stock_list.specs.InTurn.{AreAnswered, HasEndedAt, HaveBeenAnswered}
 use Rattle.cli_run.specs.InTurn.{lines_of, AreMade, HaveBeenMade}
@@ -335,28 +332,8 @@ module _ {K : Type 0} (k : Keeping K) (settled : (it : K) (s : State) → k.keep
   of_same : (old new : K) → new ≡ old → Quiet old new
   of_same old new same = record { sound = subst k.is_sound same; back = λ sound found. subst (λ it. k.may_find it found) same }
 
-  then_quiet : (a b c : K) → Quiet a b → Quiet b c → Quiet a c
-  then_quiet a b c first second = record {
-    sound = λ h. first.sound (second.sound h);
-    back = λ h found finds. first.back (second.sound h) found (second.back h found finds);
-  }
-
   quiet_left : (P : Input × LocalMinute → Type 0) (s : State) (old new : K) (r : Result Bool RunFault) → k.keeps old s → k.is_sound new → Quiet old new → Left P s new r
   quiet_left P s old new r kept sound quiet = still P s old new kept (quiet.sound sound) (quiet.back sound) r
-
-  goes_on : (Next : Told K → Result Bool RunFault → Type 0) (found : Result Bool RunFault) (mid new : Told K) (r : Result Bool RunFault) → ((r : Result Bool RunFault) → Next new r → Quiet mid.0 new.0) → GoesOnWith found Next mid new r → Quiet mid.0 new.0
-  goes_on Next (Ok true) mid new r quiet next = quiet r next
-  goes_on Next (Ok false) mid new r quiet (same, is) = of_same mid.0 new.0 (ap (λ (t : Told K). t.0) same)
-  goes_on Next (Err e) mid new r quiet (same, is) = of_same mid.0 new.0 (ap (λ (t : Told K). t.0) same)
-
-  then_listing : (l : Listing) (Then : Told K → Told K → Result Bool RunFault → Type 0) → ((old new : Told K) (r : Result Bool RunFault) → Then old new r → Quiet old.0 new.0)
-      → (old new : Told K) (r : Result Bool RunFault) → HasToldThen (by_listing k) l Then old new r → Quiet old.0 new.0
-  then_listing l Then quiet old new r told = then_quiet old.0 told.mid.0 new.0 (of_reads old.0 told.mid.0 told.told.told.reads) (goes_on _ told.ended told.mid new r (quiet told.mid new) told.rest)
-
-  history_quiet : (w : ℕ) (old new : Told K) (r : Result Bool RunFault) → HasToldHistory k w old new r → Quiet old.0 new.0
-  history_quiet w old new r told =
-      then_quiet old.0 told.mid.0 new.0 (of_reads old.0 told.mid.0 told.known.reads)
-      (goes_on _ told.found told.mid new r (then_listing (listing.Movements w) _ (then_listing (listing.Trail w) _ (λ old new r sent. of_reads old.0 new.0 sent.told.reads)) told.mid new) told.rows)
 
   module _ {I W E : Type 0} (e : Ends I W E) (at : LocalMinute) (here : List ℕ) (s : State) (old new : K × Reached I W E) (r : Result Bool RunFault)
       (kept : k.keeps old.0 s) (works : k.is_broken old.0 ≡ false) (sound : k.is_sound new.0) where
@@ -371,6 +348,6 @@ module _ {K : Type 0} (k : Keeping K) (settled : (it : K) (s : State) → k.keep
     done_left (command.Report l f) has = quiet_left (AsksAt (command.Report l f) at) s old.0 new.0 r kept sound (of_reads old.0 new.0 has.told.reads)
     done_left (command.Waybill w) has = quiet_left (AsksAt (command.Waybill w) at) s old.0 new.0 r kept sound (of_reads old.0 new.0 has.reads)
     done_left (command.Holder w) has = quiet_left (AsksAt (command.Holder w) at) s old.0 new.0 r kept sound (of_reads old.0 new.0 has.reads)
-    done_left (command.History w) has = quiet_left (AsksAt (command.History w) at) s old.0 new.0 r kept sound (history_quiet w (told_to e old) (told_to e new) r has)
+    done_left (command.History w) has = quiet_left (AsksAt (command.History w) at) s old.0 new.0 r kept sound (of_reads old.0 new.0 has.reads)
     done_left (command.Read path) has = quiet_left (AsksAt (command.Read path) at) s old.0 new.0 r kept sound (of_same old.0 new.0 has.same)
     done_left (command.Serve port count) has = quiet_left (AsksAt (command.Serve port count) at) s old.0 new.0 r kept sound (of_same old.0 new.0 has.same)

@@ -1,6 +1,6 @@
 -- The effect of a line of `acts`.
-use Rattle.std.specs.Prelude.{◌≡◌, ◌⊎◌, ◌||◌, ◌==◌, ℕ, Bool, true, false, Some, Result, Ok, Err, List}
-use Rattle.std.specs.List.{list_all}
+use Rattle.std.specs.Prelude.{◌≡◌, ◌⊎◌, ◌||◌, ℕ, Bool, true, false, Some, Result, Ok, Err, List, codes}
+use Rattle.std.specs.Str.{bytes_eq}
 use Rattle.station_days.specs.Date.{LocalMinute}
 use Rattle.station_core.specs.Given.{Given}
 use Rattle.station_core.specs.Keeping.{Keeping}
@@ -11,9 +11,9 @@ use Rattle.cli_run.specs.declared.asked.Asked.{Asked}
 use Rattle.cli_run.specs.ActLine.{IsActAsked}
 use Rattle.cli_run.specs.Answered.{HasAnswered}
 
--- the line has only the bytes of its end
+-- the line has only its end: LF, or CR and LF
 abbrev pub is_blank : List ℕ → Bool
-is_blank line = list_all (λ b. (b == 10) || (b == 13)) line
+is_blank line = bytes_eq line (codes "\n") || bytes_eq line (codes "\r\n")
 
 -- an empty line does nothing
 pub record HasSkipped {K E : Type 0} (line : List ℕ) (old new : Come K E)

@@ -17,7 +17,7 @@ use Rattle.cli_run.specs.Acts.{HasAnsweredLine}
 use Rattle.cli_run.specs.Takes.{HasTakenNext}
 use Rattle.cli_run.specs.Ends.{come_to, told_to, Ends, Reached, Told}
 use Rattle.cli_run.specs.InTurn.{lines_of, HaveBeenMade}
-use Rattle.cli_run.specs.History.{HasToldHistory}
+use Rattle.cli_run.specs.History.{HasReadHistory}
 use Rattle.cli_run.specs.Reported.{HasReportedGood}
 use Rattle.cli_words.specs.declared.line.LineCommand.{LineCommand}
 use Rattle.cli_words.specs.declared.line.LineCommand.TheVariants as command
@@ -72,7 +72,7 @@ HasDone (command.Waybill w) here k e at old new r =
 HasDone (command.Holder w) here k e at old new r =
     HasLookedUp (holder_found w) k (told_to e old) (told_to e new) r
 HasDone (command.History w) here k e at old new r =
-    HasToldHistory k w (told_to e old) (told_to e new) r
+    HasReadHistory k w (told_to e old) (told_to e new) r
 HasDone (command.Read path) here k e at old new r =
     HasIdled (told_to e old) (told_to e new) r
 HasDone (command.Serve port count) here k e at old new r =

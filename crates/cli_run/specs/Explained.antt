@@ -7,7 +7,7 @@ use Rattle.station_core.specs.declared.input.Input.{Input}
 use Rattle.station_core.specs.declared.input.Input.TheVariants.{Keyed, Wire}
 use Rattle.station_core.specs.Given.{Given}
 use Rattle.station_core.specs.Step.{State, step}
-use Rattle.input_reasons.specs.Reason.{HasReason, is_unread}
+use Rattle.input_reasons.specs.Reason.{HasReason, is_unread, numbered_head}
 use Rattle.stock_list.specs.declared.answer.RunFault.{RunFault}
 use Rattle.cli_run.specs.declared.asked.Asked.{Asked}
 use Rattle.cli_run.specs.declared.asked.Asked.TheVariants as asked
@@ -31,18 +31,22 @@ asked_unread s (asked.Refused refusal) at = is_unread refusal
 asked_unread s (asked.Bad verb body) at = true
 asked_unread s (asked.BadLine line) at = true
 
--- the start of a telegram's reason, with the number if it is a line of `acts`; and that of any
--- request
+-- the start of a telegram's reason, with the number if it is a line of `acts`; that of a malformed
+-- line; and that of any request
 abbrev pub telegram_head : Option ℕ → List ℕ
 telegram_head None = codes "telegram: "
-telegram_head (Some number) = codes "line "
+telegram_head (Some number) = numbered_head number
+
+abbrev pub line_head : Option ℕ → List ℕ
+line_head None = codes "line "
+line_head (Some number) = numbered_head number
 
 abbrev pub reason_head : Option ℕ → Asked → List ℕ
 reason_head number (asked.Input (Keyed key command)) = codes "body: "
 reason_head number (asked.Input (Wire telegram)) = telegram_head number
 reason_head number (asked.Refused refusal) = telegram_head number
 reason_head number (asked.Bad verb body) = codes "body: "
-reason_head number (asked.BadLine line) = codes "line "
+reason_head number (asked.BadLine line) = line_head number
 
 -- The reason why something can't be read was written, or a prefix of it; otherwise nothing was.
 abbrev pub HasToldWhy : {E : Type 0} → (E → Given) → Bool → List ℕ → E → E → Type 0

@@ -1,46 +1,43 @@
 -- The output of a waybill's history.
-use Rattle.std.specs.Prelude.{◌≡◌, ℕ, Bool, true, false, Result, Ok, Err}
-use Rattle.reports.specs.Listings.{IsListing}
-use Rattle.reports.specs.declared.form.Form.TheVariants as form
-use Rattle.reports.specs.declared.listing.Listing.{Listing}
-use Rattle.reports.specs.declared.listing.Listing.TheVariants as listing
+use Rattle.std.specs.Prelude.{◌≡◌, ℕ, true, Bool, Option, Some, None, is_some, List, ◌++◌, codes, take, Result, Ok, Err}
+use Rattle.http_desk.specs.Reply.{IsHistory}
+use Rattle.station_core.specs.Ends.{HasCause}
+use Rattle.station_core.specs.Given.{Given}
+use Rattle.station_core.specs.Keeping.{IfSound, IfWorks, Keeping, OnlyReads}
+use Rattle.station_core.specs.Readers.{waybill_of}
+use Rattle.station_core.specs.Step.{State}
+use Rattle.station_core.specs.declared.rows.Waybill.{Waybill}
 use Rattle.stock_list.specs.declared.answer.RunFault.{RunFault}
-use Rattle.station_core.specs.Keeping.{Keeping}
+use Rattle.stock_list.specs.declared.answer.RunFault.TheVariants as fault
 use Rattle.cli_run.specs.Ends.{Told}
-use Rattle.cli_run.specs.Reported.{HasReportedGood}
-use Rattle.cli_run.specs.Looked.{waybill_found, HasLookedUp}
 
--- a listing was written as text
-abbrev pub by_listing : {K : Type 0} → Keeping K → Listing → Told K → Told K → Result Bool RunFault
-    → Type 0
-by_listing k l old new r = HasReportedGood (λ s. IsListing form.Text s l) k old new r
+-- the answer to GET /v1/waybills/AWB/history, or that the waybill isn't declared
+abbrev pub IsHistoryText : State → ℕ → Option Waybill → List ℕ → Type 0
+IsHistoryText s w None text = text ≡ codes "unknown\n"
+IsHistoryText s w (Some known) text = IsHistory s w known text
 
--- The next call was made if the one before it succeeded; otherwise nothing more was done, and its
--- result was returned.
-abbrev pub GoesOnWith : {K : Type 0} → Result Bool RunFault → (Told K → Result Bool RunFault → Type 0)
-    → Told K → Told K → Result Bool RunFault → Type 0
-GoesOnWith (Ok true) Next mid new r = Next new r
-GoesOnWith (Ok false) Next mid new r = (new ≡ mid) × (r ≡ Ok false)
-GoesOnWith (Err e) Next mid new r = (new ≡ mid) × (r ≡ Err e)
+-- The text was written, and the result is good if the waybill is known; or a prefix of it was
+-- written, and the writer failed or wrote 0 bytes. If the keeper failed or memory ran out, nothing
+-- was written.
+abbrev pub HasToldHistory : State → ℕ → Option Waybill → Given → Given → Result Bool RunFault → Type 0
+HasToldHistory s w found old new (Ok good) =
+    (good ≡ is_some found)
+    × ((text : List ℕ) × IsHistoryText s w found text × (new.bytes ≡ old.bytes ++ text))
+HasToldHistory s w found old new (Err fault.Write) =
+    ((text : List ℕ) × IsHistoryText s w found text
+    × ((sent : ℕ) × (new.bytes ≡ old.bytes ++ take sent text)))
+    × HasCause old new
+HasToldHistory s w found old new (Err fault.Read) = ⊥
+HasToldHistory s w found old new (Err fault.Memory) = new ≡ old
+HasToldHistory s w found old new (Err fault.Store) = new ≡ old
 
--- a listing was written, and then what follows
-pub record HasToldThen {K : Type 0} (Lists : Listing → Told K → Told K → Result Bool RunFault → Type 0) (l : Listing) (Then : Told K → Told K → Result Bool RunFault → Type 0) (old new : Told K) (r : Result Bool RunFault) : Type 0 where
-  pub mid : Told K
-  pub ended : Result Bool RunFault
-  pub told : Lists l old mid ended
-  pub rest : GoesOnWith ended (λ new r. Then mid new r) mid new r
-
--- the trail of a waybill was written, and then its status messages
-abbrev pub HasToldMessages : {K : Type 0} → (Listing → Told K → Told K → Result Bool RunFault → Type 0) → ℕ → Told K → Told K → Result Bool RunFault → Type 0
-HasToldMessages Lists w old new r = HasToldThen Lists (listing.Trail w) (Lists (listing.Sent w)) old new r
-
--- its moves were written before
-abbrev pub HasToldRows : {K : Type 0} → (Listing → Told K → Told K → Result Bool RunFault → Type 0) → ℕ → Told K → Told K → Result Bool RunFault → Type 0
-HasToldRows Lists w old new r = HasToldThen Lists (listing.Movements w) (HasToldMessages Lists w) old new r
-
--- the record of a waybill was written and, if it is known, its moves, its trail and its messages
-pub record HasToldHistory {K : Type 0} (k : Keeping K) (w : ℕ) (old new : Told K) (r : Result Bool RunFault) : Type 0 where
-  pub mid : Told K
-  pub found : Result Bool RunFault
-  pub known : HasLookedUp (waybill_found w) k old mid found
-  pub rows : GoesOnWith found (λ new r. HasToldRows (by_listing k) w mid new r) mid new r
+-- The history of one state was written, or a prefix, and nothing changed. A broken station returns
+-- nothing; any other returns Store only if its store may fail.
+pub record HasReadHistory {K : Type 0} (k : Keeping K) (w : ℕ) (old new : Told K)
+    (result : Result Bool RunFault) : Type 0 where
+  pub reads : OnlyReads k old.0 new.0
+  pub reopen :
+      k.is_broken old.0 ≡ true → (result ≡ Err fault.Store) × (new.0 ≡ old.0) × (new.1 ≡ old.1)
+  pub fault : IfWorks k old.0 new.0 (λ s. result ≡ Err fault.Store → k.may_fail)
+  pub told : IfSound k old.0 new.0
+      (λ s. HasToldHistory s w (waybill_of s.cargo w) old.1 new.1 result)

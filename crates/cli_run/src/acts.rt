@@ -17,11 +17,11 @@ use std::io;
 use std::io::{BufRead, BufReader, ErrorKind, Read};
 use stock_list::{RunFault, Watched, told_by};
 
-/// Returns whether a line has only the bytes of its end.
+/// Returns whether a line has only its end: LF, or CR and LF.
 pub fn is_blank(line: &[u8]) -> bool
     ensures { result ≡ is_blank line.now }
 {
-    line.iter().all(|b| *b == b'\n' || *b == b'\r')
+    line == b"\n".as_slice() || line == b"\r\n".as_slice()
 }
 
 /// Answers a line, and writes the reason if it can't be read.

@@ -6,7 +6,7 @@ ghost use Rattle.stock_list.specs.Lines.{answer_text};
 ghost use Rattle.input_reasons.specs.Reason.{is_unread};
 ghost use Rattle.cli_run.specs.Answered.{HasAnswered, HasToldUnread};
 ghost use Rattle.cli_run.specs.Asked.{keyed, named, numbered};
-ghost use Rattle.cli_run.specs.Explained.{reason_head};
+ghost use Rattle.cli_run.specs.Explained.{line_head, reason_head};
 
 use crate::asked::Asked;
 use crate::telling::{tell_answer, tell_bad_line, tell_body, tell_refusal};
@@ -187,7 +187,7 @@ pub fn answer_bad_line<O: ByteOut, E: ByteOut>(
     number: Option<u64>,
     text: &[u8],
 ) -> Result<bool, RunFault>
-    ensures { HasToldUnread E.taken (numbered number (codes "bad\n")) true (codes "line ")
+    ensures { HasToldUnread E.taken (numbered number (codes "bad\n")) true (line_head number)
         (O.taken writer.old, errors.old) (O.taken writer.new, errors.new) result }
 {
     let Ok(line) = numbered_line(alloc, number, "bad") else {

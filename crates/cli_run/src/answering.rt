@@ -1,4 +1,4 @@
-//! What answers the inputs of a command line: a station, or a service.
+//! The desk that answers the inputs of a command line: a station, or a service.
 ghost use Rattle.std.specs.Prelude.{◌≡◌, ℕ, Bool, Err, List, None, Option, Result};
 ghost use Rattle.csv.specs.Records.{fields_of};
 ghost use Rattle.desk_commands.specs.declared.verb.Verb.{Verb as AnyVerb};

@@ -1,55 +1,42 @@
 //! Histories of waybills.
-ghost use Rattle.std.specs.Prelude.{◌≡◌, false, OnOk};
-ghost use Rattle.station_core.specs.Keeping.{StaysInService};
-ghost use Rattle.cli_run.specs.History.{HasToldHistory, HasToldMessages, HasToldRows, by_listing};
+ghost use Rattle.std.specs.Prelude.{◌≡◌, Err, Some};
+ghost use Rattle.station_core.specs.Keeping.{IfSound, IfWorks, OnlyReads, StaysInService};
+ghost use Rattle.cli_run.specs.History.{HasReadHistory, HasToldHistory};
 
-use crate::look::do_waybill;
-use crate::report::do_report;
+use crate::look::tell_unknown;
+use crate::sent::send_part;
 use awb_number::Awb;
-use reports::{Form, Listing};
-use station_core::{ByteOut, Keeper};
+use http_desk::history_text;
+use station_core::{ByteOut, Keeper, Waybill};
 use std::alloc::Global;
-use stock_list::RunFault;
+use stock_list::{RunFault, keeper_fault};
 
-/// Writes the trail of a waybill, and its status messages.
-fn tell_messages<K: Keeper, W: ByteOut>(
+/// Writes the history of a waybill with this record. The keeper works.
+fn tell_known<K: Keeper, W: ByteOut>(
     alloc: Global,
     keeper: &mut K,
     number: &Awb,
+    known: &Waybill,
     output: &mut W,
 ) -> Result<bool, RunFault>
-    ensures service { StaysInService K.keeping keeper.old keeper.new result }
-    ensures rows { HasToldMessages (by_listing K.keeping) number.now
-        (keeper.old, W.taken output.old) (keeper.new, W.taken output.new) result }
+    ensures reads { OnlyReads K.keeping keeper.old keeper.new }
+    ensures fault { IfWorks K.keeping keeper.old keeper.new
+        (λ s. result ≡ Err RunFault.Store → K.keeping.may_fail) }
+    ensures told { IfSound K.keeping keeper.old keeper.new (λ s. HasToldHistory s number.now
+        (Some known.now) (W.taken output.old) (W.taken output.new) result) }
 {
-    match do_report(alloc, keeper, &Listing::Trail(*number), Form::Text, output) {
-        Ok(true) => do_report(alloc, keeper, &Listing::Sent(*number), Form::Text, output),
-        Ok(false) => Ok(false),
-        Err(fault) => Err(fault),
-    }
-}
-
-/// Writes the moves of a waybill, its trail and its status messages.
-fn tell_rows<K: Keeper, W: ByteOut>(
-    alloc: Global,
-    keeper: &mut K,
-    number: &Awb,
-    output: &mut W,
-) -> Result<bool, RunFault>
-    ensures service { StaysInService K.keeping keeper.old keeper.new result }
-    ensures rows { HasToldRows (by_listing K.keeping) number.now (keeper.old, W.taken output.old)
-        (keeper.new, W.taken output.new) result }
-{
-    let moves = Listing::Movements(*number);
-    match do_report(alloc, keeper, &moves, Form::Text, output) {
-        Ok(true) => tell_messages(alloc, keeper, number, output),
-        Ok(false) => Ok(false),
-        Err(fault) => Err(fault),
+    match history_text(alloc, keeper, number, known) {
+        Ok(text) => match send_part(output, text.as_slice()) {
+            Ok(()) => Ok(true),
+            Err(fault) => Err(fault),
+        },
+        Err(fault) => Err(keeper_fault(fault)),
     }
 }
 
 /// Runs `history AWB`: writes the record of a waybill, its moves, its trail and its status
 /// messages.
+#[tactic(auto, using(crate::proofs::Histories::known_found, crate::proofs::Histories::unknown_found))]
 pub(crate) fn do_history<K: Keeper, W: ByteOut>(
     alloc: Global,
     keeper: &mut K,
@@ -57,12 +44,12 @@ pub(crate) fn do_history<K: Keeper, W: ByteOut>(
     output: &mut W,
 ) -> Result<bool, RunFault>
     ensures service { StaysInService K.keeping keeper.old keeper.new result }
-    ensures history { HasToldHistory K.keeping number.now (keeper.old, W.taken output.old)
+    ensures history { HasReadHistory K.keeping number.now (keeper.old, W.taken output.old)
         (keeper.new, W.taken output.new) result }
 {
-    match do_waybill(alloc, keeper, number, output) {
-        Ok(true) => tell_rows(alloc, keeper, number, output),
-        Ok(false) => Ok(false),
-        Err(fault) => Err(fault),
+    match keeper.waybill(number) {
+        Ok(Some(known)) => tell_known(alloc, keeper, number, &known, output),
+        Ok(None) => tell_unknown(output),
+        Err(fault) => Err(keeper_fault(fault)),
     }
 }

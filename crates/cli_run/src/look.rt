@@ -42,7 +42,7 @@ fn tell_object<W: ByteOut>(
     Ok(true)
 }
 
-fn tell_unknown<W: ByteOut>(output: &mut W) -> Result<bool, RunFault>
+pub(crate) fn tell_unknown<W: ByteOut>(output: &mut W) -> Result<bool, RunFault>
     ensures told { HasToldFound None (W.taken output.old) (W.taken output.new) result }
     ensures store { result ≡ Err RunFault.Store → ⊥ }
 {

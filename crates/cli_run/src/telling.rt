@@ -1,7 +1,7 @@
 //! Reasons on standard error why an input can't be read.
 ghost use Rattle.std.specs.Prelude.{codes};
 ghost use Rattle.input_reasons.specs.Reason.{HasReason, is_unread};
-ghost use Rattle.cli_run.specs.Explained.{answered_unread, reason_head, HasToldWhy};
+ghost use Rattle.cli_run.specs.Explained.{answered_unread, line_head, reason_head, HasToldWhy};
 
 use crate::asked::Asked;
 use desk_commands::Verb;
@@ -26,9 +26,12 @@ pub(crate) fn tell_bad_line<E: ByteOut>(
     number: Option<u64>,
     text: &[u8],
 )
-    ensures { HasReason (codes "line ") (E.taken errors.old).bytes (E.taken errors.new).bytes }
+    ensures { HasReason (line_head number) (E.taken errors.old).bytes (E.taken errors.new).bytes }
 {
-    tell_reason(errors, act_line_reason(alloc, text, number.unwrap_or(0)));
+    match number {
+        Some(number) => tell_reason(errors, act_line_reason(alloc, text, number)),
+        None => tell_reason(errors, act_line_reason(alloc, text, 0)),
+    }
 }
 
 /// Writes the reason why a telegram can't be read.

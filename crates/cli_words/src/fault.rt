@@ -46,8 +46,7 @@ pub(crate) enum BadValue<'a> {
     Beside,
 }
 
-const KEY: &str =
-    "expected 1 to 40 printable characters without spaces; the body is read from standard input";
+const KEY: &str = "expected 1 to 40 printable characters without spaces";
 
 /// The expectation for a waybill number.
 const NUMBER: &str =
@@ -86,12 +85,11 @@ impl BadValue<'_> {
                 "expected an airport: three letters, A to Z",
             ),
             BadValue::At(text) => ("--at", text, "expected a port: a number from 1 to 65535"),
-            BadValue::Key(text) => ("KEY", text, KEY),
-            BadValue::KeptKey(text) => (
-                "KEY",
-                text,
-                "expected 1 to 40 printable characters without spaces",
-            ),
+            BadValue::Key(text) => {
+                let words = invalid(alloc, "KEY", text, KEY)?;
+                return format!(in alloc; "{words}; the body is read from standard input");
+            }
+            BadValue::KeptKey(text) => ("KEY", text, KEY),
             BadValue::Number(text) => ("AWB", text, NUMBER),
             BadValue::CheckDigit(text) => ("AWB", text, CHECK_DIGIT),
             BadValue::Agent(text) => (

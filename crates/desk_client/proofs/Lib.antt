@@ -3,7 +3,6 @@ pub mod Bodies
 pub mod Cuts
 pub mod Ends
 pub mod Found
-pub mod Going
 pub mod Grown
 pub mod Hearing
 pub mod Replies

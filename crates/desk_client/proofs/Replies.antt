@@ -1,13 +1,15 @@
 -- What a reply tells is the line of its answer.
-use Rattle.std.proofs.Common.{arith, ◌≡◌, ◌∙◌, ap, refl, ℕ, ◌<◌, Bool, true, false, Some, None, List, [], ◌∷◌, ◌++◌, length, length-append, codes, decimal}
-use Rattle.std.specs.Prelude.{◌==◌, ◌||◌, ◌&&◌, if◌then◌else◌, option_map, option_and_then}
+use Rattle.std.proofs.Common.{arith, ◌≡◌, ◌∙◌, ap, refl, ℕ, ◌<◌, ◌^◌, Bool, true, false, Some, None, List, [], ◌∷◌, ◌++◌, length, length-append, codes, decimal}
+use Rattle.std.specs.Prelude.{◌==◌, ◌||◌, ◌&&◌, nat_lt, if◌then◌else◌, option_map, option_and_then}
 use Rattle.std.specs.Str.{bytes_eq}
 use Rattle.imp_fields.specs.Fault.{why_word}
 use Rattle.awb_number.specs.Digits.{padded}
+use Rattle.std.proofs.lemmas.Bool.{lt-ltb}
 use Rattle.std.proofs.lemmas.Fmt.{decimal_nonempty}
 use Rattle.serde_json.proofs.OnLiterals.{serde_json_on_literals}
 use Rattle.awb_number.specs.Number.{number_text, prefix_of, serial_of, check_digit}
 use Rattle.station_days.specs.Date.{day_line}
+use Rattle.station_days.specs.Steps.{where_true}
 use Rattle.imp_fields.specs.Flight.{flight_text}
 use Rattle.shipment_machine.specs.declared.plans.Detail.{Detail}
 use Rattle.shipment_machine.specs.declared.plans.Detail.TheVariants as detail
@@ -16,13 +18,17 @@ use Rattle.station_core.specs.declared.answer.Answer.{Answer}
 use Rattle.station_core.specs.declared.answer.Answer.TheVariants.{Done, Refused}
 use Rattle.stock_list.specs.Lines.{answer_text}
 use Rattle.http_desk.specs.Reply.{answer_reply, ok_data, refused_data}
-use Rattle.desk_client.specs.Told.{ok_line, refused_line, refused_told, refusal_told, count_of, told_line}
+use Rattle.desk_client.specs.Told.{ok_line, refused_line, refused_told, refusal_told, count_of, count_told, told_line}
 use Rattle.desk_client.specs.Law.{AreFew, HasFew, reply_line}
 
 -- what an object of a desk has
-ok_has : (count : ℕ) → count_of (codes "count") (ok_data count) ≡ Some count
+ok_named : (count : ℕ) → count_of (codes "count") (ok_data count) ≡ Some count
 unfolding serde_json_on_literals
-ok_has count = refl
+ok_named count = refl
+
+ok_has : (count : ℕ) → count < 2 ^ 32 → count_told (ok_data count) ≡ Some count
+ok_has count few =
+    ap (option_and_then (λ n. where_true (nat_lt n (2 ^ 32)) n)) (ok_named count) ∙ ap (λ (t : Bool). where_true t count) (lt-ltb count (2 ^ 32) few)
 
 refused_has : (number : ℕ) (text : List ℕ) → refusal_told (refused_data number text) ≡ Some (number, text)
 unfolding serde_json_on_literals
@@ -58,7 +64,7 @@ by_status number text false is =
     ap (option_and_then (refused_told 409)) (refused_has number text)
 
 pub lines : (a : Answer) → HasFew a → reply_line (answer_reply a) ≡ Some (answer_text a)
-lines (Done reply) few = ap (option_map ok_line) (ok_has reply.count)
+lines (Done reply) few = ap (option_map ok_line) (ok_has reply.count few)
 lines (Refused refusal) few =
     by_status refusal.number (detail_text refusal.detail) ((refusal.number == 301) || (refusal.number == 302)) refl
     ∙ ap Some (line_is refusal.number refusal.detail few)

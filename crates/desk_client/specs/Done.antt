@@ -16,10 +16,10 @@ use Rattle.cli_run.specs.InTurn.{lines_of, HaveBeenMade}
 use Rattle.cli_run.specs.Takes.{HasTakenNext}
 use Rattle.desk_client.specs.Again.{talked, Talk}
 use Rattle.desk_client.specs.ListRows.{HasAnsweredRow}
-use Rattle.desk_client.specs.Looks.{shown, Shown, HasAskedHistory, HasAskedRows, HasLooked, HasShownFound}
+use Rattle.desk_client.specs.Looks.{shown, Shown, HasAskedRows, HasLooked, HasShownFound, history_look, object_look}
 use Rattle.desk_client.specs.Posted.{HasAnsweredLine}
 use Rattle.desk_client.specs.Ran.{HasAnsweredText}
-use Rattle.desk_client.specs.Request.{get_request, holder_path, most_answer, waybill_path}
+use Rattle.desk_client.specs.Request.{get_request, history_path, holder_path, most_answer, most_row_bytes, waybill_path}
 use Rattle.http_desk.specs.Paths.{rows_path}
 
 abbrev pub shown_at : {S E : Type 0} → (S → Talk) → Come S E → Shown
@@ -47,11 +47,11 @@ HasDone (command.Outbox f) talk given turned taken left old new r =
 HasDone (command.Report l f) talk given turned taken left old new r =
     HasAskedRows (rows_path l f) f (shown_at talk old.0) (shown_at talk new.0) r
 HasDone (command.History w) talk given turned taken left old new r =
-    HasAskedHistory w (shown_at talk old.0) (shown_at talk new.0) r
+    HasLooked (HasShownFound (history_look w)) most_row_bytes (get_request (history_path w) ++ []) (shown_at talk old.0) (shown_at talk new.0) r
 HasDone (command.Waybill w) talk given turned taken left old new r =
-    HasLooked HasShownFound most_answer (get_request (waybill_path w) ++ []) (shown_at talk old.0) (shown_at talk new.0) r
+    HasLooked (HasShownFound (object_look w)) most_answer (get_request (waybill_path w) ++ []) (shown_at talk old.0) (shown_at talk new.0) r
 HasDone (command.Holder w) talk given turned taken left old new r =
-    HasLooked HasShownFound most_answer (get_request (holder_path w) ++ []) (shown_at talk old.0) (shown_at talk new.0) r
+    HasLooked (HasShownFound (object_look w)) most_answer (get_request (holder_path w) ++ []) (shown_at talk old.0) (shown_at talk new.0) r
 HasDone command.Init talk given turned taken left old new r = HasIdled (talked talk old.0) (talked talk new.0) r
 HasDone command.Migrate talk given turned taken left old new r = HasIdled (talked talk old.0) (talked talk new.0) r
 HasDone (command.Read path) talk given turned taken left old new r = HasIdled (talked talk old.0) (talked talk new.0) r

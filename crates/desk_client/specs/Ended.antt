@@ -5,6 +5,8 @@ use Rattle.std.specs.Cmp.Lexicographic.{pointwise}
 use Rattle.std.specs.Str.{bytes_eq}
 use Rattle.station_days.specs.Steps.{where_true}
 use Rattle.awb_number.specs.Digits.{is_digit}
+use Rattle.reports.specs.declared.form.Form.{Form}
+use Rattle.reports.specs.declared.form.Form.TheVariants as form
 
 -- the text after the leading digits
 abbrev pub behind_digits : List ℕ → List ℕ
@@ -35,8 +37,11 @@ is_before_count front = bytes_eq front (codes "END ") || ends_with ◌==◌ fron
 abbrev pub is_before_json_count : List ℕ → Bool
 is_before_json_count front = ends_with ◌==◌ front (codes "],\"count\":")
 
--- the text ends with a line such as `END 12`, or with `],"count":12}` and the line's end
+-- the end of a report in a form: a line such as `END 12`, or `],"count":12}` and the line's end
+abbrev pub ends_in : Form → List ℕ → Bool
+ends_in form.Text text = has_count_in is_before_count (without (codes "\n") text)
+ends_in form.Json text = has_count_in is_before_json_count (without (codes "}\n") text)
+
+-- the text ends as a report does, in one of the forms
 abbrev pub has_end : List ℕ → Bool
-has_end text =
-    has_count_in is_before_count (without (codes "\n") text)
-    || has_count_in is_before_json_count (without (codes "}\n") text)
+has_end text = ends_in form.Text text || ends_in form.Json text

@@ -4,19 +4,20 @@ use Rattle.shipment_machine.specs.declared.plans.Detail.{Detail}
 use Rattle.shipment_machine.specs.declared.plans.Detail.TheVariants as detail
 use Rattle.station_core.specs.declared.answer.Answer.{Answer}
 use Rattle.station_core.specs.declared.answer.Answer.TheVariants.{Done, Refused}
-use Rattle.http_desk.specs.Reply.{Reply, json_reply, look_reply, report_reply}
+use Rattle.http_desk.specs.Reply.{Reply, history_reply, json_reply, look_reply, report_reply}
 use Rattle.desk_client.specs.Told.{told_line}
 
 abbrev pub reply_line : Reply → Option (List ℕ)
 reply_line (json_reply status allow d) = told_line status d
 reply_line (look_reply seen) = None
+reply_line (history_reply w known) = None
 reply_line (report_reply name) = None
 
--- the number of pieces fits into 64 bits
+-- the number of pieces fits into 64 bits, and a count into 32
 abbrev pub AreFew : Detail → Type 0
 AreFew (detail.Pieces pieces) = pieces < 2 ^ 64
 AreFew _ = ⊤
 
 abbrev pub HasFew : Answer → Type 0
-HasFew (Done reply) = ⊤
+HasFew (Done reply) = reply.count < 2 ^ 32
 HasFew (Refused refusal) = AreFew refusal.detail

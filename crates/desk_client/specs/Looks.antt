@@ -1,21 +1,21 @@
 -- Reports and look-ups with a service.
-use Rattle.std.specs.Prelude.{◌≡◌, ◌⊎◌, ◌==◌, ◌&&◌, ℕ, Bool, true, false, List, [], ◌∷◌, ◌++◌, codes, Option, Some, None, Result, Ok, Err, ⊤}
+use Rattle.std.specs.Prelude.{◌≡◌, ◌⊎◌, ◌==◌, ◌&&◌, ◌||◌, ℕ, Bool, true, false, List, [], ◌∷◌, ◌++◌, length, take, drop, codes, is_some, Option, Some, None, Result, Ok, Err, option_and_then, ⊤}
+use Rattle.std.specs.List.{list_all}
 use Rattle.std.specs.Str.{bytes_eq}
+use Rattle.awb_number.specs.Number.{number_text}
+use Rattle.imp_fields.specs.Characters.{is_printable}
+use Rattle.station_days.specs.Steps.{where_true}
 use Rattle.reports.specs.declared.form.Form.{Form}
-use Rattle.reports.specs.declared.form.Form.TheVariants as form
-use Rattle.reports.specs.declared.listing.Listing.{Listing}
-use Rattle.reports.specs.declared.listing.Listing.TheVariants as listing
 use Rattle.station_core.specs.Ends.{HasCause, HasSent}
 use Rattle.station_core.specs.Given.{Given}
 use Rattle.stock_list.specs.declared.answer.RunFault.{RunFault}
 use Rattle.stock_list.specs.declared.answer.RunFault.TheVariants as fault
 use Rattle.desk_client.specs.Again.{Talk, IsAnswered, IsAskedUntil}
-use Rattle.desk_client.specs.Ended.{has_end}
+use Rattle.desk_client.specs.Ended.{ends_in}
 use Rattle.desk_client.specs.Front.{IsBegun}
 use Rattle.desk_client.specs.Heard.{body_of, service_fault}
 use Rattle.desk_client.specs.Printed.{HasPrinted}
-use Rattle.desk_client.specs.Request.{get_request, most_answer, waybill_path}
-use Rattle.http_desk.specs.Paths.{rows_path}
+use Rattle.desk_client.specs.Request.{get_request}
 use Rattle.desk_client.specs.declared.ask.Answer.{Answer}
 use Rattle.desk_client.specs.declared.ask.AskFault.{AskFault}
 use Rattle.desk_client.specs.declared.ask.Until.TheVariants as until
@@ -41,22 +41,66 @@ HasShown text good old new (Err e) = (e ≡ fault.Write) × HasSent text old new
 abbrev pub HasShownNothing : Given → Given → Result Bool RunFault → Type 0
 HasShownNothing old new result = (new ≡ old) × (result ≡ Err fault.Store)
 
-abbrev pub HasRows : Answer → Type 0
-HasRows a = (a.status ≡ 200) × (has_end (body_of a) ≡ true)
+abbrev pub HasRows : Form → Answer → Type 0
+HasRows f a = (a.status ≡ 200) × (ends_in f (body_of a) ≡ true)
 
--- an answer with rows: they are written unchanged; for any other answer nothing is written
-abbrev pub HasShownRows : Answer → Given → Given → Result Bool RunFault → Type 0
-HasShownRows a old new result =
-    (HasRows a × HasShown (body_of a) true old new result)
-    ⊎ ((¬ HasRows a) × HasShownNothing old new result)
+-- an answer with rows in the form: they are written unchanged; for any other answer nothing is
+-- written
+abbrev pub HasShownRows : Form → Answer → Given → Given → Result Bool RunFault → Type 0
+HasShownRows f a old new result =
+    (HasRows f a × HasShown (body_of a) true old new result)
+    ⊎ ((¬ HasRows f a) × HasShownNothing old new result)
 
--- an answer to a look-up: the object is written on a line, or that the number is unknown; for any
--- other answer nothing is written
-abbrev pub HasShownFound : Answer → Given → Given → Result Bool RunFault → Type 0
-HasShownFound a old new result =
-    ((a.status ≡ 200) × HasShown (body_of a ++ 10 ∷ []) true old new result)
-    ⊎ (((is_unknown a ≡ true) × HasShown (codes "unknown\n") false old new result)
-    ⊎ ((¬ (a.status ≡ 200)) × (is_unknown a ≡ false) × HasShownNothing old new result))
+-- the text after this prefix, if it begins with it
+abbrev pub behind : List ℕ → List ℕ → Option (List ℕ)
+behind front text =
+    where_true (bytes_eq (take (length front) text) front) (drop (length front) text)
+
+-- a text that begins with the object of a number, as a desk prints it
+abbrev pub has_object_front : ℕ → List ℕ → Bool
+has_object_front w text =
+    is_some (option_and_then (behind (codes "\","))
+    (option_and_then (behind (number_text w)) (behind (codes "{\"awb\":\"") text)))
+
+-- the object of a number: one line of printable ASCII
+abbrev pub is_object_of : ℕ → List ℕ → Bool
+is_object_of w text = has_object_front w text && list_all is_printable text
+
+-- the bytes of a text of lines
+abbrev pub is_text_byte : ℕ → Bool
+is_text_byte b = is_printable b || ((b == 10) || (b == 13))
+
+-- the history of a waybill: lines of printable ASCII that begin with its record
+abbrev pub is_history_of : ℕ → List ℕ → Bool
+is_history_of w text = has_object_front w text && list_all is_text_byte text
+
+-- the look-ups: the test of an answer's body, and the end of its output
+pub record LookUp : Type 0 where
+  pub shows : List ℕ → Bool
+  pub end : List ℕ
+
+-- the object of a number, on a line; the history of a waybill
+abbrev pub object_look : ℕ → LookUp
+object_look w = record { shows = is_object_of w; end = 10 ∷ [] }
+
+abbrev pub history_look : ℕ → LookUp
+history_look w = record { shows = is_history_of w; end = [] }
+
+abbrev pub has_found : LookUp → Answer → Bool
+has_found look a = (a.status == 200) && look.shows (body_of a)
+
+-- an answer that a number is unknown: that is written; for any other answer nothing is
+abbrev pub HasShownUnknown : Answer → Given → Given → Result Bool RunFault → Type 0
+HasShownUnknown a old new result =
+    ((is_unknown a ≡ true) × HasShown (codes "unknown\n") false old new result)
+    ⊎ ((is_unknown a ≡ false) × HasShownNothing old new result)
+
+-- an answer to a look-up: its body is written, or that the number is unknown; for any other answer
+-- nothing is written
+abbrev pub HasShownFound : LookUp → Answer → Given → Given → Result Bool RunFault → Type 0
+HasShownFound look a old new result =
+    ((has_found look a ≡ true) × HasShown (body_of a ++ look.end) true old new result)
+    ⊎ ((has_found look a ≡ false) × HasShownUnknown a old new result)
 
 -- the service was asked, and its answer was shown; or it didn't answer, and nothing was written
 abbrev pub HasLooked : (Answer → Given → Given → Result Bool RunFault → Type 0) → ℕ → List ℕ → Shown → Shown
@@ -76,7 +120,7 @@ IsTakenRows f a (Some end) = IsBegun f a.bytes.items a.start end
 
 -- its rows were printed: of a whole answer at once, otherwise as they arrive
 abbrev pub HasShownTaken : Form → Answer → Option ℕ → Talk → Talk → Given → Given → Result Bool RunFault → Type 0
-HasShownTaken f a None talk_old talk_new old new result = (talk_new ≡ talk_old) × HasShownRows a old new result
+HasShownTaken f a None talk_old talk_new old new result = (talk_new ≡ talk_old) × HasShownRows f a old new result
 HasShownTaken f a (Some end) talk_old talk_new old new result = HasPrinted f a talk_old talk_new old new result
 
 -- The service was asked for rows, which were printed without further tries; or it didn't answer,
@@ -87,29 +131,3 @@ HasAskedRows path f old new result =
     × HasShownTaken f a a.begun mid new.talk old.sent new.sent result))
     ⊎ ((e : AskFault) × IsAskedUntil (until.Rows f) (rows_request path) old.talk new.talk (Err e) × (new.sent ≡ old.sent)
     × (result ≡ Err (service_fault e)))
-
--- a step, and the next one if it succeeded
-abbrev pub HasGoneOn : (Shown → Shown → Result Bool RunFault → Type 0) → (Shown → Shown → Result Bool RunFault → Type 0)
-    → Shown → Shown → Result Bool RunFault → Type 0
-HasGoneOn First Next old new result =
-    ((mid : Shown) × First old mid (Ok true) × Next mid new result)
-    ⊎ (First old new result × (result ≡ Ok true → ⊥))
-
--- a listing as text
-abbrev pub HasAskedText : Listing → Shown → Shown → Result Bool RunFault → Type 0
-HasAskedText l old new result = HasAskedRows (rows_path l form.Text) form.Text old new result
-
--- the trail of a waybill and then its status messages, and its moves before them
-abbrev pub HasAskedMessages : ℕ → Shown → Shown → Result Bool RunFault → Type 0
-HasAskedMessages w old new result =
-    HasGoneOn (HasAskedText (listing.Trail w)) (HasAskedText (listing.Sent w)) old new result
-
-abbrev pub HasAskedMoves : ℕ → Shown → Shown → Result Bool RunFault → Type 0
-HasAskedMoves w old new result =
-    HasGoneOn (HasAskedText (listing.Movements w)) (HasAskedMessages w) old new result
-
--- the record of a waybill, and its moves, its trail and its messages if it is known
-abbrev pub HasAskedHistory : ℕ → Shown → Shown → Result Bool RunFault → Type 0
-HasAskedHistory w old new result =
-    HasGoneOn (HasLooked HasShownFound most_answer (get_request (waybill_path w) ++ []))
-    (HasAskedMoves w) old new result

@@ -3,7 +3,7 @@ use Rattle.std.specs.Prelude.{ℕ, List, [], ◌++◌, length, codes, decimal}
 use Rattle.awb_number.specs.Number.{number_text}
 use Rattle.desk_commands.specs.Verb.{word}
 use Rattle.http_desk.specs.Paths.{rows_path, segments}
-use Rattle.http_desk.specs.Routes.{gets, got_holder, got_waybill}
+use Rattle.http_desk.specs.Routes.{gets, got_history, got_holder, got_waybill}
 use Rattle.http_desk.specs.Segments.{path_text}
 use Rattle.desk_client.specs.declared.question.Question.{Question}
 use Rattle.desk_client.specs.declared.question.Question.TheVariants as question
@@ -12,12 +12,13 @@ use Rattle.desk_client.specs.declared.question.Question.TheVariants as question
 abbrev pub most_answer : ℕ
 most_answer = 65_536
 
--- rows are limited only by the machine's memory
+-- rows and histories are limited only by the machine's memory
 abbrev pub most_row_bytes : ℕ
 most_row_bytes = 18_446_744_073_709_551_615
 
 abbrev pub most_of : Question → ℕ
 most_of (question.Rows l f) = most_row_bytes
+most_of (question.History w) = most_row_bytes
 most_of _ = most_answer
 
 -- The lines of a request's head.
@@ -44,6 +45,9 @@ get_request path = codes "GET " ++ path ++ codes " HTTP/1.1\r\nHost: 127.0.0.1\r
 abbrev pub waybill_path : ℕ → List ℕ
 waybill_path w = path_text (segments (gets (got_waybill (number_text w))))
 
+abbrev pub history_path : ℕ → List ℕ
+history_path w = path_text (segments (gets (got_history (number_text w))))
+
 abbrev pub holder_path : ℕ → List ℕ
 holder_path w = path_text (segments (gets (got_holder (number_text w))))
 
@@ -58,5 +62,6 @@ abbrev pub request_of : Question → List ℕ
 request_of (question.Command verb key body) = command_request (word verb) key body.now
 request_of (question.Telegram text) = telegram_request text.now
 request_of (question.Waybill w) = get_request (waybill_path w) ++ []
+request_of (question.History w) = get_request (history_path w) ++ []
 request_of (question.Holder w) = get_request (holder_path w) ++ []
 request_of (question.Rows l f) = get_request (rows_path l f) ++ []

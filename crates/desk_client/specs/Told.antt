@@ -1,6 +1,7 @@
 -- The content of an answer to a command or a telegram.
-use Rattle.std.specs.Prelude.{◌≡◌, ◌==◌, ◌&&◌, ◌||◌, ℕ, List, [], ◌∷◌, ◌++◌, codes, decimal, Option, Some, None, option_map, option_and_then, if◌then◌else◌, string_bytes, IsUtf8}
+use Rattle.std.specs.Prelude.{◌≡◌, ◌==◌, ◌&&◌, ◌||◌, ℕ, ◌^◌, nat_lt, List, [], ◌∷◌, ◌++◌, codes, decimal, Option, Some, None, option_map, option_and_then, if◌then◌else◌, string_bytes, IsUtf8}
 use Rattle.std.specs.Str.{bytes_eq}
+use Rattle.station_days.specs.Steps.{where_true}
 use Rattle.serde_json.specs.Data.{Data}
 use Rattle.serde_json.specs.Find.{get, as_number, as_u64, as_str}
 use Rattle.serde_json.specs.Read.{read}
@@ -19,6 +20,11 @@ refused_line number (b ∷ detail) = codes "refused " ++ decimal number ++ 32 �
 abbrev pub count_of : List ℕ → Data → Option ℕ
 count_of name d = option_and_then as_u64 (option_and_then as_number (get name d))
 
+-- the count of an accepted input: at most that of 32 bits
+abbrev pub count_told : Data → Option ℕ
+count_told d =
+    option_and_then (λ count. where_true (nat_lt count (2 ^ 32)) count) (count_of (codes "count") d)
+
 abbrev pub refusal_told : Data → Option (ℕ × List ℕ)
 refusal_told d =
     option_and_then (λ number. option_map (λ detail. (number, detail)) (option_and_then as_str (get (codes "detail") d))) (count_of (codes "refused") d)
@@ -34,7 +40,7 @@ refused_told status (number, detail) =
 -- the line, without its end
 abbrev pub told_line : ℕ → Data → Option (List ℕ)
 told_line status d =
-    if status == 200 then option_map ok_line (count_of (codes "count") d)
+    if status == 200 then option_map ok_line (count_told d)
     else option_and_then (refused_told status) (refusal_told d)
 
 -- the content of a body under a status; 200 means that it was accepted

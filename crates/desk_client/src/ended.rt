@@ -1,6 +1,8 @@
 //! The end of a report.
 ghost use Rattle.std.specs.Prelude.{◌≡◌, ◌≤◌, codes, length, option_map};
-ghost use Rattle.desk_client.specs.Ended.{before_digits, has_count, has_count_in, has_end, is_before_count, is_before_json_count, without};
+ghost use Rattle.desk_client.specs.Ended.{before_digits, ends_in, has_count, has_count_in, has_end, is_before_count, is_before_json_count, without};
+
+use reports::Form;
 
 #[tactic(auto, using(crate::proofs::Ends::more_digits, crate::proofs::Ends::no_digit))]
 fn before_digits(text: &[u8]) -> &[u8]
@@ -55,7 +57,7 @@ fn without<'a>(text: &'a [u8], end: &[u8]) -> Option<&'a [u8]>
 
 /// Returns whether a text ends with the last line of a report, such as `END 12`.
 fn is_text_end(text: &[u8]) -> bool
-    ensures { result ≡ has_count_in is_before_count (without (codes "\n") text.now) }
+    ensures { result ≡ ends_in Form.Text text.now }
 {
     match without(text, b"\n") {
         Some(line) => has_count(line),
@@ -65,11 +67,21 @@ fn is_text_end(text: &[u8]) -> bool
 
 /// Returns whether a text ends like a report in JSON, with `],"count":12}`.
 fn is_json_end(text: &[u8]) -> bool
-    ensures { result ≡ has_count_in is_before_json_count (without (codes "}\n") text.now) }
+    ensures { result ≡ ends_in Form.Json text.now }
 {
     match without(text, b"}\n") {
         Some(object) => has_json_count(object),
         None => false,
+    }
+}
+
+/// Returns whether a text ends as a report in a form does.
+pub(crate) fn ends_in(form: Form, text: &[u8]) -> bool
+    ensures { result ≡ ends_in form text.now }
+{
+    match form {
+        Form::Text => is_text_end(text),
+        Form::Json => is_json_end(text),
     }
 }
 

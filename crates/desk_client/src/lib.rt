@@ -6,7 +6,7 @@ mod ask;
 mod connect;
 mod ended;
 mod front;
-mod law;
+mod laws;
 mod line;
 mod lines;
 mod looks;
@@ -23,7 +23,7 @@ mod whole;
 
 pub use ask::{Answer, Ask, AskFault, Until};
 pub use connect::{Connect, LastTry, Service};
-pub use law::{lines_law, request_law, whole_law};
+pub use laws::{lines_law, request_law, whole_law};
 pub use question::Question;
 pub use run::ask_command;
 pub use status::end_asked;

@@ -1,14 +1,15 @@
-//! Look-ups, and histories of waybills.
-ghost use Rattle.std.specs.Prelude.{◌≡◌};
-ghost use Rattle.desk_client.specs.Looks.{is_unknown, shown, HasAskedHistory, HasAskedMessages, HasAskedMoves, HasLooked, HasShownFound};
-ghost use Rattle.desk_client.specs.Request.{most_of, request_of};
+//! Look-ups of numbers, and histories of waybills.
+ghost use Rattle.std.specs.Prelude.{◌≡◌, ◌++◌, [], option_map};
+ghost use Rattle.std.specs.List.{list_all};
+ghost use Rattle.imp_fields.specs.Characters.{is_printable};
+ghost use Rattle.desk_client.specs.Looks.{behind, has_found, has_object_front, history_look, is_history_of, is_object_of, is_text_byte, is_unknown, object_look, shown, HasLooked, HasShownFound, HasShownUnknown};
+ghost use Rattle.desk_client.specs.Request.{get_request, history_path, most_of, most_row_bytes, request_of};
 
 use crate::ask::{Answer, Ask};
 use crate::line::service_fault;
 use crate::question::Question;
 use awb_number::Awb;
-use cli_run::send_word;
-use reports::{Form, Listing};
+use cli_run::{send_part, send_word};
 use station_core::ByteOut;
 use std::alloc::Global;
 use stock_list::RunFault;
@@ -22,16 +23,66 @@ fn is_unknown(answer: &Answer) -> bool
     answer.status == 404 && answer.body() == UNKNOWN_BODY
 }
 
-/// Writes the object in the answer to a look-up, or that the number is unknown.
-fn show_found<W: ByteOut>(answer: &Answer, output: &mut W) -> Result<bool, RunFault>
-    ensures { HasShownFound answer.now (W.taken output.old) (W.taken output.new) result }
+fn behind<'a>(front: &[u8], text: &'a [u8]) -> Option<&'a [u8]>
+    ensures { option_map (λ rest. rest.now) result ≡ behind front.now text.entry.now }
 {
-    if answer.status == 200 {
-        return match send_word(output, "", answer.body()) {
-            Ok(()) => Ok(true),
-            Err(fault) => Err(fault),
-        };
-    }
+    text.strip_prefix(front)
+}
+
+fn has_object_front(number: &Awb, text: &[u8]) -> bool
+    ensures { result ≡ has_object_front number.now text.now }
+{
+    let Some(rest) = behind(b"{\"awb\":\"", text) else {
+        return false;
+    };
+    let Some(rest) = behind(&number.write(), rest) else {
+        return false;
+    };
+    behind(b"\",", rest).is_some()
+}
+
+fn are_printable(text: &[u8]) -> bool
+    ensures { result ≡ list_all is_printable text.now }
+{
+    text.iter().all(|b| 32 <= *b && *b <= 126)
+}
+
+/// Returns whether a text has only printable bytes and the ends of lines.
+fn are_lines(text: &[u8]) -> bool
+    ensures { result ≡ list_all is_text_byte text.now }
+{
+    text.iter()
+        .all(|b| (32 <= *b && *b <= 126) || *b == b'\n' || *b == b'\r')
+}
+
+fn is_object_of(number: &Awb, text: &[u8]) -> bool
+    ensures { result ≡ is_object_of number.now text.now }
+{
+    has_object_front(number, text) && are_printable(text)
+}
+
+fn is_history_of(number: &Awb, text: &[u8]) -> bool
+    ensures { result ≡ is_history_of number.now text.now }
+{
+    has_object_front(number, text) && are_lines(text)
+}
+
+fn has_object(number: &Awb, answer: &Answer) -> bool
+    ensures { result ≡ has_found (object_look number.now) answer.now }
+{
+    answer.status == 200 && is_object_of(number, answer.body())
+}
+
+fn has_history(number: &Awb, answer: &Answer) -> bool
+    ensures { result ≡ has_found (history_look number.now) answer.now }
+{
+    answer.status == 200 && is_history_of(number, answer.body())
+}
+
+/// Writes that a number is unknown, if the answer says so.
+fn show_unknown<W: ByteOut>(answer: &Answer, output: &mut W) -> Result<bool, RunFault>
+    ensures { HasShownUnknown answer.now (W.taken output.old) (W.taken output.new) result }
+{
     if !is_unknown(answer) {
         return Err(RunFault::Store);
     }
@@ -41,68 +92,67 @@ fn show_found<W: ByteOut>(answer: &Answer, output: &mut W) -> Result<bool, RunFa
     }
 }
 
+/// Writes the object in the answer to a look-up, or that the number is unknown.
+fn show_object<W: ByteOut>(number: &Awb, answer: &Answer, output: &mut W) -> Result<bool, RunFault>
+    ensures { HasShownFound (object_look number.now) answer.now (W.taken output.old)
+        (W.taken output.new) result }
+{
+    if !has_object(number, answer) {
+        return show_unknown(answer, output);
+    }
+    match send_word(output, "", answer.body()) {
+        Ok(()) => Ok(true),
+        Err(fault) => Err(fault),
+    }
+}
+
+/// Writes the history in an answer, or that the waybill is unknown.
+fn show_history<W: ByteOut>(number: &Awb, answer: &Answer, output: &mut W) -> Result<bool, RunFault>
+    ensures { HasShownFound (history_look number.now) answer.now (W.taken output.old)
+        (W.taken output.new) result }
+{
+    if !has_history(number, answer) {
+        return show_unknown(answer, output);
+    }
+    match send_part(output, answer.body()) {
+        Ok(()) => Ok(true),
+        Err(fault) => Err(fault),
+    }
+}
+
 /// Looks up a waybill or a number, and writes the object, or that the number is unknown.
 pub(crate) fn ask_number<S: Ask, W: ByteOut>(
     alloc: Global,
     service: &mut S,
     question: &Question<'_>,
+    number: &Awb,
     output: &mut W,
 ) -> Result<bool, RunFault>
-    ensures { HasLooked HasShownFound (most_of question.now) (request_of question.now)
-        (shown (S.talk service.old) (W.taken output.old))
+    ensures { HasLooked (HasShownFound (object_look number.now)) (most_of question.now)
+        (request_of question.now) (shown (S.talk service.old) (W.taken output.old))
         (shown (S.talk service.new) (W.taken output.new)) result }
 {
     match service.ask(alloc, question) {
-        Ok(answer) => show_found(&answer, output),
+        Ok(answer) => show_object(number, &answer, output),
         Err(fault) => Err(service_fault(fault)),
     }
 }
 
-/// Writes the trail of a waybill, and then its status messages.
-fn ask_messages<S: Ask, W: ByteOut>(
-    alloc: Global,
-    service: &mut S,
-    number: &Awb,
-    output: &mut W,
-) -> Result<bool, RunFault>
-    ensures { HasAskedMessages number.now (shown (S.talk service.old) (W.taken output.old))
-        (shown (S.talk service.new) (W.taken output.new)) result }
-{
-    match service.ask_rows(alloc, &Listing::Trail(*number), Form::Text, output) {
-        Ok(true) => service.ask_rows(alloc, &Listing::Sent(*number), Form::Text, output),
-        ended => ended,
-    }
-}
-
-/// Writes the moves of a waybill, its trail and its status messages.
-fn ask_moves<S: Ask, W: ByteOut>(
-    alloc: Global,
-    service: &mut S,
-    number: &Awb,
-    output: &mut W,
-) -> Result<bool, RunFault>
-    ensures { HasAskedMoves number.now (shown (S.talk service.old) (W.taken output.old))
-        (shown (S.talk service.new) (W.taken output.new)) result }
-{
-    match service.ask_rows(alloc, &Listing::Movements(*number), Form::Text, output) {
-        Ok(true) => ask_messages(alloc, service, number, output),
-        ended => ended,
-    }
-}
-
 /// Runs `history AWB`: writes the record of a waybill, its moves, its trail and its status
-/// messages.
+/// messages, all from one answer.
 pub(crate) fn ask_history<S: Ask, W: ByteOut>(
     alloc: Global,
     service: &mut S,
     number: &Awb,
     output: &mut W,
 ) -> Result<bool, RunFault>
-    ensures { HasAskedHistory number.now (shown (S.talk service.old) (W.taken output.old))
+    ensures { HasLooked (HasShownFound (history_look number.now)) most_row_bytes
+        (get_request (history_path number.now) ++ [])
+        (shown (S.talk service.old) (W.taken output.old))
         (shown (S.talk service.new) (W.taken output.new)) result }
 {
-    match ask_number(alloc, service, &Question::Waybill(*number), output) {
-        Ok(true) => ask_moves(alloc, service, number, output),
-        ended => ended,
+    match service.ask(alloc, &Question::History(*number)) {
+        Ok(answer) => show_history(number, &answer, output),
+        Err(fault) => Err(service_fault(fault)),
     }
 }

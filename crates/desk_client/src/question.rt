@@ -1,7 +1,7 @@
 //! Questions to a service, and their requests.
 ghost use Rattle.std.specs.Prelude.{◌≡◌, ◌++◌, IfOk, length, string_bytes};
 ghost use Rattle.http_desk.specs.Paths.{rows_path};
-ghost use Rattle.desk_client.specs.Request.{command_lines, key_line, command_head, get_request, holder_path, length_line, most_of, request_of, telegram_head, waybill_path};
+ghost use Rattle.desk_client.specs.Request.{command_lines, key_line, command_head, get_request, history_path, holder_path, length_line, most_of, request_of, telegram_head, waybill_path};
 
 use awb_number::Awb;
 use desk_commands::Verb;
@@ -22,18 +22,20 @@ pub enum Question<'a> {
     Telegram(&'a [u8]),
     /// The record of a waybill.
     Waybill(Awb),
+    /// The history of a waybill.
+    History(Awb),
     /// The holder of a number.
     Holder(Awb),
     /// A report, or a part of one.
     Rows(Listing, Form),
 }
 
-/// Returns the largest size of the answer to a question. Only rows are unlimited.
+/// Returns the largest size of the answer to a question. Only rows and histories are unlimited.
 pub(crate) fn most_of(question: &Question<'_>) -> usize
     ensures { result ≡ most_of question.now }
 {
     match question {
-        Question::Rows(_, _) => usize::MAX,
+        Question::Rows(_, _) | Question::History(_) => usize::MAX,
         _ => MOST_ANSWER,
     }
 }
@@ -87,6 +89,12 @@ fn waybill_path(alloc: Global, number: &Awb) -> Result<String, AllocError>
     format!(in alloc; "/v1/waybills/{number}")
 }
 
+fn history_path(alloc: Global, number: &Awb) -> Result<String, AllocError>
+    ensures { IfOk result (λ text. string_bytes text ≡ history_path number.now) }
+{
+    format!(in alloc; "/v1/waybills/{number}/history")
+}
+
 fn holder_path(alloc: Global, number: &Awb) -> Result<String, AllocError>
     ensures { IfOk result (λ text. string_bytes text ≡ holder_path number.now) }
 {
@@ -116,6 +124,11 @@ pub(crate) fn request_of(alloc: Global, question: &Question<'_>) -> Result<Vec<u
         }
         Question::Waybill(number) => {
             let path = waybill_path(alloc, number)?;
+            let request = get_request(alloc, path.as_str())?;
+            with_body(alloc, request.as_str(), &[])
+        }
+        Question::History(number) => {
+            let path = history_path(alloc, number)?;
             let request = get_request(alloc, path.as_str())?;
             with_body(alloc, request.as_str(), &[])
         }

@@ -7,7 +7,7 @@ ghost use Rattle.desk_client.specs.Printed.{HasPrinted};
 
 use crate::ask::Answer;
 use crate::connect::{Connect, LastTry, Service};
-use crate::ended::has_end;
+use crate::ended::ends_in;
 use crate::line::service_fault;
 use crate::printing::{PrintFault, print_report};
 use cli_run::send_part;
@@ -16,10 +16,10 @@ use station_core::{ByteIn, ByteOut};
 use std::alloc::Global;
 use stock_list::RunFault;
 
-fn show_rows<W: ByteOut>(answer: &Answer, output: &mut W) -> Result<bool, RunFault>
-    ensures { HasShownRows answer.now (W.taken output.old) (W.taken output.new) result }
+fn show_rows<W: ByteOut>(answer: &Answer, form: Form, output: &mut W) -> Result<bool, RunFault>
+    ensures { HasShownRows form answer.now (W.taken output.old) (W.taken output.new) result }
 {
-    if answer.status != 200 || !has_end(answer.body()) {
+    if answer.status != 200 || !ends_in(form, answer.body()) {
         return Err(RunFault::Store);
     }
     match send_part(output, answer.body()) {
@@ -70,6 +70,6 @@ pub(crate) fn show_answer<C: Connect, I: ByteIn, O: ByteOut, W: ByteOut>(
 {
     match answer.begun {
         Some(end) => print_begun(alloc, service, answer, end, form, output),
-        None => show_rows(answer, output),
+        None => show_rows(answer, form, output),
     }
 }

@@ -54,10 +54,10 @@ pub fn ask_command<S: Ask, I: Inputs + Read, W: ByteOut, E: ByteOut>(
         LineCommand::Report(listing, form) => service.ask_rows(alloc, listing, *form, output),
         LineCommand::History(number) => ask_history(alloc, service, number, output),
         LineCommand::Waybill(number) => {
-            ask_number(alloc, service, &Question::Waybill(*number), output)
+            ask_number(alloc, service, &Question::Waybill(*number), number, output)
         }
         LineCommand::Holder(number) => {
-            ask_number(alloc, service, &Question::Holder(*number), output)
+            ask_number(alloc, service, &Question::Holder(*number), number, output)
         }
         LineCommand::Init
         | LineCommand::Migrate

@@ -1,7 +1,7 @@
 //! The line in an answer, as the command line prints it.
 ghost use Rattle.std.specs.Prelude.{◌≡◌, IfOk, option_map, string_bytes, Some, None};
 ghost use Rattle.serde_json.specs.View.{view};
-ghost use Rattle.desk_client.specs.Told.{ok_line, refused_line, refusal_told, told_line, Tells};
+ghost use Rattle.desk_client.specs.Told.{count_told, ok_line, refused_line, refusal_told, told_line, Tells};
 
 use serde_json::Value;
 use std::alloc::{AllocError, Global};
@@ -17,7 +17,7 @@ pub enum Told {
 }
 
 /// Returns a line such as `ok 10`.
-fn ok_line(alloc: Global, count: u64) -> Result<String, AllocError>
+fn ok_line(alloc: Global, count: u32) -> Result<String, AllocError>
     ensures { IfOk result (λ line. string_bytes line ≡ ok_line count) }
 {
     format!(in alloc; "ok {count}")
@@ -31,6 +31,16 @@ fn refused_line(alloc: Global, number: u64, detail: &str) -> Result<String, Allo
         return format!(in alloc; "refused {number}");
     }
     format!(in alloc; "refused {number} {detail}")
+}
+
+/// Returns the count in the answer to an accepted input.
+fn count_told(value: &Value) -> Option<u32>
+    ensures { result ≡ count_told (view value.now) }
+{
+    match u32::try_from(value.get("count")?.as_u64()?) {
+        Ok(count) => Some(count),
+        Err(_) => None,
+    }
 }
 
 fn refusal_told(value: &Value) -> Option<(u64, &str)>
@@ -47,7 +57,7 @@ fn told_line(alloc: Global, status: u16, value: &Value) -> Result<Option<String>
         (λ line. option_map (λ line. string_bytes line) line ≡ told_line status (view value.now)) }
 {
     if status == 200 {
-        let Some(count) = value.get("count").and_then(Value::as_u64) else {
+        let Some(count) = count_told(value) else {
             return Ok(None);
         };
         let line = ok_line(alloc, count)?;

@@ -14,10 +14,10 @@ use std::time::{Clock, Duration};
 /// The most connections that are held at a time. Others wait in the queue of the listening socket.
 const MOST_HELD: usize = 256;
 
-/// How long a connection may send nothing while others wait for a place, in milliseconds.
+/// The longest silence of a connection while others wait for a place, in milliseconds.
 const MOST_IDLE: u64 = 1000;
 
-/// How long a wait lasts at most while others wait for a place, in milliseconds.
+/// The longest wait while others wait for a place, in milliseconds.
 const MOST_PAUSE: u64 = 50;
 
 /// The token of the listening socket. A connection has the number of its place.
@@ -32,9 +32,9 @@ pub(crate) struct Connections<'a> {
     events: Events,
     /// Each connection has a place here until it ends.
     places: Vec<Option<Held>>,
-    /// How many connections were accepted, or were given up before.
+    /// The number of connections that were accepted, or given up before.
     accepted: usize,
-    /// Whether connections may wait in the queue of the listening socket.
+    /// `true` if connections may wait in the queue of the listening socket.
     is_called: bool,
     /// The time when the last wait ended, on the clock that never goes back.
     now: Duration,

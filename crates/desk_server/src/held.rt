@@ -7,16 +7,16 @@ use std::net::{Shutdown, TcpStream};
 use std::os::fd::{AsRawFd, RawFd};
 use std::time::Duration;
 
-/// How long a connection may send nothing at first, in seconds.
+/// The longest silence of a new connection, in seconds.
 const MOST_SILENCE: u64 = 5;
 
-/// How long a connection may send nothing after a byte, in seconds.
+/// The longest silence of a connection after a byte, in seconds.
 const MOST_WAIT: u64 = 10;
 
-/// How long a request may take to come, in seconds.
+/// The longest time in which a request arrives, in seconds.
 const MOST_REQUEST: u64 = 30;
 
-/// How long the peer may take to close after its answer, in seconds.
+/// The longest time in which the peer closes after its answer, in seconds.
 const MOST_CLOSE: u64 = 2;
 
 /// The most bytes that are held of a request: a head has at most 16,384, and a body at most 65,536.

@@ -3,11 +3,11 @@
 
 mod connections;
 mod held;
-mod law;
+mod laws;
 mod paced;
 mod server;
 mod zone;
 
-pub use law::served_law;
+pub use laws::served_law;
 pub use server::{ServerFault, Setting, listen, serve};
 pub use zone::{Zone, moment_now, moment_of};

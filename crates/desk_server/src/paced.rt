@@ -6,10 +6,10 @@ use std::io::{ErrorKind, Write};
 use std::net::TcpStream;
 use std::time::{Clock, Duration};
 
-/// How long a write may wait, in seconds.
+/// The longest wait of a write, in seconds.
 const MOST_WAIT: u64 = 10;
 
-/// How long any answer may take from its first byte on, in seconds.
+/// The longest time of an answer from its first byte on, in seconds.
 const MOST_ANSWER: u64 = 30;
 
 /// The rate at which an answer that takes longer has to be read, in bytes a second.
@@ -57,7 +57,7 @@ impl<'a, C: Clock> Paced<'a, C> {
         Ok(now)
     }
 
-    /// How long the next write may wait.
+    /// Returns the longest wait of the next write.
     ///
     /// Returns an error if no time is left, or the clock can't be read.
     fn wait(&mut self) -> io::Result<Duration> {

@@ -1,5 +1,5 @@
 -- What is sent once the station was asked.
-use Rattle.std.proofs.Common.{◌≡◌, sym, ap, subst, refl, inl, inr, ⊎_elim, Bool, Option, Err}
+use Rattle.std.proofs.Common.{◌≡◌, sym, ap, subst, refl, inl, inr, ⊎_elim, ℕ, Bool, List, Option, Err}
 use Rattle.station_days.specs.Date.{LocalMinute}
 use Rattle.shipment_machine.specs.declared.plans.Refusal.{Refusal}
 use Rattle.station_core.specs.declared.answer.ActFault.{ActFault}
@@ -8,13 +8,14 @@ use Rattle.station_core.specs.declared.answer.Answer.TheVariants as answer
 use Rattle.station_core.specs.declared.input.Input.{Input}
 use Rattle.station_core.specs.Keeping.{Answers, MayLeave, IsMemoryOrStore, IsBrokenAfter}
 use Rattle.station_core.specs.Step.{State, step}
+use Rattle.station_core.specs.declared.rows.Waybill.{Waybill}
 use Rattle.http_desk.specs.declared.asking.Told.{Told}
 use Rattle.http_desk.specs.declared.asking.Told.TheVariants as told
 use Rattle.http_desk.specs.declared.wanted.Wanted.{Wanted}
 use Rattle.http_desk.specs.declared.wanted.Wanted.TheVariants as wanted
-use Rattle.http_desk.specs.Reply.{Reply, answer_reply, refusal_reply}
+use Rattle.http_desk.specs.Reply.{Reply, answer_reply, refusal_reply, IsHistory}
 use Rattle.http_desk.specs.StationAfter.{StationAfter, station_at, WorksAt}
-use Rattle.http_desk.specs.Told.{IsToldAs, HasAsked, HasAskedShut, IsUnavailable}
+use Rattle.http_desk.specs.Told.{IsHistoryTold, IsToldAs, HasAsked, HasAskedShut, IsUnavailable, TellsHistory}
 use Rattle.http_desk.specs.Wanted.{wanted_reply, wanted_state}
 use Rattle.station_core.proofs.Refusals.{refused_stays}
 
@@ -22,7 +23,7 @@ use Rattle.station_core.proofs.Refusals.{refused_stays}
 pub asked_json : (s : State) (at : LocalMinute) (w : Wanted) (t : Told) (left : StationAfter)
     → IsToldAs (wanted_reply s at w) t → wanted_state s at w ≡ s → WorksAt left s → HasAsked s at w t left
 asked_json s at w (told.Accepted count) left is same kept = (is, subst (WorksAt left) (sym same) kept)
-asked_json s at w (told.Json status text) left is same kept = (is.0, is.1 s, same, kept)
+asked_json s at w (told.Whole status out) left is same kept = (is.0, is.1 s, same, kept)
 asked_json s at w (told.Report name) left is same kept = absurd is
 asked_json s at w (told.Unavailable reopen) left is same kept = inl kept
 
@@ -50,5 +51,12 @@ shut_json at w t is same = λ s. asked_json s at w t (station_at s) (is s) (same
 pub shut_unavailable : (at : LocalMinute) (w : Wanted) (t : Told) → IsUnavailable t → HasAskedShut at w t
 shut_unavailable at w (told.Unavailable reopen) is = λ s. inl (refl, refl)
 shut_unavailable at w (told.Accepted count) is = absurd is
-shut_unavailable at w (told.Json status text) is = absurd is
+shut_unavailable at w (told.Whole status out) is = absurd is
 shut_unavailable at w (told.Report name) is = absurd is
+
+-- the history of a waybill with this record
+pub told_history : (s : State) (w : ℕ) (known : Waybill) (text : List ℕ) (t : Told) → IsHistory s w known text → IsHistoryTold text t → TellsHistory s w known t
+told_history s w known text (told.Whole status bytes) is tells = (tells.0, (text, is, tells.1))
+told_history s w known text (told.Unavailable reopen) is tells = tells
+told_history s w known text (told.Accepted count) is tells = absurd tells
+told_history s w known text (told.Report name) is tells = absurd tells

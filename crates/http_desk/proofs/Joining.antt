@@ -1,5 +1,5 @@
 -- What is sent for a request, once it went out, is its answer.
-use Rattle.std.proofs.Common.{◌≡◌, ◌∙◌, ap, sym, subst, refl, inl, inr, ⊎_elim, ℕ, Bool, Option, None, Result, Ok, Err, List, [], ◌∷◌, ◌++◌, length, take, drop, string_bytes}
+use Rattle.std.proofs.Common.{◌≡◌, ◌∙◌, ap, sym, subst, refl, inl, inr, ⊎_elim, ℕ, Bool, Option, None, Result, Ok, Err, List, [], ◌∷◌, ◌++◌, length, take, drop}
 use Rattle.std.specs.Prelude.{IfOk}
 use Rattle.station_days.specs.Date.{LocalMinute}
 use Rattle.station_core.specs.Given.{Given}
@@ -76,7 +76,7 @@ module _ (s : State) (at : LocalMinute) (bytes : List ℕ) (old new : Given) (wa
 
   written : (t : Told) (r : Result Served ServeFault) → IsToldFor bytes s at t was → HasWritten t s old new r → Out r
   written (told.Accepted count) r (after, answers, kept) h = sent 200 _ (ok_answer count) r (inl (after, answers, kept_on after kept)) h
-  written (told.Json status text) r (answers, kept) h = sent status _ (string_bytes text) r (inl (s, answers, kept_on s kept)) h
+  written (told.Whole status out) r (answers, kept) h = sent status _ out.items r (inl (s, answers, kept_on s kept)) h
   written (told.Report name) r is h = reported name r is h
   written (told.Unavailable reopen) r states h = sent 503 reopen unavailable r (no_answer (told_on states)) h
 
@@ -93,7 +93,7 @@ module _ (s : State) (at : LocalMinute) (bytes : List ℕ) (old new : Given) (wa
   -- the same on a station that has to be opened again
   written_shut : (t : Told) (r : Result Served ServeFault) → IsToldFor bytes s at t was → HasWrittenShut t old new r → Out r
   written_shut (told.Accepted count) r (after, answers, kept) h = sent 200 _ (ok_answer count) r (inl (after, answers, kept_on after kept)) h
-  written_shut (told.Json status text) r (answers, kept) h = sent status _ (string_bytes text) r (inl (s, answers, kept_on s kept)) h
+  written_shut (told.Whole status out) r (answers, kept) h = sent status _ out.items r (inl (s, answers, kept_on s kept)) h
   written_shut (told.Report name) r (gets, whole, kept) (reopen, h) = sent 503 reopen unavailable r (no_answer (inl (kept_on s kept))) h
   written_shut (told.Unavailable reopen) r states h = sent 503 reopen unavailable r (no_answer (told_on states)) h
 
@@ -111,14 +111,14 @@ module _ (s : State) (at : LocalMinute) (bytes : List ℕ) (old new : Given) (wa
   pub gave_up : (t : Told) (r : Result Served ServeFault) → IsToldFor bytes s at t was → HasWritten t s old new r → BeginsAs503 (added old new)
       → IsUnchangedOrBroken bytes s at left
   gave_up (told.Accepted count) r is h begins = absurd (no_accepted count _ r h begins)
-  gave_up (told.Json status text) r (answers, kept) h begins = inl (kept_on s kept)
+  gave_up (told.Whole status out) r (answers, kept) h begins = inl (kept_on s kept)
   gave_up (told.Report name) r (gets, whole, kept) h begins = inl (kept_on s kept)
   gave_up (told.Unavailable reopen) r states h begins = told_on states
 
 -- whether it is asked to open the station again
 pub reopen_told : (t : Told) (s : State) (old new : Given) (r : Result Served ServeFault) → HasWritten t s old new r → IfOk r (λ v. v.reopen ≡ tells_reopen t)
 reopen_told (told.Accepted count) s old new (Ok v) (is, e) = ap (λ (v : Served). v.reopen) is
-reopen_told (told.Json status text) s old new (Ok v) (is, e) = ap (λ (v : Served). v.reopen) is
+reopen_told (told.Whole status out) s old new (Ok v) (is, e) = ap (λ (v : Served). v.reopen) is
 reopen_told (told.Report name) s old new (Ok v) h = ⊎_elim (λ whole. ap (λ (v : Served). v.reopen) whole.0) (λ rest. ⊎_elim (λ part. ap (λ (v : Served). v.reopen) part.0) (λ none. ap (λ (v : Served). v.reopen) none.0) rest) h
 reopen_told (told.Unavailable reopen) s old new (Ok v) (is, e) = ap (λ (v : Served). v.reopen) is
 reopen_told t s old new (Err e) h = tt
@@ -136,8 +136,8 @@ module _ (bytes : List ℕ) (s : State) (at : LocalMinute) where
   pub told_bytes : (w : Wanted) (t : Told) (left : StationAfter) → Wants bytes w → HasAsked s at w t left → IsToldFor bytes s at t left
   told_bytes w (told.Accepted count) left wants (is, kept) =
       (wanted_state s at w, wants.answered s at 200 (ok_answer count) (wanted_state s at w) (accepted_is (wanted_reply s at w) (wanted_state s at w) count is), kept)
-  told_bytes w (told.Json status text) left wants (is, written, same, kept) =
-      (wants.answered s at status (string_bytes text) s (record { status_is = is; written = written; state = sym same }), kept)
+  told_bytes w (told.Whole status out) left wants (is, written, same, kept) =
+      (wants.answered s at status out.items s (record { status_is = is; written = written; state = sym same }), kept)
   told_bytes w (told.Report name) left wants (is, kept) = (
     wants.report name is,
     λ text are.

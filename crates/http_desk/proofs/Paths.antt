@@ -12,9 +12,9 @@ use Rattle.desk_commands.proofs.Words.{called_again, called_is, of_every}
 use Rattle.http_desk.specs.declared.printout.Printout.{Printout}
 use Rattle.http_desk.specs.Paths.{is_path_byte, IsPath, IsName, IsPage, LeadsToPage, LeadsTo, segments}
 use Rattle.http_desk.specs.Printouts.{printout_at}
-use Rattle.http_desk.specs.Routes.{posted_command, posted_check, posted_telegram, posted_look, got_waybill, got_holder, got_report, Place, posts, gets, page_at, page_named, page_word, path_of, asked_place, place_of}
+use Rattle.http_desk.specs.Routes.{posted_command, posted_check, posted_telegram, posted_look, got_waybill, got_history, got_holder, got_report, Place, posts, gets, page_at, page_named, page_part, page_word, path_of, asked_place, place_of}
 use Rattle.http_desk.specs.Segments.{has_slash, path_text}
-use Rattle.http_desk.proofs.Segments.{at_two, found, IsFound}
+use Rattle.http_desk.proofs.Segments.{all_plain, at_three, at_two, found, IsFound}
 
 -- The page of a path.
 
@@ -27,16 +27,19 @@ word_plain v = not_is (has_slash (word v)) (of_every (λ v. not (has_slash (word
 
 pub page_there : (place : Place) → IsPage place → page_at (path_text (segments place)) ≡ Some place
 page_there (posts (posted_command v)) is =
-    at_two page_word page_named (λ _ _ _. None) (codes "act") (word v) refl (word_plain v) ∙ ap (option_map (λ verb. posts (posted_command verb))) (called_again v)
+    at_two page_word page_named page_part (codes "act") (word v) refl (word_plain v) ∙ ap (option_map (λ verb. posts (posted_command verb))) (called_again v)
 page_there (posts (posted_check v)) is =
-    at_two page_word page_named (λ _ _ _. None) (codes "check") (word v) refl (word_plain v) ∙ ap (option_map (λ verb. posts (posted_check verb))) (called_again v)
+    at_two page_word page_named page_part (codes "check") (word v) refl (word_plain v) ∙ ap (option_map (λ verb. posts (posted_check verb))) (called_again v)
 page_there (posts posted_telegram) is = refl
 page_there (posts posted_look) is = refl
 page_there (gets (got_waybill name)) (some, plain) =
-    at_two page_word page_named (λ _ _ _. None) (codes "waybills") name refl plain
+    at_two page_word page_named page_part (codes "waybills") name refl plain
     ∙ ap (λ (v : Bool). if v then Some (gets (got_waybill name)) else None) (lt-ltb 0 (length name) some)
+page_there (gets (got_history name)) (some, plain) =
+    at_three page_word page_named page_part (codes "waybills") name (codes "history") refl (all_plain name plain)
+    ∙ ap (λ (v : Bool). if v then Some (gets (got_history name)) else None) (lt-ltb 0 (length name) some)
 page_there (gets (got_holder name)) (some, plain) =
-    at_two page_word page_named (λ _ _ _. None) (codes "stock") name refl plain
+    at_two page_word page_named page_part (codes "stock") name refl plain
     ∙ ap (λ (v : Bool). if v then Some (gets (got_holder name)) else None) (lt-ltb 0 (length name) some)
 page_there (gets (got_report p)) is = absurd is
 
@@ -86,12 +89,24 @@ named_only a b place plain =
     (either place Goal (bytes_eq a (codes "stock") && nat_lt 0 (length b)) _ None (name (codes "stock") (λ n. gets (got_holder n)) (λ is. is) refl)
     (λ e. absurd (no_some place e)))))
 
+part_only : (a b c : List ℕ) (place : Place) → has_slash b ≡ false → page_part a b c ≡ Some place → LeadsToPage (path_text (a ∷ b ∷ c ∷ [])) place
+part_only a b c place plain =
+    let Goal : Type 0 = LeadsToPage (path_text (a ∷ b ∷ c ∷ [])) place in
+    either place Goal (bytes_eq a (codes "waybills") && (bytes_eq c (codes "history") && nat_lt 0 (length b))) (Some (gets (got_history b))) None
+    (λ tests e.
+    let kind = and_parts (bytes_eq a (codes "waybills")) (bytes_eq c (codes "history") && nat_lt 0 (length b)) tests in
+    let part = and_parts (bytes_eq c (codes "history")) (nat_lt 0 (length b)) kind.1 in
+    subst (LeadsToPage (path_text (a ∷ b ∷ c ∷ []))) (some_is (gets (got_history b)) place e)
+    ((ltb-true 0 (length b) part.1, plain), ap (λ (t : List ℕ). path_text (t ∷ b ∷ c ∷ [])) (bytes_eq-true a (codes "waybills") kind.0) ∙ ap (λ (t : List ℕ). path_text (codes "waybills" ∷ b ∷ t ∷ [])) (bytes_eq-true c (codes "history") part.0)))
+    (λ e. absurd (no_some place e))
+
 only_there : (path : List ℕ) (place : Place) → page_at path ≡ Some place → LeadsToPage path place
-only_there path place e = of (found page_word page_named path place e)
+only_there path place e = of (found page_word page_named page_part path place e)
   where
-    of : IsFound page_word page_named path place → LeadsToPage path place
+    of : IsFound page_word page_named page_part path place → LeadsToPage path place
     of (inl (a, is, at)) = subst (λ (p : List ℕ). LeadsToPage p place) (sym is) (word_only a place at)
-    of (inr (a, b, is, plain, at)) = subst (λ (p : List ℕ). LeadsToPage p place) (sym is) (named_only a b place plain at)
+    of (inr (inl (a, b, is, plain, at))) = subst (λ (p : List ℕ). LeadsToPage p place) (sym is) (named_only a b place plain at)
+    of (inr (inr (a, b, c, is, plain, at))) = subst (λ (p : List ℕ). LeadsToPage p place) (sym is) (part_only a b c place plain at)
 
 -- A query after a question mark isn't part of the path.
 

@@ -33,7 +33,7 @@ use Rattle.http_desk.specs.Digits.{is_number, number_told}
 use Rattle.http_desk.specs.Keys.{is_unescaped, key_segment}
 use Rattle.http_desk.specs.Paths.{HasPath, IsListed, IsPage, IsPathOf, is_path_byte, listing_path, rows_path, rows_segments, segments}
 use Rattle.http_desk.specs.Printouts.{in_form, is_json, flight_on, numbered_rows, row_number, rows_at, rows_named, rows_part, rows_word, waybill_rows}
-use Rattle.http_desk.specs.Routes.{Place, Posted, posts, gets, posted_command, posted_check, posted_telegram, posted_look, got_holder, got_report, got_waybill, page_at, page_named, page_word, asked_place}
+use Rattle.http_desk.specs.Routes.{Place, Posted, posts, gets, posted_command, posted_check, posted_telegram, posted_look, got_history, got_holder, got_report, got_waybill, page_at, page_named, page_part, page_word, asked_place}
 use Rattle.http_desk.specs.Segments.{is_slash, joined, path_text}
 use Rattle.http_desk.proofs.KeyPrinted.{key_again, segment_all, segment_few}
 use Rattle.http_desk.proofs.Paths.{page_there, place_is}
@@ -162,6 +162,10 @@ pub waybill_path : (w : ℕ) → HasPath (gets (got_waybill (number_text w)))
 waybill_path w =
     page_path (gets (got_waybill (number_text w))) (and_from _ _ (number_good w) refl) (omega arith) (number_some w, no_slash (number_text w) (plain (number_text w) (number_good w)))
 
+pub history_path : (w : ℕ) → HasPath (gets (got_history (number_text w)))
+history_path w =
+    page_path (gets (got_history (number_text w))) (and_from _ _ refl (and_from _ _ (number_good w) refl)) (omega arith) (number_some w, no_slash (number_text w) (plain (number_text w) (number_good w)))
+
 pub holder_path : (w : ℕ) → HasPath (gets (got_holder (number_text w)))
 holder_path w =
     page_path (gets (got_holder (number_text w))) (and_from _ _ (number_good w) refl) (omega arith) (number_some w, no_slash (number_text w) (plain (number_text w) (number_good w)))
@@ -236,8 +240,8 @@ record ArePrinted (l : Listing) : Type 0 where
   page : page_at (listing_path l) ≡ None
   json_page : page_at (listing_path l ++ codes ".json") ≡ None
 
-three : (a b c : List ℕ) (l : Listing) → rows_segments l ≡ a ∷ b ∷ c ∷ [] → is_segment a ≡ true → is_segment b ≡ true → is_segment c ≡ true → rows_part a b c ≡ Some l → ArePrinted l
-three a b c l is first second third rows =
+three : (a b c : List ℕ) (l : Listing) → rows_segments l ≡ a ∷ b ∷ c ∷ [] → is_segment a ≡ true → is_segment b ≡ true → is_segment c ≡ true → rows_part a b c ≡ Some l → page_part a b c ≡ None → page_part a b (c ++ codes ".json") ≡ None → ArePrinted l
+three a b c l is first second third rows page json_page =
     let at = plain a first in
     let mid = plain b second in
     let all : list_all is_segment (a ∷ b ∷ c ∷ []) ≡ true = and_from _ _ first (and_from _ _ second (and_from _ _ third refl)) in
@@ -247,20 +251,34 @@ three a b c l is first second third rows =
       good = ap (λ s. list_all is_path_good (path_text s)) is ∙ joined_good (a ∷ b ∷ c ∷ []) all;
       few = omega (arith, ap (λ s. length (path_text s)) is, joined_len (a ∷ b ∷ c ∷ []) all);
       rows = ap (λ s. rows_at (path_text s)) is ∙ at_three rows_word rows_named rows_part a b c at mid ∙ rows;
-      page = ap (λ s. page_at (path_text s)) is ∙ at_three page_word page_named (λ _ _ _. None) a b c at mid;
+      page = ap (λ s. page_at (path_text s)) is ∙ at_three page_word page_named page_part a b c at mid ∙ page;
       json_page = ap (λ s. page_at (path_text s ++ codes ".json")) is
           ∙ ap (λ (t : List ℕ). page_at (codes "/v1/" ++ t)) back
-          ∙ at_three page_word page_named (λ _ _ _. None) a b (c ++ codes ".json") at mid;
+          ∙ at_three page_word page_named page_part a b (c ++ codes ".json") at mid ∙ json_page;
     }
 
-numbered : (a b : List ℕ) (l : Listing) (n : ℕ) → n < 2 ^ 32 → rows_segments l ≡ a ∷ b ∷ decimal n ∷ [] → is_segment a ≡ true → is_segment b ≡ true
-    → rows_part a b (decimal n) ≡ option_and_then (numbered_rows a b) (row_number (decimal n)) → numbered_rows a b n ≡ Some l → ArePrinted l
-numbered a b l n lt is first second part rows =
-    three a b (decimal n) l is first second (row_good n lt) (part ∙ ap (option_and_then (numbered_rows a b)) (row_again n lt) ∙ rows)
+-- what isn't the page of a history
+not_waybills : (a b c : List ℕ) → bytes_eq a (codes "waybills") ≡ false → page_part a b c ≡ None
+not_waybills a b c other =
+    ap (λ (v : Bool). if v && (bytes_eq c (codes "history") && nat_lt 0 (length b)) then Some (gets (got_history b)) else None) other
 
-of_waybill : (part : List ℕ) (l : Listing) (w : ℕ) → IsNumber w → rows_segments l ≡ codes "waybills" ∷ number_text w ∷ part ∷ [] → is_segment part ≡ true → waybill_rows part w ≡ Some l → ArePrinted l
-of_waybill part l w range is third rows =
+not_history : (b c : List ℕ) → bytes_eq c (codes "history") ≡ false → page_part (codes "waybills") b c ≡ None
+not_history b c other = ap (λ (v : Bool). if v && nat_lt 0 (length b) then Some (gets (got_history b)) else None) other
+
+other_kind : (a b c : List ℕ) (l : Listing) → bytes_eq a (codes "waybills") ≡ false → rows_segments l ≡ a ∷ b ∷ c ∷ [] → is_segment a ≡ true → is_segment b ≡ true → is_segment c ≡ true → rows_part a b c ≡ Some l → ArePrinted l
+other_kind a b c l other is first second third rows =
+    three a b c l is first second third rows (not_waybills a b c other) (not_waybills a b (c ++ codes ".json") other)
+
+numbered : (a b : List ℕ) (l : Listing) (n : ℕ) → n < 2 ^ 32 → bytes_eq a (codes "waybills") ≡ false → rows_segments l ≡ a ∷ b ∷ decimal n ∷ [] → is_segment a ≡ true → is_segment b ≡ true
+    → rows_part a b (decimal n) ≡ option_and_then (numbered_rows a b) (row_number (decimal n)) → numbered_rows a b n ≡ Some l → ArePrinted l
+numbered a b l n lt other is first second part rows =
+    other_kind a b (decimal n) l other is first second (row_good n lt) (part ∙ ap (option_and_then (numbered_rows a b)) (row_again n lt) ∙ rows)
+
+of_waybill : (part : List ℕ) (l : Listing) (w : ℕ) → IsNumber w → rows_segments l ≡ codes "waybills" ∷ number_text w ∷ part ∷ [] → is_segment part ≡ true → waybill_rows part w ≡ Some l
+    → bytes_eq part (codes "history") ≡ false → bytes_eq (part ++ codes ".json") (codes "history") ≡ false → ArePrinted l
+of_waybill part l w range is third rows other json =
     three (codes "waybills") (number_text w) part l is refl (number_good w) third (ap (λ r. option_and_then (waybill_rows part) (result_ok r)) (number_again w range) ∙ rows)
+    (not_history (number_text w) part other) (not_history (number_text w) (part ++ codes ".json") json)
 
 -- the segment of a key
 
@@ -280,8 +298,8 @@ kept key is =
       good = all_weaker is_segment_byte is_path_good (λ b h. (and_parts (is_path_good b) (not (is_slash b)) h).0) name bytes;
       few = omega (arith, segment_few key is);
       rows = at_two rows_word rows_named rows_part (codes "keys") name refl (no_slash name plain_bytes) ∙ ap (option_map listing.Kept) (key_again key is);
-      page = at_two page_word page_named (λ _ _ _. None) (codes "keys") name refl (no_slash name plain_bytes);
-      json_page = at_two page_word page_named (λ _ _ _. None) (codes "keys") (name ++ codes ".json") refl (no_slash (name ++ codes ".json") plain_json);
+      page = at_two page_word page_named page_part (codes "keys") name refl (no_slash name plain_bytes);
+      json_page = at_two page_word page_named page_part (codes "keys") (name ++ codes ".json") refl (no_slash (name ++ codes ".json") plain_json);
     }
 
 printed : (l : Listing) → IsListed l → ArePrinted l
@@ -301,19 +319,19 @@ printed (listing.All report.Station) is = record { good = refl; few = omega arit
 printed listing.OpenFlights is = record { good = refl; few = omega arith; rows = refl; page = refl; json_page = refl }
 printed listing.OpenExpected is = record { good = refl; few = omega arith; rows = refl; page = refl; json_page = refl }
 printed (listing.AgentStock code) is =
-    three (codes "agents") code (codes "stock") (listing.AgentStock code) refl refl (agent_good code is) refl (ap (λ (t : Bool). option_map listing.AgentStock (where_true t code)) is)
-printed (listing.Movements w) is = of_waybill (codes "movements") (listing.Movements w) w is refl refl refl
-printed (listing.Sent w) is = of_waybill (codes "sent") (listing.Sent w) w is refl refl refl
-printed (listing.Trail w) is = of_waybill (codes "trail") (listing.Trail w) w is refl refl refl
-printed (listing.MovementsAfter n) is = numbered (codes "movements") (codes "after") (listing.MovementsAfter n) n is refl refl refl refl refl
-printed (listing.MovementsLast n) is = numbered (codes "movements") (codes "last") (listing.MovementsLast n) n is refl refl refl refl refl
-printed (listing.TrailAfter n) is = numbered (codes "trail") (codes "after") (listing.TrailAfter n) n is refl refl refl refl refl
-printed (listing.TrailLast n) is = numbered (codes "trail") (codes "last") (listing.TrailLast n) n is refl refl refl refl refl
-printed (listing.PendingAfter n) is = numbered (codes "outbox") (codes "after") (listing.PendingAfter n) n is refl refl refl refl refl
-printed (listing.SentAfter n) is = numbered (codes "sent") (codes "after") (listing.SentAfter n) n is refl refl refl refl refl
+    other_kind (codes "agents") code (codes "stock") (listing.AgentStock code) refl refl refl (agent_good code is) refl (ap (λ (t : Bool). option_map listing.AgentStock (where_true t code)) is)
+printed (listing.Movements w) is = of_waybill (codes "movements") (listing.Movements w) w is refl refl refl refl refl
+printed (listing.Sent w) is = of_waybill (codes "sent") (listing.Sent w) w is refl refl refl refl refl
+printed (listing.Trail w) is = of_waybill (codes "trail") (listing.Trail w) w is refl refl refl refl refl
+printed (listing.MovementsAfter n) is = numbered (codes "movements") (codes "after") (listing.MovementsAfter n) n is refl refl refl refl refl refl
+printed (listing.MovementsLast n) is = numbered (codes "movements") (codes "last") (listing.MovementsLast n) n is refl refl refl refl refl refl
+printed (listing.TrailAfter n) is = numbered (codes "trail") (codes "after") (listing.TrailAfter n) n is refl refl refl refl refl refl
+printed (listing.TrailLast n) is = numbered (codes "trail") (codes "last") (listing.TrailLast n) n is refl refl refl refl refl refl
+printed (listing.PendingAfter n) is = numbered (codes "outbox") (codes "after") (listing.PendingAfter n) n is refl refl refl refl refl refl
+printed (listing.SentAfter n) is = numbered (codes "sent") (codes "after") (listing.SentAfter n) n is refl refl refl refl refl refl
 printed (listing.Kept key) is = kept key is
 printed (listing.Manifest f) (range, day) =
-    three (codes "flights") (flight_text f.flight) (day_line f.day) (listing.Manifest f) refl refl (flight_good f.flight range) (day_good f.day)
+    other_kind (codes "flights") (flight_text f.flight) (day_line f.day) (listing.Manifest f) refl refl refl (flight_good f.flight range) (day_good f.day)
     (ap (λ (o : Option Designator). option_map listing.Manifest (option_and_then (flight_on (day_line f.day)) o)) (flight_again f.flight range)
     ∙ ap (λ (o : Option ℕ). option_map listing.Manifest (option_map (λ (d : ℕ). record { flight = f.flight; day = d }) o)) day)
 

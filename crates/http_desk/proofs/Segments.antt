@@ -131,42 +131,74 @@ cut (b ∷ bs) e = by (is_slash b) refl e (cut bs)
         let n = position_or_len is_slash bs in
         rw here (ap (λ l. b ∷ l) (next more) ∙ ap (λ (k : ℕ). (b ∷ take n bs) ++ 47 ∷ drop k (b ∷ bs)) (one_more n))
 
+front_plain : (text : List ℕ) → list_all is_plain (before_first is_slash text) ≡ true
+front_plain [] = refl
+front_plain (b ∷ bs) = by (is_slash b) refl (front_plain bs)
+  where
+    by : (v : Bool) → is_slash b ≡ v → list_all is_plain (before_first is_slash bs) ≡ true → list_all is_plain (before_first is_slash (b ∷ bs)) ≡ true
+    by true is next = rw is refl
+    by false is next =
+        let here : position_or_len is_slash (b ∷ bs) ≡ suc (position_or_len is_slash bs) =
+        ap (λ (t : Bool). cond (not t) (1 + position_or_len is_slash bs) 0) is ∙ suc_is (position_or_len is_slash bs) (position_or_len is_slash bs) refl in
+        rw here (and_from (is_plain b) (list_all is_plain (before_first is_slash bs)) (ap not is) next)
+
+some_below : (n : ℕ) → nat_lt 0 (suc n) ≡ true
+some_below n = grind (arith, nat_tests)
+
+lower_false : (n m : ℕ) → nat_lt (1 + n) (suc m) ≡ false → nat_lt n m ≡ false
+lower_false n m h = grind (arith, nat_tests, h)
+
+pub all_plain : (text : List ℕ) → has_slash text ≡ false → list_all is_plain text ≡ true
+all_plain [] none = refl
+all_plain (b ∷ bs) none = by (is_slash b) refl (all_plain bs)
+  where
+    by : (v : Bool) → is_slash b ≡ v → (has_slash bs ≡ false → list_all is_plain bs ≡ true) → list_all is_plain (b ∷ bs) ≡ true
+    by true is rest =
+        let wrong : true ≡ false = sym (some_below (length bs)) ∙ sym (ap (λ (t : Bool). nat_lt (cond (not t) (1 + position_or_len is_slash bs) 0) (suc (length bs))) is) ∙ none in
+        cc wrong
+    by false is rest =
+        let here : has_slash (b ∷ bs) ≡ nat_lt (1 + position_or_len is_slash bs) (suc (length bs)) =
+        ap (λ (t : Bool). nat_lt (cond (not t) (1 + position_or_len is_slash bs) 0) (suc (length bs))) is in
+        and_from (is_plain b) (list_all is_plain bs) (ap not is) (rest (lower_false (position_or_len is_slash bs) (length bs) (sym here ∙ none)))
+
 front_is : (path : List ℕ) → bytes_eq (take 4 path) (codes "/v1/") ≡ true → path ≡ codes "/v1/" ++ drop 4 path
 front_is path e = sym (take-append-drop 4 path) ∙ ap (λ (l : List ℕ). l ++ drop 4 path) (bytes_eq-true (take 4 path) (codes "/v1/") e)
 
 module _ {A : Type 0} where
   -- a text is one part, or two
   abbrev Is : (List ℕ → Option A) → (List ℕ → List ℕ → Option A) → List ℕ → A → Type 0
-  Is one two text x = ((has_slash text ≡ false) × (one text ≡ Some x)) ⊎ ((a : List ℕ) × (b : List ℕ) × (text ≡ a ++ 47 ∷ b) × (two a b ≡ Some x))
+  Is one two text x = ((has_slash text ≡ false) × (one text ≡ Some x)) ⊎ ((a : List ℕ) × (b : List ℕ) × (text ≡ a ++ 47 ∷ b) × (list_all is_plain a ≡ true) × (two a b ≡ Some x))
 
   parts : (one : List ℕ → Option A) (two : List ℕ → List ℕ → Option A) (text : List ℕ) (x : A) → by_slash one two text ≡ Some x → Is one two text x
   parts one two text x e = by (has_slash text) refl e
     where
       by : (v : Bool) → has_slash text ≡ v → (if v then two (before_first is_slash text) (after_first is_slash text) else one text) ≡ Some x → Is one two text x
-      by true is e = inr (before_first is_slash text, after_first is_slash text, cut text is, e)
+      by true is e = inr (before_first is_slash text, after_first is_slash text, cut text is, front_plain text, e)
       by false is e = inl (is, e)
 
-  -- what is found at one or two segments
-  abbrev pub IsFound : (List ℕ → Option A) → (List ℕ → List ℕ → Option A) → List ℕ → A → Type 0
-  IsFound one two path x =
+  -- what is found at one, two or three segments
+  abbrev pub IsFound : (List ℕ → Option A) → (List ℕ → List ℕ → Option A) → (List ℕ → List ℕ → List ℕ → Option A) → List ℕ → A → Type 0
+  IsFound one two three path x =
       ((a : List ℕ) × (path ≡ path_text (a ∷ [])) × (one a ≡ Some x))
-      ⊎ ((a : List ℕ) × (b : List ℕ) × (path ≡ path_text (a ∷ b ∷ [])) × (has_slash b ≡ false) × (two a b ≡ Some x))
+      ⊎ (((a : List ℕ) × (b : List ℕ) × (path ≡ path_text (a ∷ b ∷ [])) × (has_slash b ≡ false) × (two a b ≡ Some x))
+      ⊎ ((a : List ℕ) × (b : List ℕ) × (c : List ℕ) × (path ≡ path_text (a ∷ b ∷ c ∷ [])) × (has_slash b ≡ false) × (three a b c ≡ Some x)))
 
   no_some : (x : A) → ◌≡◌ {A = Option A} None (Some x) → ⊥
   no_some x e = cc e
 
-  pub found : (one : List ℕ → Option A) (two : List ℕ → List ℕ → Option A) (path : List ℕ) (x : A) → by_segments one two (λ _ _ _. None) path ≡ Some x → IsFound one two path x
-  found one two path x e = by (bytes_eq (take 4 path) (codes "/v1/")) refl e
-    where
-      later : (a b : List ℕ) → path ≡ codes "/v1/" ++ (a ++ 47 ∷ b) → Is (two a) (λ _ _. None) b x → IsFound one two path x
-      later a b is (inl (none, e)) = inr (a, b, is, none, e)
-      later a b is (inr (c, d, _, e)) = absurd (no_some x e)
+  module _ (one : List ℕ → Option A) (two : List ℕ → List ℕ → Option A) (three : List ℕ → List ℕ → List ℕ → Option A) (path : List ℕ) (x : A) where
+    later : (a b : List ℕ) → path ≡ codes "/v1/" ++ (a ++ 47 ∷ b) → Is (two a) (three a) b x → IsFound one two three path x
+    later a b is (inl (none, e)) = inr (inl (a, b, is, none, e))
+    later a b is (inr (c, d, at, plain, e)) = inr (inr (a, c, d, is ∙ ap (λ (l : List ℕ). codes "/v1/" ++ (a ++ 47 ∷ l)) at, no_slash c plain, e))
 
-      first : path ≡ codes "/v1/" ++ drop 4 path → Is one (λ first more. by_slash (two first) (λ _ _. None) more) (drop 4 path) x → IsFound one two path x
-      first is (inl (none, e)) = inl (drop 4 path, is, e)
-      first is (inr (a, b, at, e)) = later a b (is ∙ ap (λ (l : List ℕ). codes "/v1/" ++ l) at) (parts (two a) (λ _ _. None) b x e)
+    first : path ≡ codes "/v1/" ++ drop 4 path → Is one (λ first more. by_slash (two first) (three first) more) (drop 4 path) x → IsFound one two three path x
+    first is (inl (none, e)) = inl (drop 4 path, is, e)
+    first is (inr (a, b, at, plain, e)) = later a b (is ∙ ap (λ (l : List ℕ). codes "/v1/" ++ l) at) (parts (two a) (three a) b x e)
 
-      by : (v : Bool) → bytes_eq (take 4 path) (codes "/v1/") ≡ v
-          → (if v then by_slash one (λ first more. by_slash (two first) (λ _ _. None) more) (drop 4 path) else None) ≡ Some x → IsFound one two path x
-      by true is e = first (front_is path is) (parts one (λ first more. by_slash (two first) (λ _ _. None) more) (drop 4 path) x e)
-      by false is e = absurd (no_some x e)
+    pub found : by_segments one two three path ≡ Some x → IsFound one two three path x
+    found e = by (bytes_eq (take 4 path) (codes "/v1/")) refl e
+      where
+        by : (v : Bool) → bytes_eq (take 4 path) (codes "/v1/") ≡ v
+            → (if v then by_slash one (λ first more. by_slash (two first) (three first) more) (drop 4 path) else None) ≡ Some x → IsFound one two three path x
+        by true is e = first (front_is path is) (parts one (λ first more. by_slash (two first) (three first) more) (drop 4 path) x e)
+        by false is e = absurd (no_some x e)

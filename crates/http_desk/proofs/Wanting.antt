@@ -11,11 +11,11 @@ use Rattle.http_desk.specs.declared.printout.Printout.{Printout}
 use Rattle.http_desk.specs.declared.wanted.Wanted.{Wanted}
 use Rattle.http_desk.specs.declared.wanted.Wanted.TheVariants as wanted
 use Rattle.http_desk.specs.Fields.{meant}
-use Rattle.http_desk.specs.Routes.{Place, got_waybill, got_holder, got_report}
+use Rattle.http_desk.specs.Routes.{Place, got_waybill, got_history, got_holder, got_report}
 use Rattle.http_desk.specs.declared.head.Asks.{Asks}
 use Rattle.http_desk.specs.HeadTold.{asks_meant}
 use Rattle.http_desk.specs.Request.{Head, HeadAsks, refuses, looks_up, fault, is_foreign, own_asks, place_asks, head_asks}
-use Rattle.http_desk.specs.Reply.{Reply, numbered, unknown, fault_reply, waybill_reply, holder_reply}
+use Rattle.http_desk.specs.Reply.{Reply, numbered, unknown, fault_reply, waybill_reply, history_of, holder_reply}
 use Rattle.http_desk.specs.Answer.{Replied, IsAnsweredAs}
 use Rattle.http_desk.specs.declared.wanted.HeadWants.{HeadWants}
 use Rattle.http_desk.specs.declared.wanted.HeadWants.TheVariants as wants
@@ -51,6 +51,13 @@ waybill_wanted name w e = record {
   input = λ i is. cc is;
 }
 
+pub history_wanted : (name : List ℕ) (w : ℕ) → ◌≡◌ {A = Option ℕ} (Some w) (result_ok (number_of name)) → WantsNow (looks_up (got_history name)) (wanted.History w)
+history_wanted name w e = record {
+  answered = λ head rest s at status out after r. subst (λ reply. Replied s reply s status out after) (number_read (λ v. history_of v (waybill_of s.cargo v)) (number_of name) w e) r;
+  report = λ report is. cc is;
+  input = λ i is. cc is;
+}
+
 pub holder_wanted : (name : List ℕ) (w : ℕ) → ◌≡◌ {A = Option ℕ} (Some w) (result_ok (number_of name)) → WantsNow (looks_up (got_holder name)) (wanted.Holder w)
 holder_wanted name w e = record {
   answered = λ head rest s at status out after r. subst (λ reply. Replied s reply s status out after) (number_read (λ v. holder_reply v (s.cargo.holders v)) (number_of name) w e) r;
@@ -62,6 +69,14 @@ pub no_waybill : (name : List ℕ) (f : FaultTold) → meant f ≡ fault 404 [] 
 no_waybill name f is e = record {
   answered = λ head rest s at status out after r.
       subst (λ reply. Replied s reply s status out after) (ap fault_reply is ∙ none_read (λ v. waybill_reply v (waybill_of s.cargo v)) (number_of name) e) r;
+  report = λ report is. cc is;
+  input = λ i is. cc is;
+}
+
+pub no_history : (name : List ℕ) (f : FaultTold) → meant f ≡ fault 404 [] → ◌≡◌ {A = Option ℕ} None (result_ok (number_of name)) → WantsNow (looks_up (got_history name)) (wanted.Fault f)
+no_history name f is e = record {
+  answered = λ head rest s at status out after r.
+      subst (λ reply. Replied s reply s status out after) (ap fault_reply is ∙ none_read (λ v. history_of v (waybill_of s.cargo v)) (number_of name) e) r;
   report = λ report is. cc is;
   input = λ i is. cc is;
 }

@@ -4,6 +4,7 @@ pub mod Keys
 pub mod Paths
 pub mod Request
 pub mod Reply
+pub mod History
 pub mod Answer
 pub mod Reading
 pub mod StationAfter

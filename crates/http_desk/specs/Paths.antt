@@ -18,7 +18,7 @@ use Rattle.reports.specs.declared.report.Report.TheVariants as report
 use Rattle.http_desk.specs.declared.printout.Printout.{Printout}
 use Rattle.http_desk.specs.Keys.{key_segment}
 use Rattle.http_desk.specs.Printouts.{printout_at}
-use Rattle.http_desk.specs.Routes.{posted_command, posted_check, posted_telegram, posted_look, got_waybill, got_holder, got_report, Place, posts, gets, place_of}
+use Rattle.http_desk.specs.Routes.{posted_command, posted_check, posted_telegram, posted_look, got_waybill, got_history, got_holder, got_report, Place, posts, gets, place_of}
 use Rattle.http_desk.specs.Segments.{has_slash, path_text}
 
 -- bytes without a question mark
@@ -28,7 +28,7 @@ is_path_byte b = nat_lt b 256 && not (b == 63)
 abbrev pub IsPath : List ℕ → Type 0
 IsPath path = list_all is_path_byte path ≡ true
 
--- a name at the end of a path: at least one byte, without a slash
+-- a name in a path: at least one byte, without a slash
 abbrev pub IsName : List ℕ → Type 0
 IsName name = (0 < length name) × (has_slash name ≡ false)
 
@@ -70,6 +70,7 @@ segments (posts (posted_check verb)) = codes "check" ∷ word verb ∷ []
 segments (posts posted_telegram) = codes "telegrams" ∷ []
 segments (posts posted_look) = codes "read" ∷ []
 segments (gets (got_waybill name)) = codes "waybills" ∷ name ∷ []
+segments (gets (got_history name)) = codes "waybills" ∷ name ∷ codes "history" ∷ []
 segments (gets (got_holder name)) = codes "stock" ∷ name ∷ []
 segments (gets (got_report p)) = rows_segments p.listing
 
@@ -84,10 +85,11 @@ abbrev pub rows_path : Listing → Form → List ℕ
 rows_path l form.Text = listing_path l
 rows_path l form.Json = listing_path l ++ codes ".json"
 
--- a page: what is posted, and a waybill or a number by its name
+-- a page: what is posted, a waybill or its history, and a number, each by its name
 abbrev pub IsPage : Place → Type 0
 IsPage (posts posted) = ⊤
 IsPage (gets (got_waybill name)) = IsName name
+IsPage (gets (got_history name)) = IsName name
 IsPage (gets (got_holder name)) = IsName name
 IsPage (gets (got_report p)) = ⊥
 

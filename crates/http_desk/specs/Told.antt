@@ -1,23 +1,38 @@
 -- Calls of the station, and the answers to write.
-use Rattle.std.specs.Prelude.{◌≡◌, ◌⊎◌, Bool, true, false, Option, Some, None, string_bytes}
+use Rattle.std.specs.Prelude.{◌≡◌, ◌⊎◌, ℕ, List, ◌++◌, length, Bool, true, false, Option, Some, None}
 use Rattle.station_days.specs.Date.{LocalMinute}
 use Rattle.station_core.specs.declared.input.Input.{Input}
 use Rattle.station_core.specs.Step.{State, step}
+use Rattle.station_core.specs.declared.rows.Waybill.{Waybill}
 use Rattle.http_desk.specs.declared.asking.Told.{Told}
 use Rattle.http_desk.specs.declared.asking.Told.TheVariants as told
 use Rattle.http_desk.specs.declared.wanted.Wanted.{Wanted}
 use Rattle.http_desk.specs.declared.wanted.Wanted.TheVariants as wanted
-use Rattle.http_desk.specs.Reply.{Reply, json_reply, ok_data, status_of, IsWritten}
+use Rattle.http_desk.specs.Reply.{Reply, json_reply, history_reply, history_head, ok_data, status_of, IsWritten}
 use Rattle.http_desk.specs.StationAfter.{StationAfter, station_at, WorksAt}
 use Rattle.http_desk.specs.Wanted.{wanted_reply, wanted_state}
 
--- the bytes of a JSON reply with its status, or memory ran out
+-- the bytes of a reply with its status, or memory ran out
 abbrev pub IsToldAs : Reply → Told → Type 0
 IsToldAs reply (told.Accepted count) = reply ≡ json_reply 200 None (ok_data count)
-IsToldAs reply (told.Json status text) =
-    (status ≡ status_of reply) × ((s : State) → IsWritten s reply (string_bytes text))
+IsToldAs reply (told.Whole status bytes) =
+    (status ≡ status_of reply) × ((s : State) → IsWritten s reply bytes.items)
 IsToldAs reply (told.Report name) = ⊥
 IsToldAs reply (told.Unavailable reopen) = reopen ≡ false
+
+-- the answer with this history, or memory ran out
+abbrev pub IsHistoryTold : List ℕ → Told → Type 0
+IsHistoryTold history (told.Whole status bytes) =
+    (status ≡ 200) × (bytes.items ≡ history_head (length history) ++ history)
+IsHistoryTold history (told.Unavailable reopen) = reopen ≡ false
+IsHistoryTold history _ = ⊥
+
+-- the answer with the history of a waybill with this record, or memory ran out or the store failed
+abbrev pub TellsHistory : State → ℕ → Waybill → Told → Type 0
+TellsHistory s w known (told.Whole status bytes) =
+    (status ≡ 200) × IsWritten s (history_reply w known) bytes.items
+TellsHistory s w known (told.Unavailable reopen) = reopen ≡ false
+TellsHistory s w known _ = ⊥
 
 -- The request is replied to, and the station works and keeps the state after it, which differs only
 -- if an input was accepted; a report is still to be read. Without a reply nothing has changed; or
@@ -25,9 +40,9 @@ IsToldAs reply (told.Unavailable reopen) = reopen ≡ false
 abbrev pub HasAsked : State → LocalMinute → Wanted → Told → StationAfter → Type 0
 HasAsked s at w (told.Accepted count) left =
     (wanted_reply s at w ≡ json_reply 200 None (ok_data count)) × WorksAt left (wanted_state s at w)
-HasAsked s at w (told.Json status text) left =
+HasAsked s at w (told.Whole status bytes) left =
     (status ≡ status_of (wanted_reply s at w))
-    × IsWritten s (wanted_reply s at w) (string_bytes text)
+    × IsWritten s (wanted_reply s at w) bytes.items
     × (wanted_state s at w ≡ s) × WorksAt left s
 HasAsked s at w (told.Report name) left = (w ≡ wanted.Report name) × WorksAt left s
 HasAsked s at w (told.Unavailable reopen) left =

@@ -14,7 +14,7 @@ use Rattle.http_desk.specs.declared.wanted.HeadWants.TheVariants as wants
 use Rattle.http_desk.specs.Fields.{meant}
 use Rattle.http_desk.specs.Routes.{Posted, posted_command, posted_check, posted_telegram, posted_look, got_report}
 use Rattle.http_desk.specs.Request.{Head, HeadAsks, BodyAsks, looks_up, sends, for_station, IsAskedUnder}
-use Rattle.http_desk.specs.Reply.{Reply, look_reply, report_reply, fault_reply, refusal_reply, answer_reply, waybill_reply, holder_reply, body_reply, body_state}
+use Rattle.http_desk.specs.Reply.{Reply, look_reply, report_reply, fault_reply, refusal_reply, answer_reply, waybill_reply, history_of, holder_reply, body_reply, body_state}
 use Rattle.http_desk.specs.Answer.{Replied, IsAnsweredAs, Answers}
 use Rattle.http_desk.specs.Serving.{AsksInput, GetsReport}
 
@@ -24,6 +24,7 @@ wanted_reply s at (wanted.Fault f) = fault_reply (meant f)
 wanted_reply s at (wanted.Unreadable refusal) = refusal_reply refusal
 wanted_reply s at (wanted.Look seen) = look_reply (string_bytes seen)
 wanted_reply s at (wanted.Waybill w) = waybill_reply w (waybill_of s.cargo w)
+wanted_reply s at (wanted.History w) = history_of w (waybill_of s.cargo w)
 wanted_reply s at (wanted.Holder w) = holder_reply w (s.cargo.holders w)
 wanted_reply s at (wanted.Report name) = report_reply name
 wanted_reply s at (wanted.Input i) = answer_reply (step s i at).answer

@@ -1,5 +1,5 @@
 -- The answer to a request, and the bytes written.
-use Rattle.std.specs.Prelude.{◌≡◌, ◌⊎◌, ℕ, ◌<◌, ◌≤◌, Bool, false, Result, Ok, Err, List, ◌++◌, length, take, string_bytes}
+use Rattle.std.specs.Prelude.{◌≡◌, ◌⊎◌, ℕ, ◌<◌, ◌≤◌, Bool, false, Result, Ok, Err, List, ◌++◌, length, take}
 use Rattle.station_days.specs.Date.{LocalMinute}
 use Rattle.station_core.specs.Given.{Given}
 use Rattle.station_core.specs.Ends.{Sent, HasCause}
@@ -21,8 +21,8 @@ use Rattle.http_desk.specs.Serving.{unavailable, GetsReport, SomeOrEach, IsUncha
 abbrev pub IsToldFor : List ℕ → State → LocalMinute → Told → StationAfter → Type 0
 IsToldFor bytes s at (told.Accepted count) left =
     (after : State) × Answers bytes s at 200 (ok_answer count) after × WorksAt left after
-IsToldFor bytes s at (told.Json status text) left =
-    Answers bytes s at status (string_bytes text) s × WorksAt left s
+IsToldFor bytes s at (told.Whole status out) left =
+    Answers bytes s at status out.items s × WorksAt left s
 IsToldFor bytes s at (told.Report name) left =
     GetsReport bytes name
     × ((text : List ℕ) → IsPrinted s name text
@@ -62,15 +62,14 @@ HasReported s name old new (Err (serve.Write sent)) =
 -- the answer was written
 abbrev pub HasWritten : Told → State → Given → Given → Result Served ServeFault → Type 0
 HasWritten (told.Accepted count) s old new r = HasSent 200 false (ok_answer count) old new r
-HasWritten (told.Json status text) s old new r = HasSent status false (string_bytes text) old new r
+HasWritten (told.Whole status out) s old new r = HasSent status false out.items old new r
 HasWritten (told.Report name) s old new r = HasReported s name old new r
 HasWritten (told.Unavailable reopen) s old new r = HasSent 503 reopen unavailable old new r
 
 -- the same on a broken station, whose reports aren't read
 abbrev pub HasWrittenShut : Told → Given → Given → Result Served ServeFault → Type 0
 HasWrittenShut (told.Accepted count) old new r = HasSent 200 false (ok_answer count) old new r
-HasWrittenShut (told.Json status text) old new r =
-    HasSent status false (string_bytes text) old new r
+HasWrittenShut (told.Whole status out) old new r = HasSent status false out.items old new r
 HasWrittenShut (told.Report name) old new r =
     (reopen : Bool) × HasSent 503 reopen unavailable old new r
 HasWrittenShut (told.Unavailable reopen) old new r = HasSent 503 reopen unavailable old new r

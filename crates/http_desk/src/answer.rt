@@ -1,10 +1,10 @@
 //! The bytes of an answer.
-ghost use Rattle.std.specs.Prelude.{◌≡◌, IfOk, string_bytes, option_map};
+ghost use Rattle.std.specs.Prelude.{◌≡◌, ◌++◌, length, IfOk, string_bytes, option_map};
 ghost use Rattle.http.specs.StatusCode.{IsStatusCode};
 ghost use Rattle.serde_json.specs.View.{view};
 ghost use Rattle.serde_json.specs.Written.{compact_text};
 ghost use Rattle.http_desk.specs.Request.{good_data, bad_data};
-ghost use Rattle.http_desk.specs.Reply.{status_line, allow_line, json_fields, json_answer, media_type, report_head, refused_data, pair_data, holding_data, holder_data, waybill_data};
+ghost use Rattle.http_desk.specs.Reply.{status_line, allow_line, history_head, json_fields, json_answer, media_type, report_head, refused_data, pair_data, holding_data, holder_data, waybill_data};
 ghost use Rattle.serde_json.specs.Data.{boolean, string};
 ghost use Rattle.http_desk.specs.Members.{first_members, second_members, third_members, stored_members, last_members};
 
@@ -79,6 +79,22 @@ pub(crate) fn report_head(alloc: Global, printout: &Printout) -> Result<String, 
     let first = status_line(alloc, 200)?;
     let media = media_type(printout.form);
     format!(in alloc; "{first}Content-Type: {media}\r\nConnection: close\r\n\r\n")
+}
+
+/// Returns the answer with the history of a waybill.
+pub(crate) fn history_answer(alloc: Global, history: &[u8]) -> Result<Vec<u8>, AllocError>
+    ensures { IfOk result (λ answer. answer.items ≡ history_head (length history.now) ++
+        history.now) }
+{
+    let first = status_line(alloc, 200)?;
+    let len = history.len();
+    let head = format!(in alloc;
+        "{first}Content-Type: text/plain\r\nContent-Length: {len}\r\nConnection: close\r\n\r\n"
+    )?;
+    let mut answer = Vec::new(alloc);
+    answer.extend_from_slice(head.as_bytes())?;
+    answer.extend_from_slice(history)?;
+    Ok(answer)
 }
 
 pub(crate) fn refused_text(alloc: Global, refused: u16, detail: &str) -> Result<String, AllocError>

@@ -3,18 +3,19 @@ ghost use Rattle.std.specs.Prelude.{◌≡◌, true, false, IfOk, Option, Some, 
 ghost use Rattle.http.specs.StatusCode.{IsStatusCode};
 ghost use Rattle.serde_json.specs.Data.{Data};
 ghost use Rattle.serde_json.specs.Written.{compact_text};
-ghost use Rattle.station_core.specs.Keeping.{IfWorks, KeepsSound, StaysIfBroken};
+ghost use Rattle.station_core.specs.Keeping.{IfSound, IfWorks, KeepsSound, OnlyReads, StaysIfBroken};
 ghost use Rattle.station_core.specs.Step.{State};
 ghost use Rattle.http_desk.specs.StationAfter.{station_after};
-ghost use Rattle.http_desk.specs.Told.{IsToldAs, HasAsked, HasAskedShut, IsUnavailable, tells_reopen};
+ghost use Rattle.http_desk.specs.Told.{IsHistoryTold, IsToldAs, HasAsked, HasAskedShut, IsUnavailable, TellsHistory, tells_reopen};
 ghost use Rattle.station_days.specs.Date.{LocalMinute};
 ghost use Rattle.station_core.specs.Texts.{detail_text};
 ghost use Rattle.http_desk.specs.Fields.{meant};
 ghost use Rattle.http_desk.specs.Reply.{refused_data, json_reply, look_reply, fault_reply, refusal_status, refusal_reply, waybill_reply, holder_reply};
 
-use crate::answer::{holder_text, json_answer, refused_text, waybill_text};
+use crate::answer::{history_answer, holder_text, json_answer, refused_text, waybill_text};
 use crate::fault::FaultTold;
 use crate::head::NOT_FOUND;
+use crate::history::history_text;
 use crate::printout::Printout;
 use crate::wanted::Wanted;
 use agent_stock::Holder;
@@ -29,8 +30,8 @@ use std::alloc::{AllocError, Global};
 pub(crate) enum Told {
     /// An input was accepted, with this count. Writing the answer allocates nothing.
     Accepted(u32),
-    /// Another JSON answer: its status and its bytes.
-    Json(u16, String),
+    /// Any other answer but a report: its status and its bytes.
+    Whole(u16, Vec<u8>),
     /// A report, which is read while it is written.
     Report(Printout),
     /// Memory ran out or the station failed. If true, the station must be opened again.
@@ -52,7 +53,7 @@ fn json_told(
         return Told::Unavailable(false);
     };
     match json_answer(alloc, status, allow, body.as_str()) {
-        Ok(text) => Told::Json(status, text),
+        Ok(text) => Told::Whole(status, text.into_bytes()),
         Err(_) => Told::Unavailable(false),
     }
 }
@@ -72,7 +73,7 @@ fn look_told(alloc: Global, seen: &str) -> Told
     ensures { IsToldAs (look_reply seen.now) result }
 {
     match json_answer(alloc, 200, None, seen) {
-        Ok(text) => Told::Json(200, text),
+        Ok(text) => Told::Whole(200, text.into_bytes()),
         Err(_) => Told::Unavailable(false),
     }
 }
@@ -152,6 +153,46 @@ fn ask_waybill<K: Keeper>(alloc: Global, keeper: &mut K, number: &Awb) -> Told
     }
 }
 
+/// Returns the answer with a history, or [`Told::Unavailable`] if memory runs out.
+fn history_told(alloc: Global, history: &[u8]) -> Told
+    ensures { IsHistoryTold history.now result }
+{
+    match history_answer(alloc, history) {
+        Ok(answer) => Told::Whole(200, answer),
+        Err(_) => Told::Unavailable(false),
+    }
+}
+
+/// Reads the history of a known waybill from a working keeper.
+fn ask_known<K: Keeper>(alloc: Global, keeper: &mut K, number: &Awb, known: &Waybill) -> Told
+    ensures reads { OnlyReads K.keeping keeper.old keeper.new }
+    ensures told { IfSound K.keeping keeper.old keeper.new
+        (λ s. TellsHistory s number.now known.now result) }
+    ensures reopen { tells_reopen result ≡ false }
+{
+    match history_text(alloc, keeper, number, known) {
+        Ok(history) => history_told(alloc, history.as_slice()),
+        Err(_) => Told::Unavailable(false),
+    }
+}
+
+fn ask_history<K: Keeper>(alloc: Global, keeper: &mut K, number: &Awb) -> Told
+    ensures premise { KeepsSound K.keeping keeper.old keeper.new }
+    ensures breaks { K.keeping.is_broken keeper.new ≡ K.keeping.is_broken keeper.old }
+    ensures asked { (s : State) (at : LocalMinute) → K.keeping.keeps keeper.old s
+        → K.keeping.is_broken keeper.old ≡ false → K.keeping.is_sound keeper.new → HasAsked s at
+        (Wanted.History number.now) result (station_after K.keeping keeper.new) }
+    ensures reopen { tells_reopen result ≡ K.keeping.is_broken keeper.new }
+    ensures shut { K.keeping.is_broken keeper.old ≡ true → (keeper.new ≡ keeper.old) × IsUnavailable
+        result }
+{
+    match keeper.waybill(number) {
+        Ok(Some(known)) => ask_known(alloc, keeper, number, &known),
+        Ok(None) => fault_told(alloc, &NOT_FOUND),
+        Err(fault) => Told::Unavailable(fault == ActFault::Reopen),
+    }
+}
+
 fn ask_input<K: Keeper>(alloc: Global, keeper: &mut K, input: &Input<'_>, at: Moment) -> Told
     ensures premise { KeepsSound K.keeping keeper.old keeper.new }
     ensures asked { IfWorks K.keeping keeper.old keeper.new (λ s. HasAsked s at
@@ -182,6 +223,7 @@ pub(crate) fn ask<K: Keeper>(alloc: Global, keeper: &mut K, wanted: &Wanted<'_>,
         Wanted::Unreadable(refusal) => refusal_told(alloc, refusal),
         Wanted::Look(seen) => look_told(alloc, seen.as_str()),
         Wanted::Waybill(number) => ask_waybill(alloc, keeper, number),
+        Wanted::History(number) => ask_history(alloc, keeper, number),
         Wanted::Holder(number) => ask_holder(alloc, keeper, number),
         Wanted::Report(printout) => Told::Report(*printout),
         Wanted::Input(input) => ask_input(alloc, keeper, input, at),

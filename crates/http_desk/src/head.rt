@@ -98,6 +98,7 @@ pub(crate) fn head_asks(
         Route::Telegrams => post(method, buf, fields),
         Route::Look => post(method, buf, fields),
         Route::Waybill(_) => get(method),
+        Route::History(_) => get(method),
         Route::Stock(_) => get(method),
         Route::Report(_) => get(method),
     }

@@ -1,12 +1,12 @@
 //! The desk's routes.
 ghost use Rattle.std.specs.Prelude.{◌≡◌, option_map};
 ghost use Rattle.desk_commands.specs.Verb.{verb_called};
-ghost use Rattle.http_desk.specs.Routes.{asked_place, page_at, page_named, page_word, place_told};
+ghost use Rattle.http_desk.specs.Routes.{asked_place, page_at, page_named, page_part, page_word, place_told};
 
 use crate::printout::{Printout, printout_at};
 use desk_commands::Verb;
 
-/// A route. A waybill and a number in stock have the name at the end of the path.
+/// A route. A waybill, its history and a number in stock have their name in the path.
 #[derive(Clone, Copy)]
 pub enum Route<'a> {
     Command(Verb),
@@ -14,6 +14,7 @@ pub enum Route<'a> {
     Telegrams,
     Look,
     Waybill(&'a str),
+    History(&'a str),
     Stock(&'a str),
     Report(Printout),
 }
@@ -48,6 +49,16 @@ fn page_named<'a>(kind: &str, name: &'a str) -> Option<Route<'a>>
     }
 }
 
+/// Returns the page at a path of three segments.
+fn page_part<'a>(kind: &str, name: &'a str, part: &str) -> Option<Route<'a>>
+    ensures { option_map place_told result ≡ page_part kind.now name.now part.now }
+{
+    match (kind, part) {
+        ("waybills", "history") if !name.is_empty() => Some(Route::History(name)),
+        _ => None,
+    }
+}
+
 fn page_at(path: &str) -> Option<Route<'_>>
     ensures { option_map place_told result ≡ page_at path.now }
 {
@@ -56,7 +67,7 @@ fn page_at(path: &str) -> Option<Route<'_>>
         return page_word(rest);
     };
     match name.split_once('/') {
-        Some(_) => None,
+        Some((name, part)) => page_part(kind, name, part),
         None => page_named(kind, name),
     }
 }

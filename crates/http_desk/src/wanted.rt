@@ -6,7 +6,7 @@ ghost use Rattle.http_desk.specs.Answer.{head_of};
 ghost use Rattle.http_desk.specs.Asked.{body_meant};
 ghost use Rattle.http_desk.specs.HeadTold.{asks_meant, got_at};
 ghost use Rattle.http_desk.specs.Request.{head_asks, looks_up, own_asks, IsAskedUnder};
-ghost use Rattle.http_desk.specs.Routes.{got_holder, got_waybill, path_of, place_told};
+ghost use Rattle.http_desk.specs.Routes.{got_history, got_holder, got_waybill, path_of, place_told};
 ghost use Rattle.http_desk.specs.Wanted.{WantsNow, HasWants, WantsAsked, BodyWants, posted_of};
 
 use crate::asked::{Body, check_asked, command_asked, look_asked, telegram_asked};
@@ -32,6 +32,7 @@ pub(crate) enum Wanted<'a> {
     /// A dry run, as JSON.
     Look(String),
     Waybill(Awb),
+    History(Awb),
     Holder(Awb),
     Report(Printout),
     Input(Input<'a>),
@@ -81,6 +82,15 @@ fn waybill_at(name: &str) -> Wanted<'static>
     }
 }
 
+fn history_at(name: &str) -> Wanted<'static>
+    ensures { WantsNow (looks_up (got_history name.now)) result }
+{
+    match number_in(name.as_bytes()) {
+        Some(number) => Wanted::History(number),
+        None => Wanted::Fault(NOT_FOUND),
+    }
+}
+
 fn holder_at(name: &str) -> Wanted<'static>
     ensures { WantsNow (looks_up (got_holder name.now)) result }
 {
@@ -96,6 +106,7 @@ fn got(route: &Route<'_>) -> Wanted<'static>
 {
     match route {
         Route::Waybill(name) => waybill_at(name),
+        Route::History(name) => history_at(name),
         Route::Stock(name) => holder_at(name),
         Route::Report(printout) => Wanted::Report(*printout),
         Route::Command(_) => Wanted::Fault(NOT_FOUND),

@@ -128,7 +128,7 @@ pub(crate) fn write_told<K: Keeper, O: ByteOut>(
 {
     match told {
         Told::Accepted(count) => send_accepted(writer, *count),
-        Told::Json(status, text) => send_answer(writer, *status, text.as_bytes(), false),
+        Told::Whole(status, bytes) => send_answer(writer, *status, bytes.as_slice(), false),
         Told::Report(printout) => answer_report(alloc, keeper, writer, *printout),
         Told::Unavailable(reopen) => send_answer(writer, 503, unavailable(), *reopen),
     }

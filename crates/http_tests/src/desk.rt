@@ -10,7 +10,7 @@ use station_days::Moment;
 use std::alloc::{AllocError, Global};
 
 /// The requests that show the state of a station.
-const LOOKS: [&str; 10] = [
+const LOOKS: [&str; 11] = [
     "reports/stock",
     "reports/shed",
     "reports/flights",
@@ -20,6 +20,7 @@ const LOOKS: [&str; 10] = [
     "reports/trail",
     "outbox",
     "waybills/020-12345675",
+    "waybills/020-12345675/history",
     "stock/020-12345723",
 ];
 

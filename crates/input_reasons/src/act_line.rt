@@ -92,7 +92,7 @@ fn object_words(alloc: Global, line: &Value) -> Result<String, AllocError> {
     }
 }
 
-/// What is wrong with a line.
+/// Returns the first fault of a line.
 fn line_words(alloc: Global, text: &[u8]) -> Result<String, AllocError> {
     if text.len() > MOST_LINE {
         return String::from_str(alloc, "more than 69,632 bytes");

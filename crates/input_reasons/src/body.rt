@@ -37,12 +37,12 @@ fn missing_words(alloc: Global, verb: Verb, field: Field) -> Result<String, Allo
     format!(in alloc; "missing field \"{name}\"; `{word}` takes {fields}")
 }
 
-/// Whether a key is that of a field of the verb.
+/// Returns whether a key is that of a field of the verb.
 fn is_field(verb: Verb, key: &str) -> bool {
     verb.fields().iter().any(|field| field.name() == key)
 }
 
-/// Whether a field may be left out of this body.
+/// Returns whether a field may be left out of this body.
 fn may_lack(field: Field, body: &Value) -> bool {
     matches!(field, Field::FlightIfAny | Field::DateIfAny)
         && body.get("flight").is_none()
@@ -81,7 +81,7 @@ fn fields_fault(alloc: Global, verb: Verb, body: &Value) -> Result<Option<String
     Ok(None)
 }
 
-/// What is wrong with a body that is JSON: its keys, and then its values.
+/// Returns the first fault of a body that is JSON: its keys come first, then its values.
 pub(crate) fn value_words(alloc: Global, verb: Verb, body: &Value) -> Result<String, AllocError> {
     if let Some(words) = keys_words(alloc, verb, body)? {
         return Ok(words);
@@ -93,7 +93,7 @@ pub(crate) fn value_words(alloc: Global, verb: Verb, body: &Value) -> Result<Str
     format!(in alloc; "these fields make no `{word}`")
 }
 
-/// What is wrong with a body.
+/// Returns the first fault of a body.
 fn body_words(alloc: Global, verb: Verb, bytes: &[u8]) -> Result<String, AllocError> {
     if bytes.len() > MOST_BYTES {
         return String::from_str(alloc, "more than 65,536 bytes");

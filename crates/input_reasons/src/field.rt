@@ -60,7 +60,7 @@ pub(crate) fn wanted(field: Field) -> &'static str {
     }
 }
 
-/// Whether a text may stand there. Prefix, serial and waybill have readers of their own.
+/// Returns whether the field takes a text. Prefix, serial and waybill have readers of their own.
 pub(crate) fn reads(field: Field, text: &[u8]) -> bool {
     match field {
         Field::Agent => AgentCode::read(text).is_some(),

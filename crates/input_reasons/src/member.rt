@@ -7,7 +7,7 @@ use desk_commands::Field;
 use serde_json::Value;
 use std::alloc::{AllocError, Global};
 
-/// What a value is, in a word; a number stands for itself.
+/// Returns the kind of a value, in a word; a number stands for itself.
 pub(crate) fn kind_words(alloc: Global, value: &Value) -> Result<String, AllocError> {
     match value {
         Value::Null => String::from_str(alloc, "null"),

@@ -9,7 +9,7 @@ use desk_commands::Verb;
 use station_core::Key;
 use std::alloc::{AllocError, Global};
 
-/// How many fields a row has.
+/// The number of fields of a row.
 const FIELDS: usize = 6;
 
 /// The words for a row with a different number of fields.
@@ -43,7 +43,7 @@ fn agent_words(alloc: Global, agent: &[u8]) -> Result<String, AllocError> {
     format!(in alloc; "agent: expected 1 to 11 upper-case letters or digits, found {agent}")
 }
 
-/// Whether a verb of a row goes with an agent, where it is one.
+/// Returns whether a verb of a row takes an agent, `None` for any other word.
 fn takes_agent(verb: &[u8]) -> Option<bool> {
     match Verb::read(verb)? {
         Verb::Issue | Verb::Return => Some(true),
@@ -68,7 +68,7 @@ fn field(row: &ByteRecord, place: usize) -> &[u8] {
     row.get(place).unwrap_or(b"".as_slice())
 }
 
-/// What is wrong with a row, from the left.
+/// Returns the first fault of a row, from the left.
 fn row_words(alloc: Global, row: &ByteRecord) -> Result<String, AllocError> {
     let (key, verb, agent) = (field(row, 0), field(row, 1), field(row, 5));
     if row.len() != FIELDS {

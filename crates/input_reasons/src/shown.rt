@@ -6,7 +6,7 @@ ghost use Rattle.input_reasons.specs.Reason.{IsReason, numbered_head};
 
 use std::alloc::{AllocError, Global};
 
-/// How many bytes of a text a reason repeats.
+/// The number of bytes of a text that a reason repeats.
 const MOST: usize = 40;
 
 /// The hexadecimal digit of a number.

@@ -7,14 +7,14 @@ use imp_fields::Why;
 use shipment_machine::{Detail, Refusal};
 use std::alloc::{AllocError, Global};
 
-/// Whether a refusal says that a telegram can't be read.
+/// Returns whether a refusal says that a telegram can't be read.
 pub fn is_unread(refusal: &Refusal) -> bool
     ensures { result ≡ is_unread refusal.now }
 {
     refusal.number == 301 || refusal.number == 302
 }
 
-/// What is wrong with a line of a telegram, or with the whole.
+/// A fault of a line of a telegram, or of the whole.
 fn fault_words(why: Why) -> &'static str {
     match why {
         Why::Size => "it has more than 65,536 bytes",

@@ -48,9 +48,9 @@ pub(crate) enum Cell {
     /// Pieces and their weight in tenths of a kilogram.
     Amount(u64, u64),
     Awb(Awb),
-    /// Whether an expectation was checked in.
+    /// `true` for an expectation that was checked in.
     Checked(bool),
-    /// Whether a flight has departed.
+    /// `true` for a flight that has departed.
     Closed(bool),
     /// The number of waybill numbers of a run.
     Count(u32),
@@ -60,7 +60,7 @@ pub(crate) enum Cell {
     Goods(Goods),
     Holder(Holder),
     Moment(Moment),
-    /// Whether the consignee was notified.
+    /// `true` if the consignee was notified.
     Notified(bool),
     /// The number of a movement.
     Number(u32),

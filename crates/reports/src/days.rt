@@ -12,7 +12,7 @@ use station_core::{ActFault, BookQuery, BookRow, IrregularRow, Keeper, ShedRow, 
 use station_days::LocalDay;
 use std::alloc::Global;
 
-/// What lasts: pieces in store, or missing or found ones.
+/// A state that lasts: pieces in store, or missing or found ones.
 #[derive(Clone, Copy)]
 pub enum Lasting {
     Stored,
@@ -76,7 +76,7 @@ const STILL: Flow = Flow {
     went: ZERO,
 };
 
-/// What the movements of a waybill add up to, and the day since which it has lasted.
+/// The sum of the movements of a waybill, and the day since which it has lasted.
 #[derive(Clone, Copy)]
 struct Spell {
     awb: Awb,

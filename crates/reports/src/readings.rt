@@ -109,20 +109,15 @@ impl Reading<FlightRow> for FlightReading {
     }
 }
 
-#[derive(Drop)]
-pub(crate) struct ExpectedReading {
-    pub(crate) query: ExpectedQuery,
-}
-
-impl Reading<ExpectedRow> for ExpectedReading {
-    ghost rows = { λ reading s rows. AreExpectedBy reading.query s.cargo rows };
+impl Reading<ExpectedRow> for ExpectedQuery {
+    ghost rows = { λ reading s rows. AreExpectedBy reading s.cargo rows };
 
     fn hand_out<K: Keeper, S: Sink<ExpectedRow>>(
         &self,
         keeper: &mut K,
         sink: &mut S,
     ) -> Result<(), ActFault> {
-        keeper.expected_by(&self.query, sink)
+        keeper.expected_by(self, sink)
     }
 }
 
@@ -142,37 +137,27 @@ impl Reading<IrregularRow> for IrregularReading {
     }
 }
 
-#[derive(Drop)]
-pub(crate) struct BookReading {
-    pub(crate) query: BookQuery,
-}
-
-impl Reading<BookRow> for BookReading {
-    ghost rows = { λ reading s rows. rows ≡ book_by reading.query s.cargo };
+impl Reading<BookRow> for BookQuery {
+    ghost rows = { λ reading s rows. rows ≡ book_by reading s.cargo };
 
     fn hand_out<K: Keeper, S: Sink<BookRow>>(
         &self,
         keeper: &mut K,
         sink: &mut S,
     ) -> Result<(), ActFault> {
-        keeper.book_by(&self.query, sink)
+        keeper.book_by(self, sink)
     }
 }
 
-#[derive(Drop)]
-pub(crate) struct MessageReading {
-    pub(crate) query: MessageQuery,
-}
-
-impl Reading<Message> for MessageReading {
-    ghost rows = { λ reading s rows. rows ≡ messages_by reading.query s.cargo };
+impl Reading<Message> for MessageQuery {
+    ghost rows = { λ reading s rows. rows ≡ messages_by reading s.cargo };
 
     fn hand_out<K: Keeper, S: Sink<Message>>(
         &self,
         keeper: &mut K,
         sink: &mut S,
     ) -> Result<(), ActFault> {
-        keeper.messages_by(&self.query, sink)
+        keeper.messages_by(self, sink)
     }
 }
 
@@ -200,19 +185,14 @@ impl Reading<Summary> for SummaryReading {
     }
 }
 
-#[derive(Drop)]
-pub(crate) struct TrailReading {
-    pub(crate) query: TrailQuery,
-}
-
-impl Reading<TrailRow> for TrailReading {
-    ghost rows = { λ reading s rows. rows ≡ trail_by reading.query s.cargo };
+impl Reading<TrailRow> for TrailQuery {
+    ghost rows = { λ reading s rows. rows ≡ trail_by reading s.cargo };
 
     fn hand_out<K: Keeper, S: Sink<TrailRow>>(
         &self,
         keeper: &mut K,
         sink: &mut S,
     ) -> Result<(), ActFault> {
-        keeper.trail_by(&self.query, sink)
+        keeper.trail_by(self, sink)
     }
 }

@@ -42,7 +42,7 @@ fn row_of(
     }
 }
 
-/// What a flight carries of a waybill, if it has a row.
+/// Reads the amount of a waybill on a flight, if it has a row.
 fn at_flight<S: TableStore>(
     store: &mut S,
     flight: &str,
@@ -84,7 +84,7 @@ fn put_build<S: TableStore>(
     }
 }
 
-/// What a flight carries of a waybill, if it has a row: by what is known, or by its row.
+/// Returns the amount of a waybill on a flight, if it has a row: the known one, or that of its row.
 fn carried<S: TableStore>(
     store: &mut S,
     flight: &str,
@@ -132,9 +132,9 @@ pub(crate) fn post_build<S: TableStore>(
     Ok(pieces_found(found))
 }
 
-/// What of a waybill is built on a flight, inside a transaction or outside, and from then on what
-/// is known of it there. A fault: the database call failed, memory ran out, or an amount is out of
-/// range. A fault outside changes nothing while the store is open.
+/// Reads the amount of a waybill on a flight, inside a transaction or outside; from then on it is
+/// known. A fault: the database call failed, memory ran out, or an amount is out of range. A fault
+/// outside changes nothing while the store is open.
 pub fn load<S: TableStore>(
     alloc: Global,
     store: &mut S,

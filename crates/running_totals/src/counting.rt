@@ -29,7 +29,7 @@ fn first_at(rows: &[CountRow], place: i64) -> Option<&CountRow>
     rows.iter().find(|row| row.place == place)
 }
 
-/// What the row of a place has, among the rows of a waybill.
+/// Returns the amount in the row of a place, among the rows of a waybill.
 fn at_place(rows: &[CountRow], place: i64) -> Option<Tally>
     ensures { (counts : FinMap count_cmp Count) (awb : ℤ)
         → map count_meant rows.now ≡ filter (counts_for awb) (entries counts)
@@ -76,7 +76,7 @@ fn put_count<S: TableStore>(
     }
 }
 
-/// What a waybill has at a place, if it has a row: by what is known, or by its rows.
+/// Returns the amount of a waybill at a place, if it has a row: the known one, or by its rows.
 fn counted<S: TableStore>(
     store: &mut S,
     awb: i64,
@@ -122,7 +122,7 @@ pub(crate) fn post_count<S: TableStore>(
     Ok(pieces_found(found))
 }
 
-/// What is at a place of the station, by the rows of a waybill.
+/// Returns the amount at a place of the station, by the rows of a waybill.
 fn held(rows: &[CountRow], place: &Place) -> Result<Amount, StoreFault>
     ensures { (counts : FinMap count_cmp Count) (book : List Move) (w : ℕ)
         → map count_meant rows.now ≡ filter (counts_for (pos w)) (entries counts)
@@ -140,7 +140,7 @@ fn held(rows: &[CountRow], place: &Place) -> Result<Amount, StoreFault>
     }
 }
 
-/// What came from a place outside, by the rows of a waybill.
+/// Returns the amount that came from a place outside, by the rows of a waybill.
 fn drawn(rows: &[CountRow], place: &Place) -> Result<Amount, StoreFault>
     ensures { (counts : FinMap count_cmp Count) (book : List Move) (w : ℕ)
         → map count_meant rows.now ≡ filter (counts_for (pos w)) (entries counts)
@@ -219,9 +219,9 @@ fn sums_by(rows: &[CountRow]) -> PlaceSums
     }
 }
 
-/// What the moves of a waybill add up to, inside a transaction or outside, and from then on what is
-/// known of its sums. A fault: the database call failed, or a balance is out of range. A fault
-/// outside changes nothing while the store is open.
+/// Reads the sum of a waybill's moves, inside a transaction or outside; from then on its sums are
+/// known. A fault: the database call failed, or a balance is out of range. A fault outside changes
+/// nothing while the store is open.
 pub fn balances<S: TableStore>(
     store: &mut S,
     known: &mut KnownSums,

@@ -1,4 +1,4 @@
-//! What is known of the sums of waybills, since it was read or written a moment before.
+//! Sums of waybills that are known, since they were read or written a moment before.
 ghost use Rattle.std.specs.Prelude.{◌≡◌, ◌==◌, ◌&&◌, ℕ, IfSome, IfOk};
 ghost use Rattle.shipment_machine.specs.Places.{same_place};
 ghost use Rattle.shipment_machine.specs.declared.moves.Place.TheVariants.{Built};
@@ -11,7 +11,7 @@ use crate::tally::Tally;
 use awb_number::Awb;
 use shipment_machine::{FlightDate, Place};
 
-/// What a waybill has at each place but the built ones: what came, less what left.
+/// The balance of a waybill at each place but the built ones: what came, less what left.
 #[derive(Clone, Copy)]
 pub(crate) struct PlaceSums {
     pub(crate) hand: Tally,
@@ -102,7 +102,7 @@ pub(crate) struct BuildSum {
 }
 
 impl BuildSum {
-    /// Whether it is the sum of a waybill at a place.
+    /// Returns whether it is the sum of a waybill at a place.
     fn is_at(&self, awb: &Awb, place: &Place) -> bool
         ensures { result ≡ ((awb.now == self.now.awb) &&
             same_place (Built self.now.flight) place.now) }
@@ -195,7 +195,7 @@ impl KnownSums {
         }
     }
 
-    /// What is known after an amount more of a waybill at a place.
+    /// Adds an amount of a waybill at a place.
     pub(crate) fn posted(self, awb: &Awb, place: &Place, by: Tally) -> KnownSums
         ensures { (sums : Sums) → AreKnown self sums
             → AreKnown result (posting awb.now place.now (meant by) sums) }

@@ -16,7 +16,7 @@ use station_core::WaybillBalances;
 use station_rows::{AllCounts, CountRow, StoreFault, TableStore};
 use std::alloc::Global;
 
-/// How many rows in front are a waybill's.
+/// Returns the number of rows in front that are a waybill's.
 fn rows_in_front(rows: &[CountRow], awb: i64) -> usize
     ensures count { result ≡ prefix_len (λ row. int_eq row.awb awb) rows.now }
     ensures within { result ≤ length rows.now }
@@ -67,7 +67,7 @@ fn waybills_by(alloc: Global, rows: &[CountRow]) -> Result<Vec<WaybillBalances>,
     Ok(all)
 }
 
-/// What the moves of each waybill add up to, by waybill, inside a transaction or outside. A waybill
+/// Lists the sum of each waybill's moves, by waybill, inside a transaction or outside. A waybill
 /// without a row isn't listed: it has nothing at any place but on flights. A fault: the database
 /// call failed, memory ran out, or a row is out of range. A fault outside changes nothing while the
 /// store is open.

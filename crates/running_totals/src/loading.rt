@@ -13,7 +13,7 @@ use station_core::Load;
 use station_rows::{BuildRow, BuildsOn, PiecesOn, StoreFault, TableStore};
 use std::alloc::Global;
 
-/// Whether there are pieces in a row.
+/// Returns whether a row has pieces.
 fn is_loaded(row: &BuildRow) -> bool
     ensures { result ≡ is_loaded (row_said (build_meant row.now)) }
 {
@@ -76,14 +76,14 @@ pub fn aboard<S: TableStore>(
     Ok(loads)
 }
 
-/// How many rows have pieces, by the pieces of each.
+/// Returns the number of rows that have pieces, by the pieces of each.
 fn count_loaded(pieces: &[i64]) -> usize
     ensures { result ≡ length (filter (int_lt (pos 0)) pieces.now) }
 {
     pieces.iter().filter(|count| 0 < **count).count()
 }
 
-/// How many waybills have something built on a flight, inside a transaction or outside. A departure
+/// Counts the waybills that are built on a flight, inside a transaction or outside. A departure
 /// reads each load, by `aboard`; where their number alone is needed, this reads less of each row. A
 /// fault: the database call failed, or memory ran out. A fault outside changes nothing while the
 /// store is open.

@@ -54,7 +54,7 @@ fn post<S: TableStore>(
     }
 }
 
-/// What a move brings to the place that it comes to.
+/// Returns the amount that a move brings to its destination.
 fn come(movement: &Move) -> Tally
     ensures { meant result ≡ come movement.now }
 {
@@ -64,7 +64,7 @@ fn come(movement: &Move) -> Tally
     }
 }
 
-/// What a move takes from the place that it leaves.
+/// Returns the amount that a move takes from its origin.
 fn gone(movement: &Move) -> Tally
     ensures { meant result ≡ gone movement.now }
 {

@@ -54,7 +54,7 @@ fn sum(a: i64, b: i64) -> Result<i64, StoreFault>
     }
 }
 
-/// What a number is short of nothing.
+/// Returns the amount by which a number is below zero.
 fn shortage(number: i64) -> Result<i64, StoreFault>
     ensures { IfOk result (λ rest. rest ≡ pos 0 -ℤ number) }
 {
@@ -75,14 +75,14 @@ fn natural(number: i64) -> Result<u32, StoreFault>
 }
 
 impl Tally {
-    /// Whether nothing is left.
+    /// Returns whether nothing is left.
     pub(crate) fn is_nothing(self) -> bool
         ensures { result ≡ is_nothing (meant self) }
     {
         self.pieces == 0 && self.tenths == 0
     }
 
-    /// What stands in a row: there is none where nothing is left.
+    /// Returns the amounts of a row. There is no row if nothing is left.
     pub(crate) fn row(self) -> Option<Tally>
         ensures { option_map meant result ≡ unless_nothing (meant self) }
     {
@@ -98,7 +98,7 @@ impl Tally {
         Ok(Tally { pieces, tenths })
     }
 
-    /// What a row comes to by this.
+    /// Returns the sum of a row and this.
     pub(crate) fn onto(self, found: Option<Tally>) -> Result<Tally, StoreFault>
         ensures { IfOk result (λ sum. meant sum ≡ come_to meant found (meant self)) }
     {
@@ -108,7 +108,7 @@ impl Tally {
         }
     }
 
-    /// What is there.
+    /// Returns the amount that is there.
     pub(crate) fn amount(self) -> Result<Amount, StoreFault>
         ensures pieces { IfOk result (λ amount. self.pieces ≡ pos amount.pieces) }
         ensures tenths { IfOk result (λ amount. self.tenths ≡ pos amount.tenths) }
@@ -118,7 +118,7 @@ impl Tally {
         Ok(Amount { pieces, tenths })
     }
 
-    /// What came from there.
+    /// Returns the amount that came from there.
     pub(crate) fn shortfall(self) -> Result<Amount, StoreFault>
         ensures pieces { IfOk result (λ amount. pos 0 -ℤ self.pieces ≡ pos amount.pieces) }
         ensures tenths { IfOk result (λ amount. pos 0 -ℤ self.tenths ≡ pos amount.tenths) }

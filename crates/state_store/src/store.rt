@@ -30,7 +30,7 @@ pub trait StateStore {
     ghost use Rattle.agent_stock.specs.Refusing.{OnRefused, RefusesBy};
     ghost use Rattle.station_core.specs.Told.{IsRequest, kept_of, sizes_of, loads_on, on_cargo, with_moves, with_messages, with_key, with_text, with_order};
 
-    /// What it shows, whether its disk is clean and its storage sound, and what a crash may leave.
+    /// Its state, whether its disk is clean and its storage sound, and the crash states.
     ghost storing: { Storing Self };
 
     /// Begins a transaction.

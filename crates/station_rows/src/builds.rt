@@ -118,7 +118,7 @@ impl Write for DeleteBuild<'_> {
     }
 }
 
-/// What a flight carries of a waybill.
+/// The row of a waybill on a flight.
 #[derive(Drop)]
 pub struct BuildOn<'a> {
     /// The flight, as it is written.
@@ -145,7 +145,7 @@ impl Read for BuildOn<'_> {
     }
 }
 
-/// What a flight of a day carries, by waybill.
+/// The rows of a flight of a day, by waybill.
 #[derive(Drop)]
 pub struct BuildsOn<'a> {
     /// The flight, as it is written.

@@ -108,7 +108,7 @@ impl Write for DeleteCount {
     }
 }
 
-/// What a waybill has at each place, by place.
+/// The amounts of a waybill, by place.
 #[derive(Drop)]
 pub struct CountsOf {
     /// The waybill's number.
@@ -130,7 +130,7 @@ impl Read for CountsOf {
     }
 }
 
-/// What each waybill has at each place, by waybill and then by place.
+/// The amounts of all waybills, by waybill and then by place.
 #[derive(Drop)]
 pub struct AllCounts;
 

@@ -137,7 +137,7 @@ impl Write for UpdateExpected<'_> {
     }
 }
 
-/// What a flight is to bring of a waybill.
+/// The row of a waybill that a flight is to bring.
 #[derive(Drop)]
 pub struct ExpectedOn<'a> {
     /// The flight, as it is written.
@@ -163,7 +163,7 @@ impl Read for ExpectedOn<'_> {
     }
 }
 
-/// What each flight is to bring of each waybill, by flight, then by day, then by waybill.
+/// All rows of expectations, by flight, then by day, then by waybill.
 #[derive(Drop)]
 pub struct AllExpected;
 

@@ -6,6 +6,7 @@
 #![tactic(auto)]
 
 mod builds;
+mod count_at;
 mod counts;
 mod expected;
 mod flights;
@@ -13,6 +14,7 @@ mod kept;
 mod kept_texts;
 mod memory;
 mod moves;
+mod moves_within;
 mod outbox;
 mod parts;
 mod queries;
@@ -25,6 +27,7 @@ mod trail;
 mod waybills;
 
 pub use builds::{BuildOn, BuildRow, BuildsOn, DeleteBuild, InsertBuild, PiecesOn, UpdateBuild};
+pub use count_at::CountAt;
 pub use counts::{AllCounts, CountRow, CountsOf, DeleteCount, InsertCount, UpdateCount};
 pub use expected::{
     AllExpected, ExpectedOn, ExpectedRow, InsertExpected, ListedWaybillRow, UpdateExpected,
@@ -34,6 +37,7 @@ pub use kept::{InsertKept, KeptRow, KeptUnder};
 pub use kept_texts::{InsertKeptText, KeptTextCount};
 pub use memory::{files_are_sound, memory_is_sound};
 pub use moves::{InsertMove, MoveQuery, MoveRow, MovesFor, MovesOf};
+pub use moves_within::MovesWithin;
 pub use outbox::{InsertMessage, MessageRow, MessagesAfter};
 pub use parts::{InsertPart, PartBody};
 pub use row_sinks::StoreFault;

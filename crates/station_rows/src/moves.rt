@@ -21,7 +21,7 @@ pub struct MoveRow {
     pub src: i64,
     /// The place that they came to, by its number.
     pub dst: i64,
-    /// How many pieces.
+    /// The number of pieces.
     pub pieces: i64,
     /// Their weight in tenths of a kilogram.
     pub tenths: i64,
@@ -35,7 +35,7 @@ pub struct MoveRow {
     pub minute: i64,
 }
 
-/// Which moves are asked for.
+/// The moves that are asked for.
 #[derive(Drop)]
 pub enum MoveQuery {
     /// All of them.
@@ -123,7 +123,7 @@ impl Read for MovesOf {
 /// The moves that are asked for, in order.
 #[derive(Drop)]
 pub struct MovesFor<'a> {
-    /// Which they are.
+    /// The moves.
     pub query: &'a MoveQuery,
 }
 

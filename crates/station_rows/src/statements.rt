@@ -12,10 +12,10 @@ use sqlite::{Alter, Connection, Error};
 
 /// A statement that reads, with what it asks for.
 pub trait Read: Drop {
-    /// What is read.
+    /// The result of the statement.
     type Found;
 
-    /// What was read, of the tables.
+    /// The result, for these tables.
     ghost tells: { Self → Tables → Self.Found → Type 0 };
 
     /// Runs the statement. It fails where the database call fails or memory runs out.
@@ -29,7 +29,7 @@ pub trait Write: Drop {
     /// The change that it makes.
     ghost change: { Self → Tables → Tables };
 
-    /// What is said of its text and its parameters, whatever the tables are.
+    /// Its text and its parameters, for any tables.
     ghost runs: { Self → (List ℕ → Row → Type 0) → Type 0 };
 
     /// Runs the statement. It fails where a key is taken or the database call fails, and then the
@@ -47,13 +47,13 @@ pub trait Listing: Drop {
     /// A row as it is handed out.
     type Row: Drop;
 
-    /// What a row stands for.
+    /// The meaning of a row.
     ghost Item: { Type 0 };
 
     /// The row stands for this.
     ghost means: { Item → Self.Row → Type 0 };
 
-    /// What is listed of the tables.
+    /// The items that it lists, for these tables.
     ghost lists: { Self → Tables → List Item };
 
     /// Runs the statement, until the sink takes no more. It fails where the database call fails or

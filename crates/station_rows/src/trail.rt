@@ -20,7 +20,7 @@ pub struct TrailRow {
     pub line: String,
 }
 
-/// Which lines of the trail are asked for.
+/// The lines of the trail that are asked for.
 #[derive(Clone, Copy)]
 pub enum LineQuery {
     /// All of them.
@@ -66,7 +66,7 @@ impl Write for InsertTrailLine<'_> {
 /// The lines of the trail that are asked for, in order.
 #[derive(Drop)]
 pub struct LinesFor {
-    /// Which they are.
+    /// The lines.
     pub query: LineQuery,
 }
 

@@ -23,7 +23,7 @@ pub struct WaybillRow {
     pub pieces: i64,
     /// The declared weight in tenths of a kilogram.
     pub tenths: i64,
-    /// What the goods are.
+    /// The nature of the goods.
     pub goods: String,
     /// 1 where the consignee was notified, else 0.
     pub notified: i64,

@@ -15,7 +15,7 @@ use Rattle.row_codec.specs.Meaning.{meaning_of, IsReadable, Means}
 use Rattle.row_codec.specs.Moves.{move_by}
 use Rattle.state_store.specs.Store.{at_rest}
 use Rattle.table_state.specs.Shown.{Knows, HasThese}
-use Rattle.table_audits.proofs.Laws.{lawful_each}
+use Rattle.table_audits.proofs.LawfulTables.{lawful_each}
 use Rattle.table_audits.proofs.Declared.{each_lawful, same_tables}
 use Rattle.table_audits.proofs.Judged.{fit}
 use Rattle.table_audits.proofs.Typed.{station_held_whole}

@@ -4,7 +4,7 @@ ghost use Rattle.station_core.specs.Ends.{HasCause};
 ghost use Rattle.stock_list.specs.Answered.{HasAnsweredRow};
 ghost use Rattle.stock_list.specs.Come.{come};
 ghost use Rattle.stock_list.specs.Ended.{IsUntroubled, TellsWriting, run_fault};
-ghost use Rattle.input_reasons.specs.Reason.{HasReason};
+ghost use Rattle.input_reasons.specs.Reason.{HasReason, numbered_head};
 ghost use Rattle.stock_list.specs.Lines.{answer_text, answer_line, bad_line};
 ghost use Rattle.stock_list.specs.Reasons.{row_head, HasToldRow};
 
@@ -95,7 +95,9 @@ pub fn keeper_fault(fault: ActFault) -> RunFault
 /// Writes the reason why a row is malformed, as far as the writer takes it. If memory runs out,
 /// nothing is written.
 fn tell_row<E: ByteOut>(alloc: Global, errors: &mut E, row: &ByteRecord, line: u64)
-    ensures { HasReason row_head (E.taken errors.old).bytes (E.taken errors.new).bytes }
+    ensures own { HasReason (numbered_head line) (E.taken errors.old).bytes
+        (E.taken errors.new).bytes }
+    ensures line { HasReason row_head (E.taken errors.old).bytes (E.taken errors.new).bytes }
 {
     tell_reason(errors, row_reason(alloc, row, line));
 }
@@ -119,6 +121,8 @@ pub fn answer_bad_row<W: ByteOut, E: ByteOut>(
         (bad_line place.number)))) }
     ensures writing { TellsWriting (W.taken writer.old) (W.taken writer.new) result }
     ensures reasons { HasToldRow E.taken result None errors.old errors.new }
+    ensures own { OnOk result (HasReason (numbered_head place.line) (E.taken errors.old).bytes
+        (E.taken errors.new).bytes) }
 {
     let Ok(line) = bad_line(alloc, place.number) else {
         return Err(RunFault::Memory);

@@ -2,7 +2,7 @@
 #![tactic(auto)]
 
 mod answer;
-mod law;
+mod laws;
 mod lines;
 mod row;
 mod run;
@@ -11,7 +11,7 @@ mod watched;
 pub use answer::{
     RowPlace, RunFault, answer_bad_row, answer_row, answer_text, keeper_fault, send_line,
 };
-pub use law::list_law;
+pub use laws::list_law;
 pub use lines::{LineByLine, LineCount, line_by_line};
 pub use row::read_row;
 pub use run::{list_fault, told_by};

@@ -1,4 +1,4 @@
-//! What stays of the rows at the ends of a run.
+//! The rests of the rows at the ends of a run.
 ghost use Rattle.std.specs.Prelude.{◌≡◌, ◌≤◌, ◌+◌, IsSome, IfSome};
 ghost use Rattle.std.specs.List.{AllByRecursion};
 ghost use Rattle.stock_tables.specs.Rows.{Before, Behind};
@@ -7,15 +7,15 @@ ghost use Rattle.agent_stock.specs.Runs.{IsRunRow};
 use agent_stock::{Holder, StockRun};
 use awb_number::Awb;
 
-/// How many numbers a row has.
+/// Returns the number of serials of a row.
 fn count_of(row: &StockRun) -> u32
     ensures { result ≡ row.now.count }
 {
     row.count
 }
 
-/// Where the new row begins, and what stays of the row that stands out before the run. `None`: that
-/// row doesn't reach the run.
+/// Returns where the new row begins, and the rest of the row that stands out before the run.
+/// `None`: that row doesn't reach the run.
 pub(crate) fn before(near: &[StockRun], first: u64, to: &Holder) -> Option<(u64, Option<StockRun>)>
     ensures cut { IfSome result (λ r. Before first to.now near.now r.0 r.1) }
     ensures some { AllByRecursion (λ row. first ≤ row.first + row.count) near.now → IsSome result }
@@ -43,8 +43,8 @@ pub(crate) fn before(near: &[StockRun], first: u64, to: &Holder) -> Option<(u64,
     Some((first, Some(left)))
 }
 
-/// Where the new row ends, and what stays of the row that stands out behind the run. `None`: that
-/// row isn't one of numbers.
+/// Returns where the new row ends, and the rest of the row that stands out behind the run. `None`:
+/// that row isn't one of numbers.
 pub(crate) fn behind(near: &[StockRun], end: u64, to: &Holder) -> Option<(u64, Option<StockRun>)>
     ensures cut { IfSome result (λ r. Behind end to.now near.now r.0 r.1) }
     ensures some { end ≤ 10_000_000_000

@@ -16,8 +16,8 @@ fn later(one: u64, other: u64) -> u64
     if one < other { other } else { one }
 }
 
-/// Whether there is a number from `from` on, below `to` and `end`, and its holder, or none, fails
-/// the test.
+/// Returns whether there is a number from `from` on, below `to` and `end`, whose holder, or none,
+/// fails the test.
 fn fails(test: &Test, holder: &Option<Holder>, from: u64, to: u64, end: u64) -> bool
     ensures { IsTrue result
         ↔ ((from < to) × ((from < end) × (passes test.now holder.now ≡ false))) }

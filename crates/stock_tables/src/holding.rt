@@ -1,4 +1,4 @@
-//! Who holds a number.
+//! The holder of a number.
 ghost use Rattle.std.specs.Prelude.{◌≡◌, IfOk};
 ghost use Rattle.row_codec.specs.Stock.{holders_in, run_in};
 ghost use Rattle.station_rows.specs.Clauses.{Reads};
@@ -25,8 +25,9 @@ fn holder_in(row: &StockRow, awb: &Awb) -> Result<Option<Holder>, StoreFault>
     }
 }
 
-/// Who holds a number: `None` where it isn't in stock. Inside a transaction or outside. A fault:
-/// the database call failed, or an earlier one did; outside a transaction it changes nothing.
+/// Returns the holder of a number, `None` if it isn't in stock, inside a transaction or outside. A
+/// fault: the database call failed, or an earlier one did; outside a transaction it changes
+/// nothing.
 pub fn holder<S: TableStore>(store: &mut S, awb: &Awb) -> Result<Option<Holder>, StoreFault>
     ensures { Reads (S.view store.old) (S.view store.new) result
         (λ tables holder. Stocked tables → holder ≡ holders_in tables.stock awb.now) }

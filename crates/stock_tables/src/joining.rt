@@ -1,4 +1,4 @@
-//! What stands in place of the rows that a run touches.
+//! The rows in place of those that a run touches.
 ghost use Rattle.std.specs.Prelude.{◌≡◌, ◌++◌, true, List, IsSome, IfSome};
 ghost use Rattle.agent_stock.specs.Stock.{is_run, assigned};
 ghost use Rattle.agent_stock.specs.declared.runs.StockRun.{StockRun as Row};
@@ -15,15 +15,15 @@ pub(crate) const SERIALS: u64 = awb_number::SERIALS as u64;
 /// The rows that are written in place of those that a run touches, in ascending order.
 #[derive(Clone, Copy)]
 pub struct Joined {
-    /// What stays of a row of another holder that begins before the run.
+    /// The rest of a row of another holder that begins before the run.
     pub left: Option<StockRun>,
     /// The run, with the neighbours of its holder.
     pub row: StockRun,
-    /// What stays of a row of another holder that ends behind the run.
+    /// The rest of a row of another holder that ends behind the run.
     pub right: Option<StockRun>,
 }
 
-/// What stands in place of the rows that a run touches, where the run goes to a holder: the rows
+/// Returns the rows in place of those that a run touches, if the run goes to a holder: the rows
 /// that the run cuts are split, and the run is joined with the rows beside it that its new holder
 /// has. A row that only stands beside the run and has another holder comes back as it was. `None`:
 /// the rows aren't in ascending order, or end past their prefix.

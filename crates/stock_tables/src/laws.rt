@@ -1,4 +1,4 @@
-//! What rows of the stock's table say as runs.
+//! The runs that the rows of the stock's table mean.
 ghost use Rattle.std.specs.Prelude.{◌≡◌, map};
 ghost use Rattle.std.specs.FinMap.{FinMap, entries};
 ghost use Rattle.station_schema.specs.Tables.{Stock, stock_cmp};

@@ -15,8 +15,8 @@ use station_rows::{LastStockUpTo, StockBetween, StockRow, StockUpTo, StoreFault,
 use std::alloc::Global;
 use std::slice;
 
-/// How many rows an order reads at once: a single number touches three at most, its own and those
-/// beside it.
+/// The number of rows that an order reads at once: a single number touches three at most, its own
+/// and those beside it.
 const ROWS_AT_ONCE: u32 = 3;
 
 /// Rows as runs, behind others. `None`: a row is out of range, or memory runs out.
@@ -71,8 +71,8 @@ fn reaching_rows(alloc: Global, run: &Run, rows: &[StockRun]) -> Option<Vec<Stoc
     Some(near)
 }
 
-/// Whether no row before these, the last up to the end of a run, can touch the run: they are all,
-/// or the first of them begins before it.
+/// Returns whether no row before these, the last up to the end of a run, can touch the run: they
+/// are all, or the first of them begins before it.
 fn are_all_near(run: &Run, rows: &[StockRun]) -> bool
     ensures { result ≡ are_enough 3 run.now rows.now }
 {

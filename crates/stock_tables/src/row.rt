@@ -16,7 +16,7 @@ pub(crate) fn end_key(row: &StockRun) -> u64
     row.first.key() + u64::from(row.count)
 }
 
-/// What stands in a row for a holder: its number, and the agent's code.
+/// Returns the columns of a holder: its number, and the agent's code.
 fn stored(holder: &Holder) -> (i64, &str)
     ensures number { result.0 ≡ holder_number holder.now }
     ensures code { result.1.now ≡ code_of holder.now }

@@ -18,7 +18,7 @@ use awb_number::Awb;
 use station_rows::{DeleteStock, InsertStock, StockRow, StoreFault, TableStore, UpdateStock};
 use std::alloc::Global;
 
-/// Whether one of the rows begins with a number.
+/// Returns whether one of the rows begins with a number.
 fn has_first(rows: &[StockRun], number: &Awb) -> bool
     ensures { result ≡ begins number.now rows.now }
 {
@@ -35,7 +35,7 @@ fn is_first(row: &Option<StockRun>, number: &Awb) -> bool
     }
 }
 
-/// Whether one of the new rows begins with a number.
+/// Returns whether one of the new rows begins with a number.
 fn keeps(new: &Joined, number: &Awb) -> bool
     ensures { result ≡ begins number.now (written new.now) }
 {

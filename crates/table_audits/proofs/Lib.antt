@@ -12,7 +12,7 @@ pub mod FlightRows
 pub mod Judged
 pub mod KeptKeyLaws
 pub mod KeptTextLaws
-pub mod Laws
+pub mod LawfulTables
 pub mod Listed
 pub mod Lists
 pub mod Made

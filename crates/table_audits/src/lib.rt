@@ -14,7 +14,7 @@ mod judge;
 mod kept_key;
 mod kept_text;
 mod known;
-mod law;
+mod laws;
 mod lookups;
 mod name;
 mod numbers;
@@ -34,7 +34,7 @@ mod trail;
 mod unfit;
 mod waybill;
 
-pub use law::{
+pub use laws::{
     flights_listed, lawful_is_station, lawful_tables_mean, station_is_fit, station_is_typed,
 };
 pub use name::TableName;

@@ -1,4 +1,4 @@
-//! How many waybills are on a flight, and what a move makes of it.
+//! The number of waybills on a flight, and how a move changes it.
 ghost use Rattle.std.specs.Prelude.{◌≡◌, ◌∷◌, [], ◌++◌, length, List, Some, IfSome};
 ghost use Rattle.shipment_machine.specs.Book.{same_place, waybills_on};
 ghost use Rattle.shipment_machine.specs.declared.moves.Move as cargo;
@@ -9,7 +9,7 @@ ghost use Rattle.table_state.specs.Shown.{IsBoarded, AreBoarded, joins};
 use crate::counted::{Boarded, Boardings, MOST_FLIGHTS};
 use shipment_machine::{FlightDate, Move, Place};
 
-/// Whether a place is on a flight.
+/// Returns whether a place is on a flight.
 fn is_on(flight: &FlightDate, place: &Place) -> bool
     ensures { result ≡ same_place (Built flight.now) place.now }
 {
@@ -31,15 +31,15 @@ fn number_of(boarded: Option<Boarded>, flight: &FlightDate) -> Option<usize>
     }
 }
 
-/// Whether the pieces of a move are the first of their waybill where so many were before.
+/// Returns whether a move brings the first pieces of its waybill to where so many were before.
 fn joins(movement: &Move, were: i64) -> bool
     ensures { result ≡ joins were movement.now.pieces }
 {
     were <= 0 && -i64::from(movement.pieces.number()) < were
 }
 
-/// What is kept after a move, where so many pieces of its waybill were before at the place that it
-/// comes to. Nothing is kept of a flight that it leaves.
+/// Returns the kept number after a move, if so many pieces of its waybill were at its destination
+/// before. Nothing is kept of a flight that it leaves.
 fn after_move(boarded: Option<Boarded>, movement: &Move, were: i64) -> Option<Boarded>
     ensures { (book : List cargo.Move) → IsBoarded boarded book → WereThere book movement.now were
         → IsBoarded result (book ++ movement.now ∷ []) }

@@ -19,7 +19,7 @@ use state_store::StoreFault;
 use station_rows::{InsertPart, InsertTrailLine, TableStore, UpdateConfirmed};
 
 impl<S: TableStore> TableState<S> {
-    /// What is declared of a waybill from now on.
+    /// Declares a waybill.
     pub(crate) fn declare(&mut self, awb: &Awb, declared: &Declared) -> Result<(), StoreFault>
         ensures { Changes (in_tables S.view) self.old self.new result
             (on_cargo (written [] (Declare awb.now declared.now))) }
@@ -37,7 +37,7 @@ impl<S: TableStore> TableState<S> {
         stock_tables::use_up(self.alloc, &mut self.store, awb)
     }
 
-    /// What is noted of an outbound flight from now on.
+    /// Notes an outbound flight.
     pub(crate) fn note_flight(
         &mut self,
         flight: &FlightDate,
@@ -58,7 +58,7 @@ impl<S: TableStore> TableState<S> {
         )
     }
 
-    /// What is expected of a waybill on a flight from now on.
+    /// Notes the expectation of a waybill on a flight.
     pub(crate) fn expect(
         &mut self,
         flight: &FlightDate,

@@ -1,4 +1,4 @@
-//! What is counted of the state that is shown.
+//! Counts of the state that is shown.
 ghost use Rattle.std.specs.Prelude.{◌≤◌};
 ghost use Rattle.station_core.specs.Step.{most_rows};
 
@@ -8,7 +8,7 @@ use running_totals::KnownSums;
 use shipment_machine::FlightDate;
 use station_core::Sizes;
 
-/// How many waybills have something built on a flight.
+/// The number of waybills that are built on a flight.
 #[derive(Clone, Copy)]
 pub(crate) struct Boarded {
     pub(crate) flight: FlightDate,
@@ -18,7 +18,7 @@ pub(crate) struct Boarded {
 /// Of how many flights the number of waybills is kept: as many as are built up at one time.
 pub(crate) const MOST_FLIGHTS: usize = 32;
 
-/// How many waybills are on the flights that were asked for last.
+/// The numbers of waybills on the flights that were asked for last.
 #[derive(Clone, Copy)]
 pub(crate) struct Boardings {
     pub(crate) flights: [Option<Boarded>; MOST_FLIGHTS],
@@ -26,9 +26,8 @@ pub(crate) struct Boardings {
     pub(crate) next: usize,
 }
 
-/// How many rows there are that are numbered, which all have a number, how many waybills are on
-/// flights, which waybills are listed and what is open of what flights are to bring, where this is
-/// known, and what is known of sums.
+/// The numbers of numbered rows, which are always known; and as far as they are known: the numbers
+/// of waybills on flights, the listed waybills, the open lines of flights, and sums.
 #[derive(Drop)]
 pub(crate) struct Counted {
     pub(crate) sizes: Sizes,

@@ -1,4 +1,4 @@
-//! What flights are to bring.
+//! Expectations of flights.
 #![tactic(auto, using(crate::proofs::Lifting::rests_on, crate::proofs::Lifting::survives_so))]
 
 ghost use Rattle.station_core.specs.Readers.{AreExpectations, expected_for};
@@ -23,7 +23,7 @@ impl<S: TableStore> TableState<S> {
         waybills_expected(self.alloc, &rows)
     }
 
-    /// What is open of it, from one pass over all rows. It is kept, unless memory runs out.
+    /// Returns its open lines, from one pass over all rows. They are kept, unless memory runs out.
     fn open_in_all(&mut self) -> Result<Vec<Expectation>, StoreFault>
         ensures { ReadsAtRest (in_tables S.view) self.old self.new result
             (λ s rows. AreExpectations (expected_for Open s.cargo.expected) rows.items) }
@@ -34,7 +34,7 @@ impl<S: TableStore> TableState<S> {
         Ok(open)
     }
 
-    /// What is open of it: from what is kept, without a read, or from one pass over all rows.
+    /// Returns its open lines: the kept ones, without a read, or from one pass over all rows.
     pub(crate) fn open_lines(&mut self) -> Result<Vec<Expectation>, StoreFault>
         ensures { ReadsAtRest (in_tables S.view) self.old self.new result
             (λ s rows. AreExpectations (expected_for Open s.cargo.expected) rows.items) }

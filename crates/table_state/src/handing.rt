@@ -11,7 +11,7 @@ use state_store::StoreFault;
 use station_core::{BookRow, Message, Sink, TrailRow as ReaderLine};
 use station_rows::{MessageRow, MoveRow, TrailRow};
 
-/// How a reader ends whose rows were handed on, by how they were read.
+/// Returns the result of a reader whose rows were handed on, by that of the read.
 pub(crate) fn ended(read: Result<(), StoreFault>, stuck: bool) -> Result<(), StoreFault>
     ensures { OnOk result (IsOk read × (stuck ≡ false)) }
 {
@@ -81,7 +81,7 @@ impl<'a, K> Telling<'a, K> {
         Telling { sink, stuck: false }
     }
 
-    /// Whether a row couldn't be told.
+    /// Returns whether a row had no meaning.
     pub(crate) fn is_stuck(&self) -> bool
         ensures { result ≡ self.now.stuck }
     {

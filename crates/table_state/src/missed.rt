@@ -46,7 +46,7 @@ impl Missed {
         remember(&mut self.waybills, awb);
     }
 
-    /// Whether the row of a waybill was remembered as missing. It is forgotten.
+    /// Returns whether the row of a waybill was remembered as missing, and forgets it.
     pub(crate) fn take_waybill(&mut self, awb: &Awb) -> bool {
         self.waybills.remove(&awb.key())
     }
@@ -56,7 +56,7 @@ impl Missed {
         self.flight = Some(*flight);
     }
 
-    /// Whether the row of a flight was remembered as missing. It is forgotten.
+    /// Returns whether the row of a flight was remembered as missing, and forgets it.
     pub(crate) fn take_flight(&mut self, flight: &FlightDate) -> bool {
         let is_missing = self.flight == Some(*flight);
         if is_missing {
@@ -75,7 +75,7 @@ impl Missed {
         remember(&mut self.expected, awb);
     }
 
-    /// Whether the row of a waybill on a flight was remembered as missing. It is forgotten.
+    /// Returns whether the row of a waybill on a flight was remembered as missing, and forgets it.
     pub(crate) fn take_expected(&mut self, flight: &FlightDate, awb: &Awb) -> bool {
         self.manifest == Some(*flight) && self.expected.remove(&awb.key())
     }

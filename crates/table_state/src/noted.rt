@@ -1,4 +1,4 @@
-//! What is noted of flights and what they are to bring, by rows.
+//! Flights and expectations, by rows.
 ghost use Rattle.std.specs.Prelude.{◌≡◌, map, Some, IfOk};
 ghost use Rattle.station_rows.specs.Meant.{listed_waybill_meant, noted_flight_meant};
 ghost use Rattle.row_codec.specs.Flights.{noted_by};

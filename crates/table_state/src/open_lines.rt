@@ -1,4 +1,4 @@
-//! What is open of what flights are to bring, where this is known.
+//! The open lines of flights, as far as they are known.
 ghost use Rattle.std.specs.Prelude.{Some};
 ghost use Rattle.state_store.specs.ExpectedLines.{Lines, with_line};
 ghost use Rattle.station_core.specs.Readers.{AreExpectations, expected_for};
@@ -19,7 +19,7 @@ pub(crate) struct OpenLines {
     pub(crate) kept: Option<ExpectedLines>,
 }
 
-/// What is kept of the open lines after a line is written. Without memory for the line nothing is
+/// Returns the kept open lines after a line is written. Without memory for the line nothing is
 /// kept.
 fn after_line(
     kept: Option<ExpectedLines>,

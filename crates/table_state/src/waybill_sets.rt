@@ -21,8 +21,8 @@ pub(crate) struct WaybillSets {
     pub(crate) irregular: Option<BTreeSet<u64>>,
 }
 
-/// Whether a waybill may be asked for after a move and not before: pieces come in from outside the
-/// store, or are missing or found.
+/// Returns whether a waybill may be asked for after a move and not before: pieces come in from
+/// outside the store, or are missing or found.
 fn opens(query: WaybillQuery, movement: &Move) -> bool
     ensures { result ≡ opens query movement.now }
 {
@@ -34,7 +34,7 @@ fn opens(query: WaybillQuery, movement: &Move) -> bool
     }
 }
 
-/// What is kept of the waybills that are asked for, after a move. Without memory for the waybill of
+/// Returns the kept waybills that are asked for, after a move. Without memory for the waybill of
 /// the move nothing is kept.
 fn after_move(
     kept: Option<BTreeSet<u64>>,

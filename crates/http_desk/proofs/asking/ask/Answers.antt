@@ -43,6 +43,9 @@ returns-in-Look-clause-shut g c = λ broken.
 pub returns-in-Waybill-clause-shut : goal.returns-in-Waybill-clause-shut
 returns-in-Waybill-clause-shut g c = λ broken. shut_unavailable c.args.at c.args.wanted.now c.ask_waybill.result (c.ask_waybill.ensures.shut broken).1
 
+pub returns-in-History-clause-shut : goal.returns-in-History-clause-shut
+returns-in-History-clause-shut g c = λ broken. shut_unavailable c.args.at c.args.wanted.now c.ask_history.result (c.ask_history.ensures.shut broken).1
+
 pub returns-in-Holder-clause-shut : goal.returns-in-Holder-clause-shut
 returns-in-Holder-clause-shut g c = λ broken. shut_unavailable c.args.at c.args.wanted.now c.ask_holder.result (c.ask_holder.ensures.shut broken).1
 

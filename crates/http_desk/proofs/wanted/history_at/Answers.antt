@@ -1,0 +1,11 @@
+use Rattle.std.proofs.Common.{◌∙◌, ap, refl}
+use Rattle.std.specs.Result.{result_ok}
+use Rattle.awb_number.specs.Number.{number_of}
+use Rattle.http_desk.proofs.Wanting.{history_wanted, no_history}
+use Rattle.http_desk.proofs.wanted.history_at.Goals as goal
+
+pub returns-in-Some : goal.returns-in-Some
+returns-in-Some c = history_wanted c.args.name.now c.in-Some.number (c.in-Some.ensures ∙ ap (λ text. result_ok (number_of text)) c.as_bytes.ensures.value)
+
+pub returns-in-None : goal.returns-in-None
+returns-in-None c = no_history c.args.name.now _ refl (c.in-None.ensures ∙ ap (λ text. result_ok (number_of text)) c.as_bytes.ensures.value)
