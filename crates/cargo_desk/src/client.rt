@@ -3,7 +3,7 @@ ghost use Rattle.std.specs.Io.{ReadsAtMost};
 
 use cli_run::Feed;
 use cli_words::LineCommand;
-use desk_client::{Connect, LastTry, Service, ask_command, end_asked};
+use desk_client::{Connect, LastTry, RemoteDesk, ask_command, end_asked};
 use station_core::{Counted, InputReader};
 use std::cell::{Cell, RefCell};
 use std::io;
@@ -162,7 +162,7 @@ pub fn ask_port<R: InputReader + Drop>(
     reader: R,
 ) -> u8 {
     let link = Link::new();
-    let mut service = Service {
+    let mut service = RemoteDesk {
         connections: Connections {
             rt,
             port,

@@ -2,18 +2,17 @@
 
 use crate::files::{FileConnection, make_file, open_file, tell_unopened};
 use cli_call::{
-    DeskFault, FileEnd, Service, end, run_file, run_file_beside, run_gathered, serve_file,
-    serve_file_beside, serve_kept, tell_undeclared,
+    DeskFault, FileEnd, Service, end, run_file, run_gathered, serve_file, serve_kept,
+    tell_undeclared,
 };
 use cli_run::{Feed, airport_of_line, is_migration, is_opening};
 use cli_words::Line;
-use map_state::MapState;
-use sqlite::{Connection, FileStore};
-use sqlite_disk::Disk;
+use sqlite::{Alter, Connection};
+use state_store::MapState;
 use station_core::{ByteOut, Counted, InputReader, Keeper};
 use station_days::Moment;
 use station_engine::StoredStation;
-use station_files::OwnTrees;
+use station_files::FileBacked;
 use stock_list::RunFault;
 
 /// The task of a command line.
@@ -78,7 +77,11 @@ fn run_in_memory<R: InputReader + Drop>(
 }
 
 /// Warns if the tables of the file are declared differently, and returns the exit status.
-fn end_file<D: Disk + Drop, E: ByteOut>(line: &Line<'_>, ended: FileEnd<D>, errors: &mut E) -> u8 {
+fn end_file<F: Drop, L: Drop, E: ByteOut>(
+    line: &Line<'_>,
+    ended: FileEnd<F, L>,
+    errors: &mut E,
+) -> u8 {
     if ended.status <= 1 && !ended.is_declared && !is_opening(line) {
         tell_undeclared(errors, line);
     }
@@ -86,18 +89,21 @@ fn end_file<D: Disk + Drop, E: ByteOut>(line: &Line<'_>, ended: FileEnd<D>, erro
 }
 
 /// Returns the exit status of a service whose file was closed.
-fn end_served<D: Disk + Drop>(ended: FileEnd<D>) -> u8 {
+fn end_served<F: Drop, L: Drop>(ended: FileEnd<F, L>) -> u8 {
     ended.status
 }
 
 /// Does a command line's task over a connection to a file, and closes the file. Each answer is
 /// written before the next input acts.
-fn run_whole<D: Disk + Drop, R: InputReader + Drop>(
+fn run_in_file<F: Drop, L: Drop, S: Alter, R: InputReader + Drop>(
     rt: &HostRuntime,
     line: &Line<'_>,
-    conn: Connection<FileStore<D>>,
+    conn: Connection<S>,
     task: Task<'_, R>,
-) -> u8 {
+) -> u8
+where
+    Connection<S>: FileBacked<F, L>,
+{
     let alloc = rt.alloc();
     let mut output = Counted::new(rt.stdout());
     let mut errors = Counted::new(rt.stderr());
@@ -114,29 +120,6 @@ fn run_whole<D: Disk + Drop, R: InputReader + Drop>(
     }
 }
 
-/// The same as `run_whole`, over a connection that shows the tables and indexes that `init` makes.
-fn run_beside<D: Disk + Drop, R: InputReader + Drop>(
-    rt: &HostRuntime,
-    line: &Line<'_>,
-    conn: Connection<OwnTrees<FileStore<D>>>,
-    task: Task<'_, R>,
-) -> u8 {
-    let alloc = rt.alloc();
-    let mut output = Counted::new(rt.stdout());
-    let mut errors = Counted::new(rt.stderr());
-    match task {
-        Task::Run { reader, at } => {
-            let mut feed = Feed::new(reader);
-            let ended = run_file_beside(alloc, line, conn, &mut feed, &mut output, &mut errors, at);
-            end_file(line, ended, &mut errors)
-        }
-        Task::Serve(service) => {
-            let ended = serve_file_beside(&service, line, conn, &mut output, &mut errors);
-            end_served(ended)
-        }
-    }
-}
-
 /// Does a command line's task over its station: in memory without a file.
 pub fn run_over<R: InputReader + Drop>(rt: &HostRuntime, line: &Line<'_>, task: Task<'_, R>) -> u8 {
     let Some(path) = line.db else {
@@ -148,8 +131,8 @@ pub fn run_over<R: InputReader + Drop>(rt: &HostRuntime, line: &Line<'_>, task: 
         open_file(rt, path, is_migration(line))
     };
     match opened {
-        Ok(FileConnection::Whole(conn)) => run_whole(rt, line, conn, task),
-        Ok(FileConnection::Beside(conn)) => run_beside(rt, line, conn, task),
+        Ok(FileConnection::Whole(conn)) => run_in_file(rt, line, conn, task),
+        Ok(FileConnection::Beside(conn)) => run_in_file(rt, line, conn, task),
         Err(fault) => {
             let status = end_call(rt, Err(fault.ended()));
             tell_unopened(rt, path, fault);

@@ -2,20 +2,15 @@
 use Rattle.std.proofs.Common.{◌<◌, ◌≤◌, length, ◌≡◌, ◌⊎◌, ℕ, zero, suc, ◌+◌, Bool, true, false, IsTrue, inl, inr, Option, Some, None, Result, Ok, Err, List, [], ◌∷◌, ◌++◌, take, All, refl, sym, ap, subst, ◌∙◌, arith}
 use Rattle.std.specs.Prelude.{OnOk}
 use Rattle.std.proofs.Math.Logic.{∥∥₁_elim, ∥∥₁_map}
+use Rattle.std.proofs.lemmas.Bool.{cases_Bool}
 use Rattle.shipment_machine.proofs.Conserved.{is_conserved}
 use Rattle.shipment_machine.proofs.Shown.{are_balances}
-use Rattle.sqlite.proofs.Theorems.{next_run}
 use Rattle.sqlite.specs.Effect.{Database}
-use Rattle.sqlite.specs.Files.{file_state, image_of, over_files, IsClosed}
 use Rattle.sqlite.specs.Held.{state, Held}
-use Rattle.sqlite.specs.Start.{FindsIn}
 use Rattle.sqlite.specs.State as conn
-use Rattle.sqlite_disk.specs.declared.Disk.{Ghosts}
-use Rattle.sqlite_disk.specs.declared.Files.{Files}
-use Rattle.sqlite_store.specs.FileStore.{recovers, view}
-use Rattle.sqlite_store.specs.declared.store.FileStore.{FileStore}
+use Rattle.sqlite_trees.specs.declared.schema.Object.{Object}
+use Rattle.sqlite_trees.specs.declared.store.Store.{Ghosts}
 use Rattle.sqlite_trees.specs.Tree.{Trees}
-use Rattle.sqlite_wal.specs.Recovery.{Image}
 use Rattle.station_days.specs.Date.{LocalMinute}
 use Rattle.station_core.specs.Given.{Given}
 use Rattle.station_core.specs.declared.answer.Answer.{Answer}
@@ -24,8 +19,10 @@ use Rattle.station_core.specs.declared.input.Input.{Input}
 use Rattle.station_core.specs.Keeping.{Keeping, KeepsSound}
 use Rattle.station_core.specs.Retries.{RetryEvent, World, after_events, world_after, ActsOnce, committed}
 use Rattle.station_core.specs.Step.{State, IsLawfulState, step, after_all}
+use Rattle.station_files.specs.Backing.{Backing, HasEnded, LeadsOn}
 use Rattle.station_tables.specs.Attached.{connection_in}
-use Rattle.station_tables.specs.Called.{GoesOn, HasFound, HasReleased}
+use Rattle.station_schema.specs.Connection.{connection_view}
+use Rattle.station_tables.specs.Called.{GoesOn, HasFound, HasMade, HasReleased}
 use Rattle.station_tables.specs.Lives.{Life, AreCounted, AreLives, Counts, in_order, IsAfterLife, IsAfterLives}
 use Rattle.station_tables.specs.declared.fault.AttachFault.{AttachFault}
 use Rattle.station_tables.specs.declared.fault.AttachFault.TheVariants as attach
@@ -36,7 +33,6 @@ use Rattle.cli_run.specs.Done.{HasDone}
 use Rattle.cli_run.specs.Ends.{reached, Ends, Reached}
 use Rattle.cli_run.specs.Left.{station_fault, AsksAt, HasLeft}
 use Rattle.cli_run.specs.Place.{here_of, is_new}
-use Rattle.cli_call.specs.Closed.{HasClosed, IsCopiedTwice}
 use Rattle.cli_words.specs.declared.line.Line.{Line}
 use Rattle.desk_server.specs.Asked.{store_fault, HasServedInputs}
 use Rattle.desk_server.specs.Served.{Exchange, GoesOn as ServesOn, HaveServed}
@@ -47,7 +43,7 @@ use Rattle.cli_call.specs.Service.{HasEndedService, HasServedStation}
 use Rattle.cli_call.specs.Ended.{run_ended, status_of, HasNoStation}
 use Rattle.line_opening.specs.Opened.{HasOpened}
 use Rattle.cli_call.specs.Ran.{HasEndedCall, HasRunLine}
-use Rattle.cli_call.specs.OneFile.{life_events, may_hold, was_true, opened_by, opened_in, AreCallsOn, AreEventsOf, AreInputsOf, AreLivesOf, AreVain, by_command, by_service, CallOn, DidOver, HaveLed, IsAfterCalls, IsLifeOf, last_of, NoneLost, RunOn, VainOn}
+use Rattle.cli_call.specs.OneFile.{makes_station, life_events, opened_by, opened_in, ran_in, AreCallsOn, AreEventsOf, AreInputsOf, AreLivesOf, AreVain, by_command, by_service, CallOn, DidOver, HaveLed, IsAfterCalls, IsLifeOf, last_of, NextOn, NoneLost, RunOn, VainOn}
 
 abbrev Inputs : Type 0
 Inputs = List (Input × LocalMinute)
@@ -55,6 +51,10 @@ Inputs = List (Input × LocalMinute)
 either : {X : Type 0} → X ⊎ ⊥ → X
 either (inl x) = x
 either (inr never) = absurd never
+
+abbrev fault_or : {A E : Type 0} → E → Result A E → E
+fault_or e (Ok a) = e
+fault_or e (Err f) = f
 
 -- what counts of some lives
 
@@ -203,88 +203,59 @@ went_on P (Err e) status ran is stays all low =
     absurd (omega (arith, low, stays failed, failed))
 
 -- what a service keeps of its premise
+sound_twice : {K : Type 0} (k : Keeping K) (a b c : K) → KeepsSound k a b → KeepsSound k b c → KeepsSound k a c
+sound_twice k a b c first second = record {
+  clean = λ clean. first.clean (second.clean clean);
+  still = λ sound clean. second.still (first.still sound (second.clean clean)) clean;
+  sound = λ sound. first.sound (second.sound sound);
+}
+
 kept_served : {K : Type 0} (k : Keeping K) (all : List Exchange) (old new : K) → HaveServed k all old new → KeepsSound k old new
 kept_served k [] old new same = record {
   clean = λ clean. subst k.is_clean same clean;
   still = λ sound clean. subst k.is_sound (sym same) sound;
   sound = λ sound. subst k.is_sound same sound;
 }
-kept_served k (one ∷ all) old new (mid, before, goes, has) =
-    let first = kept_served k all old mid before in
-    record {
-      clean = λ clean. first.clean (has.premise.clean clean);
-      still = λ sound clean. has.premise.still (first.still sound (has.premise.clean clean)) clean;
-      sound = λ sound. first.sound (has.premise.sound sound);
-    }
-
--- what a close leaves is what the connection could leave, for the next opening
-module _ {D : Type 0} {disk : Ghosts D} (stays : (it : FileStore D disk) → IsTrue (view it).is_open → recovers it (view it).committed) where
-  record Closes (ran : Held (FileStore D disk)) (files : Result (Files D) (FileStore D disk)) : Type 0 where
-    pub clean : conn.HasCleanDisk (file_state ran)
-    pub next : (image : Image) → may_hold files image → (other : Held (FileStore D disk)) → FindsIn image (file_state other) → ∥ recovers ran.store (file_state other).committed.trees ∥₁
-
-  closes : {E : Type 0} (told : E → Given) (ran : Held (FileStore D disk)) (old new : ℕ × E) (files : Result (Files D) (FileStore D disk))
-      → HasClosed disk (IsCopiedTwice ran) (IsClosed ran) told old new files → was_true files → Closes ran files
-  closes told ran old new (Ok files) closed honest =
-      let copied = (closed.copied honest).0 in
-      record {
-        clean = copied.was_clean;
-        next = λ image may other finds. ∥∥₁_map (copied.left image may).both (λ held. subst (recovers ran.store) (sym (finds.holds _ held)) (stays ran.store copied.was_open));
-      }
-  closes told ran old new (Err it) closed (honest, numbered) =
-      let left = closed.left in
-      record {
-        clean = omega (arith, left.quiet.clean, honest);
-        next = λ image may other finds. ∥∥₁_map (next_run it numbered (left.sound honest) image may (file_state other) finds) (λ found. left.quiet.outcomes _ found);
-      }
+kept_served k (one ∷ all) old new (mid, before, goes, has) = sound_twice k old mid new (kept_served k all old mid before) has.premise
 
 -- one call, and the next
-module _ {D I W E : Type 0} {disk : Ghosts D} (k : Keeping (Station (FileStore D disk) over_files)) (e : Ends I W E)
-    (stays : (it : FileStore D disk) → IsTrue (view it).is_open → recovers it (view it).committed)
-    (settles : (it : FileStore D disk) (db : Trees) → IsTrue (view it).is_open → recovers it db → db ≡ (view it).committed)
-    (clean_is : (it : Station (FileStore D disk) over_files) → conn.HasCleanDisk (state over_files (connection_in it)) → k.is_clean it)
-    (clean_was : (it : Station (FileStore D disk) over_files) → k.is_clean it → conn.HasCleanDisk (state over_files (connection_in it)))
-    (lawful : (it : Station (FileStore D disk) over_files) (s : State) → k.is_sound it → k.may_find it (Some s) → IsLawfulState s)
-    (left_of : (c : LineCommand) (here : List ℕ) (at : LocalMinute) (s : State) (old new : Station (FileStore D disk) over_files × Reached I W E) (r : Result Bool RunFault)
+module _ {S F L I W E : Type 0} {g : Ghosts S} (b : Backing (Held S) F L) (trees : List Object) (k : Keeping (Station S g)) (e : Ends I W E)
+    (settles : (it : S) (db : Trees) → IsTrue (g.view it).is_open → g.recovers it db → db ≡ (g.view it).committed)
+    (closes : (ran : Held S) (end : Result F L) → HasEnded b ran end → b.was_true end → b.listed trees ran → LeadsOn g b trees ran end)
+    (clean_is : (it : Station S g) → conn.HasCleanDisk (state g (connection_in it)) → k.is_clean it)
+    (clean_was : (it : Station S g) → k.is_clean it → conn.HasCleanDisk (state g (connection_in it)))
+    (lawful : (it : Station S g) (s : State) → k.is_sound it → k.may_find it (Some s) → IsLawfulState s)
+    (left_of : (c : LineCommand) (here : List ℕ) (at : LocalMinute) (s : State) (old new : Station S g × Reached I W E) (r : Result Bool RunFault)
     → k.keeps old.0 s → k.is_broken old.0 ≡ false → k.is_sound new.0 → HasDone c here k e at old new r → HasLeft (AsksAt c at) s (k.may_find new.0) r)
-    (served_of : (all : List Exchange) (s : State) (old new : Station (FileStore D disk) over_files) → HaveServed k all old new → k.keeps old s → k.is_broken old ≡ false → k.is_sound new
+    (served_of : (all : List Exchange) (s : State) (old new : Station S g) → HaveServed k all old new → k.keeps old s → k.is_broken old ≡ false → k.is_sound new
     → HasServedInputs all s (k.is_broken new) (k.may_find new))
-    (goes_on : (last : Station (FileStore D disk) over_files) (ran other : Held (FileStore D disk)) (opened : Result (Station (FileStore D disk) over_files) (Held (FileStore D disk) × AttachFault))
-    → k.is_sound last → HasReleased k last ran → conn.HasCleanDisk (state over_files ran) → (state over_files ran).may_leave (state over_files other).now.trees
-    → HasFound over_files k other opened → GoesOn over_files k last opened) where
-  -- the exit status before the file was closed, and its connection
-  abbrev ran_in : {line : Line} {conn : Held (FileStore D disk)} {end : FileEnd D disk} → DidOver k e line conn end → ℕ × Held (FileStore D disk)
-  ran_in (by_command ran) = ran.has.ran
-  ran_in (by_service served) = served.has.ran
-
+    (goes_on : (last : Station S g) (ran other : Held S) (opened : Result (Station S g) (Held S × AttachFault))
+    → k.is_sound last → HasReleased k last ran → conn.HasCleanDisk (state g ran) → (state g ran).may_leave (state g other).now.trees
+    → HasFound g k other opened → GoesOn g k last opened) where
   -- what a call leaves of its station, and the inputs that it answered there
-  record Lived {line : Line} {conn : Held (FileStore D disk)} {end : FileEnd D disk} (did : DidOver k e line conn end) (s : State) (last : Station (FileStore D disk) over_files) : Type 0 where
+  record Lived {line : Line} {conn : Held S} {end : FileEnd F L} (did : DidOver b k e line conn end) (s : State) (last : Station S g) : Type 0 where
     pub life : Life
     pub asked : AreInputsOf did life.inputs
     pub whole : end.status ≤ 1 → NoneLost did → (life.answered ≡ length life.inputs) × (life.ended ≡ None)
     pub is : (found : State) → k.may_find last (Some found) → IsAfterLife s life found
 
-  record Ran {line : Line} {conn : Held (FileStore D disk)} {end : FileEnd D disk} (did : DidOver k e line conn end) (station : Station (FileStore D disk) over_files) : Type 0 where
-    pub last : Station (FileStore D disk) over_files
+  record Ran {line : Line} {conn : Held S} {end : FileEnd F L} (did : DidOver b k e line conn end) (station : Station S g) : Type 0 where
+    pub last : Station S g
     pub premise : KeepsSound k station last
     pub released : HasReleased k last (ran_in did).1
     pub lived : (s : State) → k.keeps station s → k.is_broken station ≡ false → k.is_sound last → Lived did s last
 
-  module _ (line : Line) (conn : Held (FileStore D disk)) (end : FileEnd D disk) where
-    found_in : (did : DidOver k e line conn end) → is_new line.db line.command ≡ false → (o : Result (Station (FileStore D disk) over_files) (Held (FileStore D disk) × AttachFault)) → opened_in did ≡ o → HasFound over_files k conn o
-    found_in (by_command ran) old o is =
-        let has = ran.has.called.called ran.runs in
-        subst (λ o. HasFound over_files k conn o) is (subst (λ new. HasOpened over_files k new conn (here_of line.station) has.opened) old has.opens)
-    found_in (by_service served) old o is =
-        let has = served.has.called in
-        subst (λ o. HasFound over_files k conn o) is (subst (λ new. HasOpened over_files k new conn (here_of line.station) has.opened) old has.opens)
+  module _ (line : Line) (conn : Held S) (end : FileEnd F L) where
+    opens_in : (did : DidOver b k e line conn end) (o : Result (Station S g) (Held S × AttachFault)) → opened_in did ≡ o → HasOpened g k (is_new line.db line.command) conn (here_of line.station) o
+    opens_in (by_command ran) o is = subst (λ o. HasOpened g k (is_new line.db line.command) conn (here_of line.station) o) is (ran.has.called.called ran.runs).opens
+    opens_in (by_service served) o is = subst (λ o. HasOpened g k (is_new line.db line.command) conn (here_of line.station) o) is served.has.called.opens
 
-    closed_in : (did : DidOver k e line conn end) → was_true end.files → Closes stays (ran_in did).1 end.files
-    closed_in (by_command ran) honest = closes stays e.told ran.has.ran.1 _ _ end.files ran.has.closed honest
-    closed_in (by_service served) honest = closes stays e.told served.has.ran.1 _ _ end.files served.has.closed honest
+    closed_in : (did : DidOver b k e line conn end) → b.was_true end.files → b.listed trees (ran_in did).1 → LeadsOn g b trees (ran_in did).1 end.files
+    closed_in (by_command ran) honest listed = closes ran.has.ran.1 end.files ran.has.closed.ended honest listed
+    closed_in (by_service served) honest listed = closes served.has.ran.1 end.files served.has.closed.ended honest listed
 
     -- a call that found no station returns the connection of its fault
-    vain_in : (did : DidOver k e line conn end) (none : Held (FileStore D disk) × AttachFault) → opened_in did ≡ Err none → (ran_in did).1 ≡ none.0
+    vain_in : (did : DidOver b k e line conn end) (none : Held S × AttachFault) → opened_in did ≡ Err none → (ran_in did).1 ≡ none.0
     vain_in (by_command ran) none is =
         let has = ran.has.called.called ran.runs in
         let ended : HasNoStation e.told none ran.from ran.has.behind ran.has.ran = subst (λ o. HasEndedCall line k e ran.at o ran.from ran.has.behind ran.has.ran) is has.ended in
@@ -295,7 +266,7 @@ module _ {D I W E : Type 0} {disk : Ghosts D} (k : Keeping (Station (FileStore D
         subst (λ o. HasEndedService k (e.printed, e.told) served.count has.all has.is_declared o (served.from, served.has.behind) served.has.ran) is has.ended in
         ended.1.conn
 
-    ends_in : (did : DidOver k e line conn end) (station : Station (FileStore D disk) over_files) → opened_in did ≡ Ok station → Ran did station
+    ends_in : (did : DidOver b k e line conn end) (station : Station S g) → opened_in did ≡ Ok station → Ran did station
     ends_in (by_command ran) station is =
         let has = ran.has.called.called ran.runs in
         let run : HasRunLine line k e ran.at station ran.from ran.has.behind ran.has.ran = subst (λ o. HasEndedCall line k e ran.at o ran.from ran.has.behind ran.has.ran) is has.ended in
@@ -317,12 +288,14 @@ module _ {D I W E : Type 0} {disk : Ghosts D} (k : Keeping (Station (FileStore D
         let run : HasServedStation k (e.printed, e.told) served.count has.all has.is_declared station (served.from, served.has.behind) served.has.ran =
         subst (λ o. HasEndedService k (e.printed, e.told) served.count has.all has.is_declared o (served.from, served.has.behind) served.has.ran) is has.ended in
         let heard = run.ran.listened in
+        let on = kept_served k has.all run.filled run.last heard.served in
         record {
           last = run.last;
-          premise = kept_served k has.all station run.last heard.served;
+          premise = sound_twice k station run.filled run.last run.reads.premise on;
           released = run.released;
           lived = λ s kept works sound.
-              let left = served_of has.all s station run.last heard.served kept works sound in
+              let still = run.reads.same s kept (on.sound sound) in
+              let left = served_of has.all s run.filled run.last heard.served still (run.reads.breaks ∙ works) sound in
               record {
                 life = record { inputs = left.inputs; answered = left.answered; ended = store_fault (k.is_broken run.last) };
                 asked = left.asked;
@@ -334,49 +307,64 @@ module _ {D I W E : Type 0} {disk : Ghosts D} (k : Keeping (Station (FileStore D
               };
         }
 
-  -- what the opening of a call found, and what it came to
-  found_as : (c : CallOn k e) (o : Result (Station (FileStore D disk) over_files) (Held (FileStore D disk) × AttachFault)) → opened_by c ≡ o → HasFound over_files k c.conn o
-  found_as c o is = found_in c.line c.conn c.end c.did c.old o is
+  -- what the opening of a call found or made, and what it came to
+  opens_as : (c : CallOn b trees k e) (o : Result (Station S g) (Held S × AttachFault)) → opened_by c ≡ o → HasOpened g k (makes_station c) c.conn (here_of c.line.station) o
+  opens_as c o is = opens_in c.line c.conn c.end c.did o is
 
-  found_by : (c : RunOn k e) → HasFound over_files k c.call.conn (Ok c.station)
-  found_by c = found_as c.call (Ok c.station) c.found
+  found_as : (c : CallOn b trees k e) (o : Result (Station S g) (Held S × AttachFault)) → opened_by c ≡ o → makes_station c ≡ false → HasFound g k c.conn o
+  found_as c o is old = subst (λ new. HasOpened g k new c.conn (here_of c.line.station) o) old (opens_as c o is)
 
-  ends_by : (c : RunOn k e) → Ran c.call.did c.station
+  works_by : (c : RunOn b trees k e) → k.is_broken c.station ≡ false
+  works_by c = go (makes_station c.call) (opens_as c.call (Ok c.station) c.found)
+    where
+      go : (new : Bool) → HasOpened g k new c.call.conn (here_of c.call.line.station) (Ok c.station) → k.is_broken c.station ≡ false
+      go true made = made.works
+      go false found = found.works
+
+  ends_by : (c : RunOn b trees k e) → Ran c.call.did c.station
   ends_by c = ends_in c.call.line c.call.conn c.call.end c.call.did c.station c.found
 
-  closed_by : (c : CallOn k e) → was_true c.end.files → Closes stays (ran_in c.did).1 c.end.files
-  closed_by c honest = closed_in c.line c.conn c.end c.did honest
+  closed_by : (c : CallOn b trees k e) → b.was_true c.end.files → LeadsOn g b trees (ran_in c.did).1 c.end.files
+  closed_by c honest = closed_in c.line c.conn c.end c.did honest c.listed
 
-  last_clean : (c : RunOn k e) → was_true c.call.end.files → k.is_clean (ends_by c).last
+  last_clean : (c : RunOn b trees k e) → b.was_true c.call.end.files → k.is_clean (ends_by c).last
   last_clean c honest = clean_is _ ((ends_by c).released.clean (closed_by c.call honest).clean)
 
-  station_clean : (c : RunOn k e) → was_true c.call.end.files → conn.HasCleanDisk (state over_files (connection_in c.station))
+  station_clean : (c : RunOn b trees k e) → b.was_true c.call.end.files → conn.HasCleanDisk (state g (connection_in c.station))
   station_clean c honest = clean_was _ ((ends_by c).premise.clean (last_clean c honest))
 
-  -- files that hold this have only what a connection could leave
-  abbrev Has : Held (FileStore D disk) → Image → Type 0
-  Has ran image = (other : Held (FileStore D disk)) → FindsIn image (file_state other) → ∥ recovers ran.store (file_state other).committed.trees ∥₁
+  -- in these files an opening finds only what a connection could leave
+  abbrev Has : Held S → F → Type 0
+  Has ran files = (other : Held S) → b.finds trees files other → ∥ (state g ran).may_leave (state g other).committed.trees ∥₁
 
-  finds_by : (c : CallOn k e) → FindsIn (image_of disk c.files) (file_state c.conn)
-  finds_by c = record { holds = c.finds.holds; reads = c.finds.reads }
+  -- no station is made where there is one, and the connection is returned as it came
+  left_alone : (conn : Held S) (here : List ℕ) (none : Held S × AttachFault) → HasMade g k conn here (Err none) → none.1 ≡ attach.Occupied → none.0 ≡ conn
+  left_alone conn here none made occupied = elim (cases_Bool (connection_view g conn).in_transaction) [
+    | inl inside ↦ absurd (let store = ap (λ r. (fault_or none r).1) (made.inside inside) in cc)
+    | inr outside ↦ ap (λ r. (fault_or none r).0) (made.occupied outside (made.taken occupied))
+  ]
 
   -- a vain call leaves what it found
-  vain_leaves : (v : VainOn k e) → was_true v.call.end.files → (db : Trees) → recovers (ran_in v.call.did).1.store db → db ≡ (file_state v.call.conn).committed.trees
+  vain_leaves : (v : VainOn b trees k e) → b.was_true v.call.end.files → (db : Trees) → (state g (ran_in v.call.did).1).may_leave db → db ≡ (state g v.call.conn).committed.trees
   vain_leaves v honest db may =
       let same = vain_in v.call.line v.call.conn v.call.end v.call.did v.none v.found in
-      let found = found_as v.call (Err v.none) v.found in
-      let clean = subst (λ (c : Held (FileStore D disk)). conn.HasCleanDisk (file_state c)) same (closed_by v.call honest).clean in
-      let there = subst (λ (c : Held (FileStore D disk)). recovers c.store db) same may in
-      settles v.call.conn.store db v.call.opens.is_open (either (found.unwritten_at_err.crash clean db there))
+      let clean = subst (λ (c : Held S). conn.HasCleanDisk (state g c)) same (closed_by v.call honest).clean in
+      let there = subst (λ (c : Held S). (state g c).may_leave db) same may in
+      settles v.call.conn.store db v.reopens.opens.is_open (elim (cases_Bool (makes_station v.call)) [
+        | inl new ↦
+            let made = subst (λ new. HasOpened g k new v.call.conn (here_of v.call.line.station) (Err v.none)) new (opens_as v.call (Err v.none) v.found) in
+            subst (λ (c : Held S). (state g c).may_leave db) (left_alone v.call.conn (here_of v.call.line.station) v.none made (v.occupied new)) there
+        | inr old ↦ either ((found_as v.call (Err v.none) v.found old).unwritten_at_err.crash clean db there)
+      ])
 
-  through : (ran : Held (FileStore D disk)) (from : Result (Files D) (FileStore D disk)) (vs : List (VainOn k e)) (image : Image) → ((i : Image) → may_hold from i → Has ran i) → AreVain from vs image → Has ran image
-  through ran from [] image base may = base image may
-  through ran from (v ∷ vs) image base (may, honest, rest) =
-      through ran v.call.end.files vs image (λ i may_i other finds.
-      ∥∥₁_elim ((closed_by v.call honest).next i may_i other finds) squash₁ (λ left.
-      subst (λ (db : Trees). ∥ recovers ran.store db ∥₁) (sym (vain_leaves v honest _ left)) (base (image_of disk v.call.files) may v.call.conn (finds_by v.call)))) rest
+  through : (ran : Held S) (from : Result F L) (vs : List (VainOn b trees k e)) (files : F) → ((f : F) → b.may_hold from f → Has ran f) → AreVain from vs files → Has ran files
+  through ran from [] files base may = base files may
+  through ran from (v ∷ vs) files base (may, honest, rest) =
+      through ran v.call.end.files vs files (λ f may_f other finds.
+      ∥∥₁_elim ((closed_by v.call honest).next f may_f other finds) squash₁ (λ left.
+      subst (λ (db : Trees). ∥ (state g ran).may_leave db ∥₁) (sym (vain_leaves v honest _ left)) (base v.reopens.files may v.call.conn v.reopens.finds))) rest
 
-  record Next (s : State) (c d : RunOn k e) : Type 0 where
+  record Next (s : State) (c d : RunOn b trees k e) : Type 0 where
     pub mid : State
     pub kept : k.keeps d.station mid
     pub sound : k.is_sound d.station
@@ -385,17 +373,17 @@ module _ {D I W E : Type 0} {disk : Ghosts D} (k : Keeping (Station (FileStore D
     pub of : IsLifeOf c life
     pub is : IsAfterLife s life mid
 
-  next : (s : State) (c d : RunOn k e) (vs : List (VainOn k e)) → k.keeps c.station s → k.is_sound c.station → was_true c.call.end.files → AreVain c.call.end.files vs (image_of disk d.call.files) → was_true d.call.end.files → ∥ Next s c d ∥₁
-  next s c d vs kept sound honest may honest_d =
+  next : (s : State) (c : RunOn b trees k e) (n : NextOn b trees k e) → k.keeps c.station s → k.is_sound c.station → b.was_true c.call.end.files → AreVain c.call.end.files n.vain n.reopens.files → b.was_true n.run.call.end.files → ∥ Next s c n.run ∥₁
+  next s c n kept sound honest may honest_d =
+      let d = n.run in
       let run = ends_by c in
       let ran = ran_in c.call.did in
       let last_sound = run.premise.still sound (last_clean c honest) in
-      let found = found_by c in
-      let lived = run.lived s kept found.works last_sound in
+      let lived = run.lived s kept (works_by c) last_sound in
       let closed = closed_by c.call honest in
-      ∥∥₁_map (through ran.1 c.call.end.files vs (image_of disk d.call.files) closed.next may d.call.conn (finds_by d.call)) (λ may_leave.
-      let shown = subst (λ (db : Database). recovers ran.1.store db.trees) (sym d.call.opens.clean) may_leave in
-      let on = goes_on run.last ran.1 d.call.conn (Ok d.station) last_sound run.released closed.clean shown (found_by d) in
+      ∥∥₁_map (through ran.1 c.call.end.files n.vain n.reopens.files closed.next may d.call.conn n.reopens.finds) (λ may_leave.
+      let shown = subst (λ (db : Database). (state g ran.1).may_leave db.trees) (sym n.reopens.opens.clean) may_leave in
+      let on = goes_on run.last ran.1 d.call.conn (Ok d.station) last_sound run.released closed.clean shown (found_as d.call (Ok d.station) d.found n.old) in
       let clean = station_clean d honest_d in
       let it = on.found clean in
       record {
@@ -408,7 +396,7 @@ module _ {D I W E : Type 0} {disk : Ghosts D} (k : Keeping (Station (FileStore D
         is = lived.is it.0 it.1;
       })
 
-  record Chain (s : State) (c : RunOn k e) (ds : List (List (VainOn k e) × RunOn k e)) : Type 0 where
+  record Chain (s : State) (c : RunOn b trees k e) (ds : List (NextOn b trees k e)) : Type 0 where
     pub last : State
     pub kept : k.keeps (last_of c ds).station last
     pub law : IsLawfulState last
@@ -416,15 +404,15 @@ module _ {D I W E : Type 0} {disk : Ghosts D} (k : Keeping (Station (FileStore D
     pub each : AreLivesOf c ds lives
     pub are : AreLives s lives last
 
-  first_true : (d : RunOn k e) (ds : List (List (VainOn k e) × RunOn k e)) → AreCallsOn d ds → was_true d.call.end.files
+  first_true : (d : RunOn b trees k e) (ds : List (NextOn b trees k e)) → AreCallsOn d ds → b.was_true d.call.end.files
   first_true d [] are = are
   first_true d (more ∷ ds) are = are.0
 
-  chain : (s : State) (c : RunOn k e) (ds : List (List (VainOn k e) × RunOn k e)) → k.keeps c.station s → k.is_sound c.station → IsLawfulState s → AreCallsOn c ds → ∥ Chain s c ds ∥₁
+  chain : (s : State) (c : RunOn b trees k e) (ds : List (NextOn b trees k e)) → k.keeps c.station s → k.is_sound c.station → IsLawfulState s → AreCallsOn c ds → ∥ Chain s c ds ∥₁
   chain s c [] kept sound law are = ∣ record { last = s; kept = kept; law = law; lives = []; each = tt; are = refl } ∣₁
   chain s c (d ∷ ds) kept sound law (honest, may, are) =
-      ∥∥₁_elim (next s c d.1 d.0 kept sound honest may (first_true d.1 ds are)) squash₁ (λ one.
-      ∥∥₁_map (chain one.mid d.1 ds one.kept one.sound one.law are) (λ rest. record {
+      ∥∥₁_elim (next s c d kept sound honest may (first_true d.run ds are)) squash₁ (λ one.
+      ∥∥₁_map (chain one.mid d.run ds one.kept one.sound one.law are) (λ rest. record {
         last = rest.last;
         kept = rest.kept;
         law = rest.law;
@@ -433,7 +421,7 @@ module _ {D I W E : Type 0} {disk : Ghosts D} (k : Keeping (Station (FileStore D
         are = (one.mid, one.is, rest.are);
       }))
 
-  pub have_led : ((start : State) (events : List RetryEvent) → ActsOnce start events) → (first : State) (c : RunOn k e) (ds : List (List (VainOn k e) × RunOn k e)) → IsLawfulState first → k.keeps c.station first → k.is_sound c.station → AreCallsOn c ds → ∥ HaveLed first c ds ∥₁
+  pub have_led : ((start : State) (events : List RetryEvent) → ActsOnce start events) → (first : State) (c : RunOn b trees k e) (ds : List (NextOn b trees k e)) → IsLawfulState first → k.keeps c.station first → k.is_sound c.station → AreCallsOn c ds → ∥ HaveLed first c ds ∥₁
   have_led once first c ds law kept sound are = ∥∥₁_map (chain first c ds kept sound law are) (λ all. record {
     last = all.last;
     kept = all.kept;

@@ -1,25 +1,20 @@
 -- Calls of the program over one file, one after another.
-use Rattle.std.specs.Prelude.{◌≤◌, ◌≡◌, ℕ, zero, suc, Bool, true, false, IsTrue, Result, Ok, Err, Option, Some, None, length, List, [], ◌∷◌, ◌++◌, All}
+use Rattle.std.specs.Prelude.{◌≤◌, ◌≡◌, ℕ, zero, suc, Bool, true, false, Result, Ok, Err, Option, Some, None, length, List, [], ◌∷◌, ◌++◌, All}
 use Rattle.std.specs.List.{AllByRecursion}
-use Rattle.sqlite.specs.Files.{file_state, image_of, over_files, Finds, IsClosed}
-use Rattle.sqlite.specs.Held.{Held}
+use Rattle.sqlite.specs.Held.{state, Held}
 use Rattle.sqlite.specs.State.{Opens}
-use Rattle.sqlite_disk.specs.declared.Disk.{Ghosts}
-use Rattle.sqlite_disk.specs.declared.Files.{Files}
-use Rattle.sqlite_store.specs.FileStore as store
-use Rattle.sqlite_store.specs.declared.store.FileStore.{FileStore}
-use Rattle.sqlite_trees.specs.View.{IsClean}
-use Rattle.sqlite_wal.specs.Files.{outcomes}
-use Rattle.sqlite_wal.specs.Reads.{AreClean}
-use Rattle.sqlite_wal.specs.Recovery.{Image}
+use Rattle.sqlite_trees.specs.declared.schema.Object.{Object}
+use Rattle.sqlite_trees.specs.declared.store.Store.{Ghosts}
 use Rattle.station_days.specs.Date.{LocalMinute}
 use Rattle.station_core.specs.declared.answer.ActFault.TheVariants as fault
 use Rattle.station_core.specs.declared.input.Input.{Input}
 use Rattle.station_core.specs.Keeping.{Keeping}
 use Rattle.station_core.specs.Retries.{RetryEvent, sent, cut_after, reopened, started, ActsOnce, committed}
-use Rattle.station_core.specs.Step.{State, after_all}
+use Rattle.station_core.specs.Step.{State, IsLawfulState, after_all}
+use Rattle.station_files.specs.Backing.{Backing}
 use Rattle.station_tables.specs.Lives.{Life, IsAfterLives}
 use Rattle.station_tables.specs.declared.fault.AttachFault.{AttachFault}
+use Rattle.station_tables.specs.declared.fault.AttachFault.TheVariants as attach
 use Rattle.station_tables.specs.declared.station.Station.{Station}
 use Rattle.cli_words.specs.declared.line.Line.{Line}
 use Rattle.cli_run.specs.Ends.{Ends, Reached}
@@ -27,28 +22,17 @@ use Rattle.cli_run.specs.Left.{AsksAt}
 use Rattle.cli_run.specs.Place.{is_migration, is_new}
 use Rattle.cli_call.specs.declared.closing.FileEnd.{FileEnd}
 use Rattle.desk_server.specs.Asked.{AreAskedBy, WasWritten}
-use Rattle.cli_call.specs.Closed.{HasCalledFile, HasClosed, IsCopiedTwice}
+use Rattle.cli_call.specs.Closed.{HasCalledFile}
 use Rattle.cli_call.specs.Service.{HasServedFile}
 
-module _ {D : Type 0} {disk : Ghosts D} where
-  -- the disk is clean; a store whose log wasn't copied was opened by the list of its trees
-  abbrev pub was_true : Result (Files D) (FileStore D disk) → Type 0
-  was_true (Ok files) = AreClean disk files.log files.db
-  was_true (Err it) = IsClean (store.view it) × IsTrue (store.view it).is_numbered
-
-  -- the possible contents of the files after a call, whether or not the power fails then
-  abbrev pub may_hold : Result (Files D) (FileStore D disk) → Image → Type 0
-  may_hold (Ok files) image = outcomes disk files.log files.db image
-  may_hold (Err it) image = (store.state it).may_leave image
-
-module _ {D I W E : Type 0} {disk : Ghosts D} (k : Keeping (Station (FileStore D disk) over_files)) (e : Ends I W E)
-    (line : Line) (conn : Held (FileStore D disk)) (end : FileEnd D disk) where
+module _ {S F L I W E : Type 0} {g : Ghosts S} (b : Backing (Held S) F L) (k : Keeping (Station S g)) (e : Ends I W E)
+    (line : Line) (conn : Held S) (end : FileEnd F L) where
   -- a command line ran over a connection to a file, which was then closed
   pub record RanOver : Type 0 where
     pub at : LocalMinute
     pub from : Reached I W E
     pub to : Reached I W E
-    pub has : HasCalledFile (λ ran. HasClosed disk (IsCopiedTwice ran) (IsClosed ran) e.told) line k e at conn (from, to) end
+    pub has : HasCalledFile b line k e at conn (from, to) end
     pub runs : is_migration line.command ≡ false
 
   -- connections were served over a connection to a file, which was then closed
@@ -56,91 +40,119 @@ module _ {D I W E : Type 0} {disk : Ghosts D} (k : Keeping (Station (FileStore D
     pub count : Option ℕ
     pub from : W × E
     pub to : W × E
-    pub has : HasServedFile (λ ran. HasClosed disk (IsCopiedTwice ran) (IsClosed ran) e.told) line k (e.printed, e.told) count conn (from, to) end
+    pub has : HasServedFile b line k (e.printed, e.told) count conn (from, to) end
 
   -- one of the two
   pub data DidOver : Type 0 where
     by_command : RanOver → DidOver
     by_service : ServedOver → DidOver
 
-module _ {D I W E : Type 0} {disk : Ghosts D} {k : Keeping (Station (FileStore D disk) over_files)} {e : Ends I W E}
-    {line : Line} {conn : Held (FileStore D disk)} {end : FileEnd D disk} where
+module _ {S F L I W E : Type 0} {g : Ghosts S} {b : Backing (Held S) F L} {k : Keeping (Station S g)} {e : Ends I W E}
+    {line : Line} {conn : Held S} {end : FileEnd F L} where
   -- the result of the opening
-  abbrev pub opened_in : DidOver k e line conn end → Result (Station (FileStore D disk) over_files) (Held (FileStore D disk) × AttachFault)
+  abbrev pub opened_in : DidOver b k e line conn end → Result (Station S g) (Held S × AttachFault)
   opened_in (by_command ran) = (ran.has.called.called ran.runs).opened
   opened_in (by_service served) = served.has.called.opened
 
+  -- the exit status before the file was closed, and its connection
+  abbrev pub ran_in : DidOver b k e line conn end → ℕ × Held S
+  ran_in (by_command ran) = ran.has.ran
+  ran_in (by_service served) = served.has.ran
+
   -- the inputs are those of the command, at its moment; or those of the connections that were
   -- served, each at its moment, in their order
-  abbrev pub AreInputsOf : DidOver k e line conn end → List (Input × LocalMinute) → Type 0
+  abbrev pub AreInputsOf : DidOver b k e line conn end → List (Input × LocalMinute) → Type 0
   AreInputsOf (by_command ran) inputs = AllByRecursion (AsksAt line.command ran.at) inputs
   AreInputsOf (by_service served) inputs = AreAskedBy served.has.called.all inputs
 
   -- no write of a service's answer failed
-  abbrev pub NoneLost : DidOver k e line conn end → Type 0
+  abbrev pub NoneLost : DidOver b k e line conn end → Type 0
   NoneLost (by_command ran) = Unit {0}
   NoneLost (by_service served) = All WasWritten served.has.called.all
 
-module _ {D I W E : Type 0} {disk : Ghosts D} where
-  -- A call of the program: it opened two files, ran a command line over them or served, and closed
-  -- them. Any fault may have ended it.
-  pub record CallOn (k : Keeping (Station (FileStore D disk) over_files)) (e : Ends I W E) : Type 0 where
-    pub files : Files D
-    pub conn : Held (FileStore D disk)
-    pub opens : Opens (file_state conn)
-    pub finds : Finds files conn
+module _ {S F L I W E : Type 0} {g : Ghosts S} (b : Backing (Held S) F L) (trees : List Object) (k : Keeping (Station S g))
+    (e : Ends I W E) where
+  -- A call of the program: it ran a command line over a connection to a file or served, and closed
+  -- the file. Any fault may have ended it.
+  pub record CallOn : Type 0 where
+    pub conn : Held S
     pub line : Line
-    pub old : is_new line.db line.command ≡ false
-    pub end : FileEnd D disk
-    pub did : DidOver k e line conn end
+    pub end : FileEnd F L
+    pub did : DidOver b k e line conn end
+    -- the premise that its run left these trees and no other
+    pub listed : b.listed trees (ran_in did).1
 
+module _ {S F L I W E : Type 0} {g : Ghosts S} {b : Backing (Held S) F L} {trees : List Object} {k : Keeping (Station S g)}
+    {e : Ends I W E} where
   -- the result of its opening
-  abbrev pub opened_by : {k : Keeping (Station (FileStore D disk) over_files)} {e : Ends I W E} → CallOn k e
-      → Result (Station (FileStore D disk) over_files) (Held (FileStore D disk) × AttachFault)
+  abbrev pub opened_by : CallOn b trees k e → Result (Station S g) (Held S × AttachFault)
   opened_by call = opened_in call.did
 
-  -- a call that found a station, and ran its command or served there
-  pub record RunOn (k : Keeping (Station (FileStore D disk) over_files)) (e : Ends I W E) : Type 0 where
-    pub call : CallOn k e
-    pub station : Station (FileStore D disk) over_files
+  -- the call makes a station, as `init` does
+  abbrev pub makes_station : CallOn b trees k e → Bool
+  makes_station call = is_new call.line.db call.line.command
+
+module _ {S F L I W E : Type 0} {g : Ghosts S} (b : Backing (Held S) F L) (trees : List Object) (k : Keeping (Station S g))
+    (e : Ends I W E) where
+  -- a call that found a station or made it, and ran its command or served there
+  pub record RunOn : Type 0 where
+    pub call : CallOn b trees k e
+    pub station : Station S g
     pub found : opened_by call ≡ Ok station
 
-  -- a vain call: it found no station, or a fault stopped its opening
-  pub record VainOn (k : Keeping (Station (FileStore D disk) over_files)) (e : Ends I W E) : Type 0 where
-    pub call : CallOn k e
-    pub none : Held (FileStore D disk) × AttachFault
+  -- the call opened these two files by the list of their trees
+  pub record Reopens (call : CallOn b trees k e) : Type 0 where
+    pub files : F
+    pub opens : Opens (state g call.conn)
+    pub finds : b.finds trees files call.conn
+
+  -- A vain call: it found no station, or a fault stopped its opening; or it would have made a
+  -- station where there is one.
+  pub record VainOn : Type 0 where
+    pub call : CallOn b trees k e
+    pub reopens : Reopens call
+    pub none : Held S × AttachFault
     pub found : opened_by call ≡ Err none
+    pub occupied : makes_station call ≡ true → none.1 ≡ attach.Occupied
 
-  module _ {k : Keeping (Station (FileStore D disk) over_files)} {e : Ends I W E} where
-    -- vain calls, each of which finds in the files what the one before it may have left there, and
-    -- what they hold then
-    abbrev pub AreVain : Result (Files D) (FileStore D disk) → List (VainOn k e) → Image → Type 0
-    AreVain end [] image = may_hold end image
-    AreVain end (vain ∷ more) image =
-        may_hold end (image_of disk vain.call.files) × was_true vain.call.end.files × AreVain vain.call.end.files more image
+  -- a run that found a station, after some vain calls
+  pub record NextOn : Type 0 where
+    pub vain : List VainOn
+    pub run : RunOn
+    pub reopens : Reopens run.call
+    pub old : makes_station run.call ≡ false
 
-    -- Calls over one file, each after some vain ones. Each finds in the files what the one before
-    -- it may have left there: nobody else wrote to them.
-    abbrev pub AreCallsOn : RunOn k e → List (List (VainOn k e) × RunOn k e) → Type 0
-    AreCallsOn c [] = was_true c.call.end.files
-    AreCallsOn c (d ∷ ds) = was_true c.call.end.files × AreVain c.call.end.files d.0 (image_of disk d.1.call.files) × AreCallsOn d.1 ds
+module _ {S F L I W E : Type 0} {g : Ghosts S} {b : Backing (Held S) F L} {trees : List Object} {k : Keeping (Station S g)}
+    {e : Ends I W E} where
+  -- vain calls, each of which finds in the files what the one before it may have left there, and
+  -- what they hold then
+  abbrev pub AreVain : Result F L → List (VainOn b trees k e) → F → Type 0
+  AreVain end [] files = b.may_hold end files
+  AreVain end (vain ∷ more) files =
+      b.may_hold end vain.reopens.files × b.was_true vain.call.end.files × AreVain vain.call.end.files more files
 
-    abbrev pub last_of : RunOn k e → List (List (VainOn k e) × RunOn k e) → RunOn k e
-    last_of c [] = c
-    last_of c (d ∷ ds) = last_of d.1 ds
+  -- Calls over one file, each after some vain ones. Each finds in the files what the one before
+  -- it may have left there: nobody else wrote to them.
+  abbrev pub AreCallsOn : RunOn b trees k e → List (NextOn b trees k e) → Type 0
+  AreCallsOn c [] = b.was_true c.call.end.files
+  AreCallsOn c (d ∷ ds) = b.was_true c.call.end.files × AreVain c.call.end.files d.vain d.reopens.files × AreCallsOn d.run ds
 
-    -- The inputs of a life are those of its call. A call that succeeded answered all of them; a
-    -- service did if no write of an answer failed.
-    pub record IsLifeOf (c : RunOn k e) (life : Life) : Type 0 where
-      pub asked : AreInputsOf c.call.did life.inputs
-      pub whole : c.call.end.status ≤ 1 → NoneLost c.call.did
-          → (life.answered ≡ length life.inputs) × (life.ended ≡ None)
+  abbrev pub last_of : RunOn b trees k e → List (NextOn b trees k e) → RunOn b trees k e
+  last_of c [] = c
+  last_of c (d ∷ ds) = last_of d.run ds
 
-    -- the lives of the calls except the last one
-    abbrev pub AreLivesOf : RunOn k e → List (List (VainOn k e) × RunOn k e) → List Life → Type 0
-    AreLivesOf c (d ∷ ds) (life ∷ lives) = IsLifeOf c life × AreLivesOf d.1 ds lives
-    AreLivesOf c [] [] = Unit {0}
-    AreLivesOf _ _ _ = ⊥
+  -- The inputs of a life are those of its call. A call that succeeded answered all of them; a
+  -- service did if no write of an answer failed.
+  pub record IsLifeOf (c : RunOn b trees k e) (life : Life) : Type 0 where
+    pub asked : AreInputsOf c.call.did life.inputs
+    pub whole : c.call.end.status ≤ 1 → NoneLost c.call.did
+        → (life.answered ≡ length life.inputs) × (life.ended ≡ None)
+
+  -- the lives of the calls except the last one
+  abbrev pub AreLivesOf : RunOn b trees k e → List (NextOn b trees k e) → List Life → Type 0
+  AreLivesOf c (d ∷ ds) (life ∷ lives) = IsLifeOf c life × AreLivesOf d.run ds lives
+  AreLivesOf c [] [] = Unit {0}
+  AreLivesOf _ _ _ = ⊥
 
 -- The events of a life that answered this many inputs, and of the next opening; `more` means that
 -- one more was cut off after its commit.
@@ -169,10 +181,19 @@ pub record IsAfterCalls (first : State) (lives : List Life) (last : State) : Typ
   pub state : last ≡ after_all first (committed (started first) events)
 
 -- the state of the last call's station, and the lives before it
-pub record HaveLed {D I W E : Type 0} {disk : Ghosts D} {k : Keeping (Station (FileStore D disk) over_files)}
-    {e : Ends I W E} (first : State) (c : RunOn k e) (calls : List (List (VainOn k e) × RunOn k e)) : Type 0 where
+pub record HaveLed {S F L I W E : Type 0} {g : Ghosts S} {b : Backing (Held S) F L} {trees : List Object} {k : Keeping (Station S g)}
+    {e : Ends I W E} (first : State) (c : RunOn b trees k e) (calls : List (NextOn b trees k e)) : Type 0 where
   pub last : State
   pub kept : k.keeps (last_of c calls).station last
   pub lives : List Life
   pub each : AreLivesOf c calls lives
   pub are : IsAfterCalls first lives last
+
+-- This holds of any number of calls, the first of which finds or makes a sound station with a lawful
+-- state.
+abbrev pub CallsLead : {S F L I W E : Type 0} {g : Ghosts S} → Backing (Held S) F L → Keeping (Station S g) → Ends I W E
+    → Type 0
+CallsLead b k e =
+    (trees : List Object) (first : State) (run : RunOn b trees k e) (runs : List (NextOn b trees k e))
+    → IsLawfulState first → k.keeps run.station first → k.is_sound run.station → AreCallsOn run runs
+    → ∥ HaveLed first run runs ∥₁

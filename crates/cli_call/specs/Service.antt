@@ -1,14 +1,12 @@
 -- The service of a command line.
 use Rattle.std.specs.Prelude.{◌≡◌, ◌≤◌, ◌↔◌, ℕ, Bool, true, false, IsTrue, MatchOption, Option, Result, Ok, Err, IfErr, IfOk, OnOk, List, [], ◌++◌, ◌∷◌, length, All, codes, ⊤}
 use Rattle.sqlite.specs.Held.{state, Held}
-use Rattle.sqlite_disk.specs.declared.Disk.{Ghosts}
-use Rattle.sqlite_disk.specs.declared.Files.{Files}
-use Rattle.sqlite_store.specs.declared.store.FileStore.{FileStore}
-use Rattle.sqlite_trees.specs.declared.store.Store as trees
+use Rattle.sqlite_trees.specs.declared.store.Store.{Ghosts}
 use Rattle.station_schema.specs.Schema.{station_schema}
 use Rattle.station_core.specs.Ends.{HasSent, SendsLine}
 use Rattle.station_core.specs.Given.{Given}
-use Rattle.station_core.specs.Keeping.{Keeping}
+use Rattle.station_core.specs.Keeping.{Keeping, OnlyReads}
+use Rattle.station_files.specs.Backing.{Backing}
 use Rattle.station_tables.specs.declared.fault.AttachFault.{AttachFault}
 use Rattle.station_tables.specs.declared.station.Station.{Station}
 use Rattle.station_tables.specs.Called.{HasReleased}
@@ -23,6 +21,7 @@ use Rattle.line_opening.specs.Opened.{HasOpened}
 use Rattle.cli_call.specs.declared.closing.FileEnd.{FileEnd}
 use Rattle.cli_call.specs.declared.ended.DeskFault.{DeskFault}
 use Rattle.cli_call.specs.declared.ended.DeskFault.TheVariants as fault
+use Rattle.cli_call.specs.Closed.{HasClosed}
 use Rattle.cli_call.specs.Ended.{status_of, HasNoStation, HasTold}
 
 -- a service's fault, as the call's
@@ -68,15 +67,17 @@ undeclared_text =
 abbrev pub HasWarned : Given → Given → Type 0
 HasWarned old new = (path : List ℕ) × SendsLine (path ++ undeclared_text ++ 10 ∷ []) old new
 
--- A station was served, after a warning if its tables aren't declared as `init` declares them. Then
--- it returned its connection.
-pub record HasServedStation {S W E : Type 0} {g : trees.Ghosts S} (k : Keeping (Station S g)) (e : (W → Given) × (E → Given))
+-- A station was served, after a warning if its tables aren't declared as `init` declares them, and
+-- after some reads of its rows, which change nothing. Then it returned its connection.
+pub record HasServedStation {S W E : Type 0} {g : Ghosts S} (k : Keeping (Station S g)) (e : (W → Given) × (E → Given))
     (count : Option ℕ) (all : List Exchange) (is_declared : Bool) (station : Station S g) (moved : (W × E) × (W × E)) (result : ℕ × Held S) : Type 0 where
   pub warned : E
   pub quiet : is_declared ≡ true → warned ≡ moved.0.1
   pub warns : is_declared ≡ false → HasWarned (e.1 moved.0.1) (e.1 warned)
+  pub filled : Station S g
+  pub reads : OnlyReads k station filled
   pub last : Station S g
-  pub ran : HasServedKept k e count all (station, (moved.0.0, warned)) (last, moved.1) result.0
+  pub ran : HasServedKept k e count all (filled, (moved.0.0, warned)) (last, moved.1) result.0
   pub released : HasReleased k last result.1
 
 -- the writers of a call that reads nothing
@@ -84,7 +85,7 @@ abbrev pub unread : {W E : Type 0} → W × E → Reached (Unit {0}) W E
 unread at = reached tt at.0 at.1
 
 -- a service after its opening, by the outcome
-abbrev pub HasEndedService : {S W E : Type 0} {g : trees.Ghosts S} → Keeping (Station S g) → (W → Given) × (E → Given)
+abbrev pub HasEndedService : {S W E : Type 0} {g : Ghosts S} → Keeping (Station S g) → (W → Given) × (E → Given)
     → Option ℕ → List Exchange → Bool → Result (Station S g) (Held S × AttachFault)
     → (W × E) × (W × E) → ℕ × Held S → Type 0
 HasEndedService k e count all is_declared (Ok station) moved result =
@@ -94,7 +95,7 @@ HasEndedService k e count all is_declared (Err none) moved result =
 
 -- The service of a command line over a connection: its station was opened and these connections of
 -- it were served, or a missing station was reported.
-pub record HasServedLine {S W E : Type 0} {g : trees.Ghosts S} (line : Line) (k : Keeping (Station S g)) (e : (W → Given) × (E → Given))
+pub record HasServedLine {S W E : Type 0} {g : Ghosts S} (line : Line) (k : Keeping (Station S g)) (e : (W → Given) × (E → Given))
     (count : Option ℕ) (conn : Held S) (moved : (W × E) × (W × E)) (result : ℕ × Held S) : Type 0 where
   pub opened : Result (Station S g) (Held S × AttachFault)
   pub opens : HasOpened g k (is_new line.db line.command) conn (here_of line.station) opened
@@ -105,13 +106,12 @@ pub record HasServedLine {S W E : Type 0} {g : trees.Ghosts S} (line : Line) (k 
 
 -- The service of a command line over a file: it ran over the connection, whose file was then
 -- closed, and nothing else was done.
-pub record HasServedFile {D S W E : Type 0} {disk : Ghosts D} {g : trees.Ghosts S}
-    (Closes : Held S → ℕ × E → ℕ × E → Result (Files D) (FileStore D disk) → Type 0) (line : Line)
+pub record HasServedFile {S F L W E : Type 0} {g : Ghosts S} (b : Backing (Held S) F L) (line : Line)
     (k : Keeping (Station S g)) (e : (W → Given) × (E → Given)) (count : Option ℕ) (conn : Held S)
-    (moved : (W × E) × (W × E)) (result : FileEnd D disk) : Type 0 where
+    (moved : (W × E) × (W × E)) (result : FileEnd F L) : Type 0 where
   pub ran : ℕ × Held S
   pub behind : W × E
   pub called : HasServedLine line k e count conn (moved.0, behind) ran
   pub declared : IsTrue result.is_declared ↔ ((state g ran.1).now.schema ≡ station_schema)
   pub unprinted : moved.1.0 ≡ behind.0
-  pub closed : Closes ran.1 (ran.0, behind.1) (result.status, moved.1.1) result.files
+  pub closed : HasClosed b ran.1 e.1 (ran.0, behind.1) (result.status, moved.1.1) result.files

@@ -1,17 +1,15 @@
 //! A call over a file, from its command to closing the file.
-ghost use Rattle.cli_call.specs.Closed.{HasCalledFile, HasClosed, IsCopiedTwice};
-ghost use Rattle.sqlite.specs.Files.{IsClosed};
+ghost use Rattle.cli_call.specs.Closed.{HasCalledFile, HasClosed};
 ghost use Rattle.cli_run.specs.Ends.{ends, reached};
 
 use crate::ended::{DeskFault, end};
 use crate::run::run_line;
 use cli_run::Inputs;
 use cli_words::Line;
-use sqlite::{Connection, FileStore};
-use sqlite_disk::{Disk, Files};
+use sqlite::{Alter, Connection};
 use station_core::{ByteOut, Keeper};
 use station_days::Moment;
-use station_files::{close_files, give_back};
+use station_files::FileBacked;
 use station_schema::has_station;
 use station_tables::Station;
 use std::alloc::Global;
@@ -20,14 +18,14 @@ use stock_list::RunFault;
 
 /// The end of a call over a file.
 #[derive(Drop)]
-pub struct FileEnd<D: Disk> {
+pub struct FileEnd<F, L> {
     /// The exit status.
     pub status: u8,
     /// True if the file's tables are declared as `init` declares them.
     pub is_declared: bool,
     /// The closed files, with the log copied into the database file; or their store, if a fault
     /// stopped the call or the log couldn't be copied.
-    pub files: Result<Files<D>, FileStore<D>>,
+    pub files: Result<F, L>,
 }
 
 /// Ends a call over a file that has this exit status. After a run without a fault, the log is
@@ -35,18 +33,18 @@ pub struct FileEnd<D: Disk> {
 /// the store is returned, and the next opening reads the log.
 ///
 /// Returns status 3 and the store, and reports the fault on `errors`, if the log can't be copied.
-pub fn close_file<D: Disk + Drop, E: ByteOut>(
-    conn: Connection<FileStore<D>>,
+pub fn close_file<F, L, C: FileBacked<F, L>, E: ByteOut>(
+    conn: C,
     status: u8,
     errors: &mut E,
-) -> (u8, Result<Files<D>, FileStore<D>>)
-    ensures { HasClosed D.Disk (IsCopiedTwice conn) (IsClosed conn) E.taken (status, errors.old)
-        (result.0, errors.new) result.1 }
+) -> (u8, Result<F, L>)
+    ensures { HasClosed C.backing conn E.taken (status, errors.old) (result.0, errors.new)
+        result.1 }
 {
     if status > 1 {
-        return (status, Err(give_back(conn)));
+        return (status, Err(conn.give_back()));
     }
-    match close_files(conn) {
+    match conn.into_files() {
         Ok(files) => (status, Ok(files)),
         Err(store) => {
             let status = end(errors, Err(DeskFault::Run(RunFault::Store)));
@@ -57,17 +55,19 @@ pub fn close_file<D: Disk + Drop, E: ByteOut>(
 
 /// Runs a command line over a connection to a file, at a moment, and closes the file: every command
 /// except `serve`. It calls `run_line` and then `close_file`.
-pub fn run_file<D: Disk + Drop, I: Inputs + Read, W: ByteOut, E: ByteOut>(
+pub fn run_file<F, L, S: Alter, I: Inputs + Read, W: ByteOut, E: ByteOut>(
     alloc: Global,
     line: &Line<'_>,
-    conn: Connection<FileStore<D>>,
+    conn: Connection<S>,
     reader: &mut I,
     output: &mut W,
     errors: &mut E,
     at: Moment,
-) -> FileEnd<D>
-    ensures { HasCalledFile (λ ran. HasClosed D.Disk (IsCopiedTwice ran) (IsClosed ran) E.taken)
-        line.now ⟦<Station<FileStore<D>> as Keeper>⟧.keeping
+) -> FileEnd<F, L>
+where
+    Connection<S>: FileBacked<F, L>,
+    ensures { HasCalledFile ⟦<Connection<S> as FileBacked<F, L>>⟧.backing line.now
+        ⟦<Station<S> as Keeper>⟧.keeping
         (ends I.remaining I.given I.turned W.taken E.taken) at conn
         (reached reader.old output.old errors.old, reached reader.new output.new errors.new)
         result }

@@ -3,20 +3,17 @@
 #![tactic(auto)]
 
 mod closing;
-mod closing_beside;
 mod ended;
+mod filling;
 mod laws;
 mod migrating;
 mod run;
 mod serving;
-mod serving_beside;
 mod version;
 
 pub use closing::{FileEnd, close_file, run_file};
-pub use closing_beside::{close_file_beside, run_file_beside};
 pub use ended::{DeskFault, end, tell_undeclared};
-pub use laws::calls_over_file_law;
+pub use laws::{calls_beside_law, calls_over_file_law};
 pub use run::{run_gathered, run_kept, run_line};
 pub use serving::{Service, serve_file, serve_kept, serve_line};
-pub use serving_beside::serve_file_beside;
 pub use version::version_line;

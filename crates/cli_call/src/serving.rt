@@ -1,19 +1,18 @@
 //! The service of a command line, over a keeper or over a file.
 ghost use Rattle.std.specs.Prelude.{◌≡◌, true, false, List};
-ghost use Rattle.sqlite.specs.Files.{IsClosed};
 ghost use Rattle.desk_server.specs.Served.{Exchange};
-ghost use Rattle.cli_call.specs.Closed.{HasClosed, IsCopiedTwice};
 ghost use Rattle.cli_call.specs.Service.{server_fault, HasEndedService, HasListened, HasServedFile, HasServedKept, HasServedLine, HasServedStation, HasWarned};
 
 use crate::closing::{FileEnd, close_file};
 use crate::ended::{DeskFault, end, refuse_line, tell_undeclared};
+use crate::filling::fill_lists;
 use cli_run::send_part;
 use cli_words::Line;
 use desk_server::{ServerFault, Setting, serve};
 use line_opening::open_station;
-use sqlite::{Alter, Connection, FileStore};
-use sqlite_disk::Disk;
+use sqlite::{Alter, Connection};
 use station_core::{ByteOut, Keeper};
+use station_files::FileBacked;
 use station_schema::has_station;
 use station_tables::{AttachFault, Station};
 use std::net::{Net, TcpListener};
@@ -92,8 +91,8 @@ fn warn<E: ByteOut>(line: &Line<'_>, is_declared: bool, errors: &mut E)
     }
 }
 
-/// Serves a station, after the warning about its file unless `is_declared`, and returns the status
-/// and the connection.
+/// Serves a station, after the warning about its file unless `is_declared` and a read of the lists
+/// that are asked for most, and returns the status and the connection.
 fn serve_station<N: Net, C: Clock, S: Alter, W: ByteOut, E: ByteOut>(
     service: &Service<'_, N, C>,
     line: &Line<'_>,
@@ -107,6 +106,7 @@ fn serve_station<N: Net, C: Clock, S: Alter, W: ByteOut, E: ByteOut>(
         ((output.old, errors.old), (output.new, errors.new)) result }
 {
     warn(line, is_declared, errors);
+    fill_lists(&mut station);
     let status = serve_kept(service, &mut station, output, errors);
     (status, station.release())
 }
@@ -155,16 +155,18 @@ pub fn serve_line<N: Net, C: Clock, S: Alter, W: ByteOut, E: ByteOut>(
 
 /// Serves the station of a command line over a connection to a file, and closes the file. It calls
 /// `serve_line` and then `close_file`.
-pub fn serve_file<N: Net, C: Clock, D: Disk + Drop, W: ByteOut, E: ByteOut>(
+pub fn serve_file<N: Net, C: Clock, F, L, S: Alter, W: ByteOut, E: ByteOut>(
     service: &Service<'_, N, C>,
     line: &Line<'_>,
-    conn: Connection<FileStore<D>>,
+    conn: Connection<S>,
     output: &mut W,
     errors: &mut E,
-) -> FileEnd<D>
-    ensures { HasServedFile (λ ran. HasClosed D.Disk (IsCopiedTwice ran) (IsClosed ran) E.taken)
-        line.now ⟦<Station<FileStore<D>> as Keeper>⟧.keeping (W.taken, E.taken) service.now.count
-        conn ((output.old, errors.old), (output.new, errors.new)) result }
+) -> FileEnd<F, L>
+where
+    Connection<S>: FileBacked<F, L>,
+    ensures { HasServedFile ⟦<Connection<S> as FileBacked<F, L>>⟧.backing line.now
+        ⟦<Station<S> as Keeper>⟧.keeping (W.taken, E.taken) service.now.count conn
+        ((output.old, errors.old), (output.new, errors.new)) result }
 {
     let (status, conn) = serve_line(service, line, conn, output, errors);
     let is_declared = has_station(&conn);

@@ -32,7 +32,7 @@ use Rattle.stock_list.specs.Ended.{kept_by}
 use Rattle.cli_run.specs.Ends.{come_to, Ends, Reached}
 use Rattle.stock_list.specs.Come.{Come}
 use Rattle.stock_list.specs.InTurn.{AreAnswered, HasEndedAt, HaveBeenAnswered}
-use Rattle.cli_run.specs.InTurn.{lines_of, AreMade, HaveBeenMade}
+use Rattle.cli_run.specs.InTurn.{kept_lines, AreMade, HaveBeenMade}
 use Rattle.cli_run.specs.Takes.{HasTakenNext}
 use Rattle.cli_run.specs.Left.{AsksAt, station_fault, HasLeft}
 use Rattle.cli_run.proofs.Ran.{line_service, lines_serve, take_serves}
@@ -282,7 +282,7 @@ module _ {K : Type 0} (k : Keeping K) (settled : (it : K) (s : State) → k.keep
         line_last (length ls + 1) line s mid new e (lines_on 1 ls s old mid good (none_yet P s old.keeper kept works) (sound_then (length ls + 1) line mid new (Err e) step sound) are) sound step
 
     pub acts_left : (left : Option (List ℕ)) (s : State) (old new : Come K E) (r : Result Bool RunFault) → k.keeps old.keeper s → k.is_broken old.keeper ≡ false → k.is_sound new.keeper
-        → HaveBeenAnswered lines_of Line left old new r → Left P s new.keeper r
+        → HaveBeenAnswered kept_lines Line left old new r → Left P s new.keeper r
     acts_left left s old new (Ok good) kept works sound (ls, first, are) =
         ended P s new.keeper (lines_on 1 ls s old new good (none_yet P s old.keeper kept works) sound are) sound (Ok good)
     acts_left left s old new (Err e) kept works sound (ls, (next, first, end)) = acts_end ls next s old new e kept works sound end

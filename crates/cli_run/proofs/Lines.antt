@@ -1,9 +1,10 @@
 -- The lines of a text, read one after another.
-use Rattle.std.proofs.Common.{arith, ◌≡◌, ◌∙◌, sym, refl, ap, subst, ℕ, ◌<◌, ◌==◌, Bool, true, false, cond, List, [], ◌∷◌, ◌++◌, length, append_assoc, Option, Some, None, IfSome}
-use Rattle.std.specs.Io.BufRead.{take_through, drop_through, DropsThrough}
-use Rattle.std.specs.Io.KnownBytes.{IsAtEnd}
+use Rattle.std.proofs.Common.{arith, ◌≡◌, ◌∙◌, sym, refl, ap, subst, ℕ, ◌+◌, ◌<◌, ◌==◌, Bool, true, false, cond, List, [], ◌∷◌, ◌++◌, map, length, length-take, append_assoc, Option, Some, None, IfSome}
+use Rattle.std.specs.Io.BufRead.{take_through, drop_through}
+use Rattle.std.proofs.BufReadLemmas.{take_through-nil}
 use Rattle.stock_list.specs.InTurn.{AreFirst}
-use Rattle.cli_run.specs.InTurn.{in_front, lines_of}
+use Rattle.cli_run.specs.ActLine.{kept, most_line}
+use Rattle.cli_run.specs.InTurn.{in_front, kept_lines, lines_of}
 
 -- the first line of a text, and the lines behind it
 abbrev Cut : List ℕ → Type 0
@@ -20,7 +21,7 @@ cut b (c ∷ cs) = cut_by (b == 10) b (c ∷ cs) (λ _. ap (λ lines. in_front b
 
 -- what is left of a text behind these lines
 abbrev pub Known : Option (List ℕ) → List (List ℕ) → List ℕ → Type 0
-Known now lines bytes = (left : List ℕ) × (now ≡ Some left) × (lines_of bytes ≡ lines ++ lines_of left)
+Known now lines bytes = (left : List ℕ) × (now ≡ Some left) × (kept_lines bytes ≡ lines ++ kept_lines left)
 
 pub known_start : (known : Option (List ℕ)) → IfSome known (Known known [])
 known_start None = tt
@@ -30,38 +31,37 @@ append_none : (lines : List (List ℕ)) → lines ++ [] ≡ lines
 append_none [] = refl
 append_none (line ∷ lines) = ap (λ more. line ∷ more) (append_none lines)
 
-line_read : (left text : List ℕ) → text ≡ take_through 10 left → 0 < length text → lines_of left ≡ text ∷ lines_of (drop_through 10 left)
-line_read [] text is some = let none : length text ≡ 0 = ap length is in absurd (omega (arith, none, some))
-line_read (b ∷ bs) text is some = cut b bs ∙ ap (λ line. line ∷ lines_of (drop_through 10 (b ∷ bs))) (sym is)
+-- the reader gave the first line of what was left, as far as it is kept
+abbrev pub Read : Option (List ℕ) → Option (List ℕ) → List ℕ → Type 0
+Read a b line = IfSome a (λ xs. (line ≡ kept (take_through 10 xs)) × (b ≡ Some (drop_through 10 xs)))
 
-more_of : (bytes left : List ℕ) (a b : Option (List ℕ)) (lines : List (List ℕ)) (text : List ℕ) → a ≡ Some left → lines_of bytes ≡ lines ++ lines_of left
-    → IfSome a (λ xs. text ≡ take_through 10 xs) → DropsThrough a b 10 → 0 < length text → Known b (lines ++ text ∷ []) bytes
-more_of bytes left a b lines text is same front rest some =
-    let read : text ≡ take_through 10 left = subst (λ (o : Option (List ℕ)). IfSome o (λ xs. text ≡ take_through 10 xs)) is front in
-    let after : b ≡ Some (drop_through 10 left) = subst (λ (o : Option (List ℕ)). DropsThrough o b 10) is rest in (
+line_read : (left line : List ℕ) → line ≡ kept (take_through 10 left) → 0 < length line → kept_lines left ≡ line ∷ kept_lines (drop_through 10 left)
+line_read [] line is some = absurd (omega (arith, ap length is, length-take (most_line + 1) (take_through 10 []), some))
+line_read (b ∷ bs) line is some = ap (map kept) (cut b bs) ∙ ap (λ first. first ∷ kept_lines (drop_through 10 (b ∷ bs))) (sym is)
+
+more_of : (bytes left : List ℕ) (a b : Option (List ℕ)) (lines : List (List ℕ)) (line : List ℕ) → a ≡ Some left → kept_lines bytes ≡ lines ++ kept_lines left
+    → Read a b line → 0 < length line → Known b (lines ++ line ∷ []) bytes
+more_of bytes left a b lines line is same read some =
+    let (front, rest) = subst (λ (o : Option (List ℕ)). Read o b line) is read in (
       drop_through 10 left,
-      after,
-      same ∙ ap (λ more. lines ++ more) (line_read left text read some) ∙ sym (append_assoc lines (text ∷ []) (lines_of (drop_through 10 left))),
+      rest,
+      same ∙ ap (λ more. lines ++ more) (line_read left line front some) ∙ sym (append_assoc lines (line ∷ []) (kept_lines (drop_through 10 left))),
     )
 
-pub known_more : (known a b : Option (List ℕ)) (lines : List (List ℕ)) (text : List ℕ) → IfSome known (Known a lines)
-    → IfSome a (λ xs. text ≡ take_through 10 xs) → DropsThrough a b 10 → 0 < length text → IfSome known (Known b (lines ++ text ∷ []))
-known_more None a b lines text known front rest some = tt
-known_more (Some bytes) a b lines text known front rest some =
-    more_of bytes known.0 a b lines text known.1 known.2 front rest some
+pub known_more : (known a b : Option (List ℕ)) (lines : List (List ℕ)) (line : List ℕ) → IfSome known (Known a lines) → Read a b line → 0 < length line
+    → IfSome known (Known b (lines ++ line ∷ []))
+known_more None a b lines line known read some = tt
+known_more (Some bytes) a b lines line known read some = more_of bytes known.0 a b lines line known.1 known.2 read some
 
-pub known_end : (known a : Option (List ℕ)) (lines : List (List ℕ)) → IfSome known (Known a lines) → IsAtEnd a → IfSome known (λ bytes. lines ≡ lines_of bytes)
-known_end None a lines known end = tt
-known_end (Some bytes) a lines known end =
-    let none : known.0 ≡ [] = subst IsAtEnd known.1 end in
-    sym (known.2 ∙ ap (λ left. lines ++ lines_of left) none ∙ append_none lines)
+-- no line is left
+pub known_end : (known a b : Option (List ℕ)) (lines : List (List ℕ)) (line : List ℕ) → IfSome known (Known a lines) → Read a b line → length line ≡ 0
+    → IfSome known (λ bytes. lines ≡ kept_lines bytes)
+known_end None a b lines line known read empty = tt
+known_end (Some bytes) a b lines line (left, is, same) read empty =
+    let front = (subst (λ (o : Option (List ℕ)). Read o b line) is read).0 in
+    let none : left ≡ [] = take_through-nil 10 left (omega (arith, empty, ap length front, length-take (most_line + 1) (take_through 10 left))) in
+    sym (same ∙ ap (λ more. lines ++ kept_lines more) none ∙ append_none lines)
 
-pub known_first : (known a : Option (List ℕ)) (lines : List (List ℕ)) → IfSome known (Known a lines) → IfSome known (AreFirst lines_of lines)
+pub known_first : (known a : Option (List ℕ)) (lines : List (List ℕ)) → IfSome known (Known a lines) → IfSome known (AreFirst kept_lines lines)
 known_first None a lines known = tt
-known_first (Some bytes) a lines known = (lines_of known.0, known.2)
-
--- what was read ahead of a text, in a buffer that was empty
-pub front_of : (a : Option (List ℕ)) (old items text : List ℕ) → old ≡ [] → text ≡ items → IfSome a (λ xs. items ≡ old ++ take_through 10 xs)
-    → IfSome a (λ xs. text ≡ take_through 10 xs)
-front_of None old items text none is front = tt
-front_of (Some xs) old items text none is front = is ∙ front ∙ ap (λ before. before ++ take_through 10 xs) none
+known_first (Some bytes) a lines known = (kept_lines known.0, known.2)

@@ -13,7 +13,7 @@ use Rattle.cli_run.specs.Acts.{HasAnsweredLine}
 use Rattle.stock_list.specs.InTurn.{AreAnswered, HasEndedAt, HaveBeenAnswered}
 use Rattle.cli_run.specs.Answered.{HasAnswered, HasAnsweredAsked, HasNotReceived}
 use Rattle.cli_run.specs.Asked.{IsTelegramAsked}
-use Rattle.cli_run.specs.InTurn.{lines_of, AreMade, HaveBeenMade}
+use Rattle.cli_run.specs.InTurn.{kept_lines, AreMade, HaveBeenMade}
 use Rattle.cli_run.specs.Takes.{HasTakenNext}
 
 pub always : {A : Type 0} (r : Result Bool RunFault) → A → OnOk r A
@@ -54,7 +54,7 @@ module _ {K E : Type 0} (k : Keeping K) (at : LocalMinute) (taken : E → Given)
   end_serves lines (Some line) old new e (other, (mid, (good, are, step))) =
       then_serves k old.keeper mid.keeper new.keeper good (Err e) (lines_serve 1 lines old mid good (Ok good) are) (line_service k at taken (length lines + 1) line mid new (Err e) step)
 
-  pub acts_serve : (left : Option (List ℕ)) (old new : Come K E) (r : Result Bool RunFault) → HaveBeenAnswered lines_of Line left old new r → StaysInService k old.keeper new.keeper r
+  pub acts_serve : (left : Option (List ℕ)) (old new : Come K E) (r : Result Bool RunFault) → HaveBeenAnswered kept_lines Line left old new r → StaysInService k old.keeper new.keeper r
   acts_serve left old new (Ok good) (lines, all, are) = lines_serve 1 lines old new good (Ok good) are
   acts_serve left old new (Err e) (lines, (next, first, end)) = end_serves lines next old new e end
 

@@ -1,5 +1,5 @@
 -- Requests in lines of `acts`.
-use Rattle.std.specs.Prelude.{◌≡◌, ◌≤◌, ℕ, ◌+◌, List, length, codes, Some, IsTrue, IsUtf8}
+use Rattle.std.specs.Prelude.{◌≡◌, ◌≤◌, ℕ, ◌+◌, List, length, take, codes, Some, IsTrue, IsUtf8}
 use Rattle.serde_json.specs.Data.{Data, string}
 use Rattle.serde_json.specs.Find.{get}
 use Rattle.serde_json.specs.Read.{read}
@@ -46,11 +46,17 @@ Asks line d (asked.Bad verb body) = ⊥
 abbrev pub most_line : ℕ
 most_line = most_bytes + 4_096
 
+-- What is kept of a line, with its end: all of it, or of a line that is too long its first bytes,
+-- one more than a line may have.
+abbrev pub kept : List ℕ → List ℕ
+kept line = take (most_line + 1) line
+
 -- a line of JSON has this value, and isn't too long
 abbrev pub IsWritten : List ℕ → Data → Type 0
 IsWritten line d = (length line ≤ most_line) × IsUtf8 line × (read line ≡ Some d)
 
--- the request in a line, from its value
+-- The request in a line, as far as it is kept, from its value. A line that is too long has no
+-- value, so it is bad; what is kept of it is still too long.
 abbrev pub IsActAsked : List ℕ → Asked → Type 0
 IsActAsked line (asked.BadLine same) =
     (same.now ≡ line) × ((d : Data) → IsWritten line d → Asks line d (asked.BadLine same))

@@ -16,7 +16,7 @@ use Rattle.cli_run.specs.Answered.{HasAnswered, HasAnsweredAsked}
 use Rattle.cli_run.specs.Acts.{HasAnsweredLine}
 use Rattle.cli_run.specs.Takes.{HasTakenNext}
 use Rattle.cli_run.specs.Ends.{come_to, told_to, Ends, Reached, Told}
-use Rattle.cli_run.specs.InTurn.{lines_of, HaveBeenMade}
+use Rattle.cli_run.specs.InTurn.{kept_lines, HaveBeenMade}
 use Rattle.cli_run.specs.History.{HasReadHistory}
 use Rattle.cli_run.specs.Reported.{HasReportedGood}
 use Rattle.cli_words.specs.declared.line.LineCommand.{LineCommand}
@@ -61,7 +61,7 @@ HasDone (command.Act verb key) here k e at old new r =
     HasAnsweredAsked (IsCommandAsked verb key) k at e.told (come_to e old, e.given old.1.reader)
     (come_to e new, e.given new.1.reader) r
 HasDone command.Acts here k e at old new r =
-    HaveBeenAnswered lines_of (HasAnsweredLine k at e.told) (e.remaining old.1.reader) (come_to e old) (come_to e new) r
+    HaveBeenAnswered kept_lines (HasAnsweredLine k at e.told) (e.remaining old.1.reader) (come_to e old) (come_to e new) r
     × IsReadToEnd (e.given new.1.reader) r
 HasDone (command.Outbox f) here k e at old new r =
     HasReportedGood (λ s. IsListing f s (listing.All report.Pending)) k (told_to e old) (told_to e new) r

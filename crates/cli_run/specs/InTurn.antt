@@ -1,6 +1,7 @@
 -- Several inputs of one call, answered one after another.
-use Rattle.std.specs.Prelude.{◌≡◌, ◌<◌, ℕ, zero, suc, ◌==◌, Bool, true, ◌&&◌, if◌then◌else◌, Result, Ok, Err, List, [], ◌∷◌}
+use Rattle.std.specs.Prelude.{◌≡◌, ◌<◌, ℕ, zero, suc, ◌==◌, Bool, true, ◌&&◌, if◌then◌else◌, Result, Ok, Err, List, [], ◌∷◌, map}
 use Rattle.stock_list.specs.declared.answer.RunFault.{RunFault}
+use Rattle.cli_run.specs.ActLine.{kept}
 
 -- `n` steps were made, each from where the one before it ended. They are good if each is.
 abbrev pub AreMade : {C : Type 0} → (C → C → Result Bool RunFault → Type 0) → ℕ → C → C → Bool
@@ -26,3 +27,7 @@ in_front b (line ∷ lines) = (b ∷ line) ∷ lines
 abbrev pub lines_of : List ℕ → List (List ℕ)
 lines_of [] = []
 lines_of (b ∷ bs) = if b == 10 then (b ∷ []) ∷ lines_of bs else in_front b (lines_of bs)
+
+-- the lines of a text, each as far as it is kept
+abbrev pub kept_lines : List ℕ → List (List ℕ)
+kept_lines text = map kept (lines_of text)

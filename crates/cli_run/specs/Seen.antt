@@ -3,9 +3,9 @@ use Rattle.std.specs.Prelude.{◌≡◌, ◌⊎◌, ℕ, Bool, false, not, Optio
 use Rattle.imp_fields.specs.declared.fault.TextFault.{TextFault}
 use Rattle.shipment_machine.specs.declared.plans.Refusal.{Refusal}
 use Rattle.telegrams.specs.Meaning.{refusal_of}
-use Rattle.telegram_look.specs.Look.{IsLook, IsLookFault, has_doubt}
-use Rattle.telegram_look.specs.LookText.{look_text}
-use Rattle.telegram_look.specs.declared.look.Look.{Look}
+use Rattle.input_reasons.specs.Look.{IsLook, IsLookFault, has_doubt}
+use Rattle.input_reasons.specs.LookText.{look_text}
+use Rattle.input_reasons.specs.declared.look.Look.{Look}
 use Rattle.station_core.specs.Given.{Given}
 use Rattle.station_core.specs.Texts.{refusal_text}
 use Rattle.input_reasons.specs.Reason.{is_unread}

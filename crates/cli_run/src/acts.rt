@@ -5,11 +5,12 @@ ghost use Rattle.stock_list.specs.Come.{come};
 ghost use Rattle.stock_list.specs.Ended.{IsReadersFault, IsReadToEnd};
 ghost use Rattle.stock_list.specs.InTurn.{HaveBeenAnswered};
 ghost use Rattle.cli_run.specs.Acts.{is_blank, HasAnsweredLine};
-ghost use Rattle.cli_run.specs.InTurn.{lines_of};
+ghost use Rattle.cli_run.specs.InTurn.{kept_lines};
 
 use crate::act_line::{line_asked, line_value};
 use crate::answer::answer_asked;
 use crate::answering::Answering;
+use crate::kept::kept_line;
 use station_core::{ByteOut, Keeper};
 use station_days::Moment;
 use std::alloc::{AllocError, Global};
@@ -80,30 +81,30 @@ fn answer_lines<P: Answering<D, E>, D, R: BufRead + Drop, W: ByteOut, E: ByteOut
     writer: &mut W,
     errors: &mut E,
 ) -> Result<bool, RunFault>
-    ensures { HaveBeenAnswered lines_of (P.answered_line way.now) (R.remaining reader)
+    ensures { HaveBeenAnswered kept_lines (P.answered_line way.now) (R.remaining reader)
         (come desk.old (W.taken writer.old) errors.old)
         (come desk.new (W.taken writer.new) errors.new) result }
 {
     let mut good = true;
     for number in 1..u64::MAX {
-        let mut line = Vec::new(alloc);
-        match reader.read_until(b'\n', &mut line) {
-            Ok(0) => return Ok(good),
-            Ok(_) => {
-                let text = line.as_slice();
-                let accepted = way.answer_line(alloc, desk, writer, errors, number, text)?;
-                good &= accepted;
-            }
+        let line = match kept_line(alloc, &mut reader) {
+            Ok(line) => line,
             Err(error) => return Err(line_fault(&error)),
+        };
+        if line.is_empty() {
+            return Ok(good);
         }
+        let accepted = way.answer_line(alloc, desk, writer, errors, number, line.as_slice())?;
+        good &= accepted;
     }
     Err(RunFault::Memory)
 }
 
 /// Reads lines, each a command under its key or a telegram as JSON, has them answered one after
 /// another, all at one moment, and writes the line of each answer: `r1 ok 3`, `line 2 refused 301 4
-/// ending`, or `line 3 bad` for any other line. Empty lines are skipped. If a line can't be read,
-/// the reason is written to `errors` after its answer. `Ok` says whether all were accepted.
+/// ending`, or `line 3 bad` for any other line, also for one that is too long, of which at most
+/// 69,633 bytes are kept. Empty lines are skipped. If a line can't be read, the reason is written
+/// to `errors` after its answer. `Ok` says whether all were accepted.
 ///
 /// # Errors
 ///
@@ -122,9 +123,9 @@ pub fn answer_acts<P: Answering<D, E>, D, R: Watched + Read, W: ByteOut, E: Byte
     errors: &mut E,
 ) -> Result<bool, RunFault>
     // All lines that were read were answered in order; for a known reader these are all lines of
-    // its text. After a fault, all but the last were.
-    ensures answered { HaveBeenAnswered lines_of (P.answered_line way.now) (R.remaining reader.old)
-        (come desk.old (W.taken writer.old) errors.old)
+    // its text, each as far as it is kept. After a fault, all but the last were.
+    ensures answered { HaveBeenAnswered kept_lines (P.answered_line way.now)
+        (R.remaining reader.old) (come desk.old (W.taken writer.old) errors.old)
         (come desk.new (W.taken writer.new) errors.new) result }
     ensures read { IsReadToEnd (R.given reader.new) result }
 {

@@ -52,7 +52,7 @@ pub trait Answering<D, E: ByteOut> {
             (come desk.new (W.taken writer.new) errors.new) result }
         ensures unread { result ≡ Err Fault.Read → ⊥ };
 
-    /// Answers a line.
+    /// Answers a line, as far as it is kept.
     fn answer_line<W: ByteOut>(
         &self,
         alloc: Global,

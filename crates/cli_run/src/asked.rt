@@ -17,7 +17,7 @@ pub enum Asked<'a> {
     Refused(Refusal),
     /// The input isn't a body of this verb.
     Bad { verb: Verb, body: &'a [u8] },
-    /// A line of `acts` that is neither a command nor a telegram.
+    /// A line of `acts`, as far as it is kept, that is neither a command nor a telegram.
     BadLine(&'a [u8]),
     /// An input for the station.
     Input(Input<'a>),

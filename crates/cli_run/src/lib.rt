@@ -10,6 +10,7 @@ mod asked;
 mod feed;
 mod history;
 mod inputs;
+mod kept;
 mod laws;
 mod look;
 mod place;

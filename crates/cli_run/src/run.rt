@@ -10,7 +10,7 @@ ghost use Rattle.cli_run.specs.Answered.{HasAnswered, HasAnsweredAsked};
 ghost use Rattle.cli_run.specs.Asked.{IsCommandAsked};
 ghost use Rattle.cli_run.specs.Done.{HasDone, HasToldMade};
 ghost use Rattle.cli_run.specs.Ends.{ends, reached};
-ghost use Rattle.cli_run.specs.InTurn.{lines_of, HaveBeenMade};
+ghost use Rattle.cli_run.specs.InTurn.{kept_lines, HaveBeenMade};
 ghost use Rattle.cli_run.specs.Place.{here_of};
 ghost use Rattle.cli_run.specs.Reasons.{HasGivenReasons};
 ghost use Rattle.cli_run.specs.Takes.{HasTakenNext};
@@ -106,7 +106,7 @@ fn do_acts<K: Keeper, I: Watched + Read, W: ByteOut, E: ByteOut>(
     at: Moment,
 ) -> Result<bool, RunFault>
     ensures service { StaysInService K.keeping keeper.old keeper.new result }
-    ensures answered { HaveBeenAnswered lines_of (HasAnsweredLine K.keeping at E.taken)
+    ensures answered { HaveBeenAnswered kept_lines (HasAnsweredLine K.keeping at E.taken)
         (I.remaining reader.old) (come keeper.old (W.taken output.old) errors.old)
         (come keeper.new (W.taken output.new) errors.new) result }
     ensures read { IsReadToEnd (I.given reader.new) result }

@@ -6,14 +6,14 @@ use Rattle.desk_client.specs.Asked.{by_time, HasAsked, HasRead, HasSent, HasTake
 use Rattle.desk_client.specs.Came.{HasCome}
 use Rattle.desk_client.specs.Request.{most_row_bytes}
 use Rattle.desk_client.specs.Whole.{IsWhole}
-use Rattle.desk_client.specs.declared.ask.Answer.{Answer}
+use Rattle.desk_client.specs.declared.ask.Response.{Response}
 use Rattle.desk_client.specs.declared.ask.AskFault.{AskFault}
 use Rattle.desk_client.specs.declared.ask.AskFault.TheVariants as fault
 use Rattle.desk_client.specs.declared.ask.Until.{Until}
 use Rattle.desk_client.specs.declared.ask.Until.TheVariants as until
 
 -- the request went out, and its answer was read so
-pub request_sent : (until : Until) (request : List ℕ) (sent_old sent_new read_old read_new : Given) (r : Result Answer AskFault)
+pub request_sent : (until : Until) (request : List ℕ) (sent_old sent_new read_old read_new : Given) (r : Result Response AskFault)
     → sent_new.bytes ≡ sent_old.bytes ++ request → HasRead until read_old read_new r → HasAsked until request sent_old sent_new read_old read_new r
 request_sent until request sent_old sent_new read_old read_new (Ok a) sent read = (sent, read)
 request_sent until request sent_old sent_new read_old read_new (Err fault.Write) sent read = absurd read
@@ -51,7 +51,7 @@ timed until request sent_old sent_new read_old read_new true fault.Foreign asked
 timed until request sent_old sent_new read_old read_new false e asked = asked
 
 -- an answer to a question for rows that came whole
-pub rows_read : (f : Form) (old new : Given) (came : List ℕ) (r : Result Answer AskFault) → HasCome most_row_bytes old new came → HasUnderstood most_row_bytes came r
+pub rows_read : (f : Form) (old new : Given) (came : List ℕ) (r : Result Response AskFault) → HasCome most_row_bytes old new came → HasUnderstood most_row_bytes came r
     → HasRead (until.Rows f) old new r
 rows_read f old new came (Ok a) come (few, is, within, whole, none) =
     subst (λ (b : Option ℕ). HasTaken (until.Rows f) old new a b) (sym none) (record {

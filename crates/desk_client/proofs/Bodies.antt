@@ -1,8 +1,9 @@
 -- What a body is, by what its head tells of its length.
-use Rattle.std.proofs.Common.{arith, ◌≡◌, ◌∙◌, ap, sym, subst, ℕ, ◌+◌, ◌<◌, Some, None, Option, List, [], ◌∷◌, ◌++◌, length, length-append, codes}
+use Rattle.std.proofs.Common.{arith, ◌≡◌, ◌∙◌, ap, sym, subst, ℕ, ◌+◌, ◌<◌, ◌||◌, true, false, Some, None, Option, List, [], ◌∷◌, ◌++◌, length, length-append, codes}
 use Rattle.http_desk.specs.Digits.{number_told}
 use Rattle.http_desk.specs.Request.{values_of}
-use Rattle.desk_client.specs.Whole.{IsAsLong, IsTooShort, IsExtent, IsExtentOf}
+use Rattle.reports.specs.declared.form.Form.TheVariants as form
+use Rattle.desk_client.specs.Whole.{has_media, IsAsLong, IsOfRows, IsTooShort, IsExtent, IsExtentOf}
 use Rattle.desk_client.specs.declared.whole.Extent.{Extent}
 use Rattle.desk_client.specs.declared.whole.Extent.TheVariants as extent
 
@@ -33,11 +34,22 @@ pub untold : (value body : List ℕ) → number_told value ≡ None → IsExtent
 untold value body is more long = let no : None ≡ Some (length (body ++ more)) = sym is ∙ long in cc no
 
 -- by all of them
-pub by_lengths : (fields : List (List ℕ × List ℕ)) (body : List ℕ) (found : List (List ℕ)) (e : Extent) → parts fields ≡ [] → lengths fields ≡ found
+by_lengths : (fields : List (List ℕ × List ℕ)) (body : List ℕ) (found : List (List ℕ)) (e : Extent) → parts fields ≡ [] → IsOfRows fields → lengths fields ≡ found
     → IsExtent found body e → IsExtentOf fields body e
-by_lengths fields body found extent.Whole plain long is = record { plain = plain; long = subst (λ l. IsAsLong l body) (sym long) is }
-by_lengths fields body found extent.Short plain long is = record { plain = plain; short = subst (λ l. IsTooShort l body) (sym long) is }
-by_lengths fields body found extent.Never plain long is = λ more whole. is more (subst (λ l. IsAsLong l (body ++ more)) long whole.long)
+by_lengths fields body found extent.Whole plain rows long is = record { plain = plain; rows = rows; long = subst (λ l. IsAsLong l body) (sym long) is }
+by_lengths fields body found extent.Short plain rows long is = record { plain = plain; rows = rows; short = subst (λ l. IsTooShort l body) (sym long) is }
+by_lengths fields body found extent.Never plain rows long is = λ more whole. is more (subst (λ l. IsAsLong l (body ++ more)) long whole.long)
+
+pub by_length : (fields : List (List ℕ × List ℕ)) (body value : List ℕ) (e : Extent) → parts fields ≡ [] → lengths fields ≡ value ∷ [] → IsExtent (value ∷ []) body e → IsExtentOf fields body e
+by_length fields body value e plain long is =
+    by_lengths fields body (value ∷ []) e plain (λ none. let no : value ∷ [] ≡ [] = sym long ∙ none in cc no) long is
+
+pub by_rows : (fields : List (List ℕ × List ℕ)) (body : List ℕ) (e : Extent) → parts fields ≡ [] → lengths fields ≡ [] → has_media form.Text fields || has_media form.Json fields ≡ true
+    → IsExtent [] body e → IsExtentOf fields body e
+by_rows fields body e plain long rows is = by_lengths fields body [] e plain (λ _. rows) long is
+
+pub of_no_rows : (fields : List (List ℕ × List ℕ)) (body : List ℕ) → lengths fields ≡ [] → has_media form.Text fields || has_media form.Json fields ≡ false → IsExtentOf fields body extent.Never
+of_no_rows fields body long other more whole = let no : false ≡ true = sym other ∙ whole.rows long in cc no
 
 pub of_several : (fields : List (List ℕ × List ℕ)) (body first next : List ℕ) (rest : List (List ℕ)) → lengths fields ≡ first ∷ next ∷ rest
     → IsExtentOf fields body extent.Never

@@ -1,13 +1,15 @@
 -- A whole answer is one, and no beginning of another.
-use Rattle.std.proofs.Common.{arith, ◌≡◌, ◌∙◌, ap, sym, subst, inl, inr, ℕ, ◌+◌, true, false, Some, Option, List, [], ◌∷◌, ◌++◌, length, map, codes, length-append}
+use Rattle.std.proofs.Common.{arith, ◌≡◌, ◌∙◌, ap, sym, subst, inl, inr, ℕ, ◌+◌, ◌||◌, Bool, true, false, refl, Some, Option, List, [], ◌∷◌, ◌++◌, length, map, codes, length-append}
 use Rattle.std.specs.Prelude.{◌⊎◌}
 use Rattle.std.proofs.lemmas.List.{nil_from_length}
 use Rattle.httparse.specs.Grammar.{ResponseHead, status_code}
 use Rattle.httparse.specs.Spans.{name_and_value}
 use Rattle.httparse.proofs.GrammarLemmas.{ReadsResponse-append, response_unique}
 use Rattle.http_desk.specs.Request.{values_of}
+use Rattle.reports.specs.declared.form.Form.{Form}
+use Rattle.reports.specs.declared.form.Form.TheVariants as form
 use Rattle.desk_client.specs.Ended.{has_end}
-use Rattle.desk_client.specs.Whole.{IsAsLong, IsCutShort, IsReport, IsTooShort, IsWhole}
+use Rattle.desk_client.specs.Whole.{has_media, IsAsLong, IsCutShort, IsReport, IsTooShort, IsWhole}
 
 abbrev lengths_of : ResponseHead → List (List ℕ)
 lengths_of h = values_of (codes "content-length") (map name_and_value h.fields)
@@ -36,22 +38,30 @@ cut front more s t b c x y =
     let long : IsAsLong (lengths_of y.head) (b ++ more) = subst (λ l. IsAsLong (lengths_of y.head) l) (sym same.1) y.whole.long in
     by_lengths (lengths_of x.head) b more x.whole.long (subst (λ h. IsAsLong (lengths_of h) (b ++ more)) (sym same.0) long)
 
+or_true : (b : Bool) → b || true ≡ true
+or_true true = refl
+or_true false = refl
+
+rows_of : (f : Form) (fields : List (List ℕ × List ℕ)) → has_media f fields ≡ true → has_media form.Text fields || has_media form.Json fields ≡ true
+rows_of form.Text fields is = ap (λ b. b || has_media form.Json fields) is
+rows_of form.Json fields is = ap (λ b. has_media form.Text fields || b) is ∙ or_true (has_media form.Text fields)
+
 -- a report whose rest has come
-pub report_whole : (bytes body more : List ℕ) → IsReport bytes body → has_end (body ++ more) ≡ true → IsWhole (bytes ++ more) 200 (body ++ more)
-report_whole bytes body more is end = record {
+pub report_whole : (f : Form) (bytes body more : List ℕ) → IsReport f bytes body → has_end (body ++ more) ≡ true → IsWhole (bytes ++ more) 200 (body ++ more)
+report_whole f bytes body more is end = record {
   head = is.head;
   reads = ReadsResponse-append bytes is.head body more is.reads;
   few = is.few;
   status_is = sym is.good;
-  whole = record { plain = is.plain; long = subst (λ l. IsAsLong l (body ++ more)) (sym is.untold) end };
+  whole = record { plain = is.plain; rows = λ _. rows_of f (map name_and_value is.head.fields) is.media; long = subst (λ l. IsAsLong l (body ++ more)) (sym is.untold) end };
 }
 
 -- or not all of it
-pub report_cut : (bytes body more : List ℕ) → IsReport bytes body → has_end (body ++ more) ≡ false → IsCutShort (bytes ++ more)
-report_cut bytes body more is unended = inr (record {
+pub report_cut : (f : Form) (bytes body more : List ℕ) → IsReport f bytes body → has_end (body ++ more) ≡ false → IsCutShort (bytes ++ more)
+report_cut f bytes body more is unended = inr (record {
   head = is.head;
   body = body ++ more;
   reads = ReadsResponse-append bytes is.head body more is.reads;
   few = is.few;
-  short = record { plain = is.plain; short = subst (λ l. IsTooShort l (body ++ more)) (sym is.untold) unended };
+  short = record { plain = is.plain; rows = λ _. rows_of f (map name_and_value is.head.fields) is.media; short = subst (λ l. IsTooShort l (body ++ more)) (sym is.untold) unended };
 })

@@ -12,11 +12,11 @@ use Rattle.cli_run.specs.Explained.{reason_head, HasToldWhy}
 use Rattle.stock_list.specs.Come.{Come}
 use Rattle.desk_client.specs.Again.{Talk, IsAnswered}
 use Rattle.desk_client.specs.Heard.{is_late, HasAnsweredInput, HasHeard, HasUnderstoodLine}
-use Rattle.desk_client.specs.declared.ask.Answer.{Answer}
+use Rattle.desk_client.specs.declared.ask.Response.{Response}
 use Rattle.desk_client.specs.declared.line.Heard.{Heard}
 
 -- the service answered, and its answer tells that
-pub heard_by : (request : List ℕ) (most : ℕ) (old new : Talk) (a : Answer) (r : Result Heard RunFault) → IsAnswered most request old new (Ok a)
+pub heard_by : (request : List ℕ) (most : ℕ) (old new : Talk) (a : Response) (r : Result Heard RunFault) → IsAnswered most request old new (Ok a)
     → HasUnderstoodLine a r → HasHeard request most old new r
 heard_by request most old new a (Ok heard) answered is = (a, answered, is)
 heard_by request most old new a (Err e) answered is = inl (a, answered, is)

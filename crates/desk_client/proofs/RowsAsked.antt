@@ -8,35 +8,35 @@ use Rattle.desk_client.specs.Again.{Talk, HasTried, HasTriedThrice, HasTriedTwic
 use Rattle.desk_client.specs.Asked.{HasTaken}
 use Rattle.desk_client.specs.Heard.{service_fault}
 use Rattle.desk_client.specs.Looks.{rows_request, shown, HasAskedRows, HasShownTaken, IsTakenRows}
-use Rattle.desk_client.specs.declared.ask.Answer.{Answer}
+use Rattle.desk_client.specs.declared.ask.Response.{Response}
 use Rattle.desk_client.specs.declared.ask.AskFault.{AskFault}
 use Rattle.desk_client.specs.declared.ask.AskFault.TheVariants as fault
 use Rattle.desk_client.specs.declared.ask.Until.TheVariants as until
 use Rattle.desk_client.proofs.Trying.{asked}
 
-of_taken : (f : Form) (old new : Given) (a : Answer) (begun : Option ℕ) → HasTaken (until.Rows f) old new a begun → IsTakenRows f a begun
+of_taken : (f : Form) (old new : Given) (a : Response) (begun : Option ℕ) → HasTaken (until.Rows f) old new a begun → IsTakenRows f a begun
 of_taken f old new a None taken = tt
 of_taken f old new a (Some end) taken = taken.begun
 
-refused_none : (f : Form) (old new : Talk) (a : Answer) → IsRefused old new (Ok a) → IsTakenRows f a a.begun
-refused_none f old new a refused = let is : ◌≡◌ {A = Result Answer AskFault} (Ok a) (Err fault.Refused) = refused.why in cc is
+refused_none : (f : Form) (old new : Talk) (a : Response) → IsRefused old new (Ok a) → IsTakenRows f a a.begun
+refused_none f old new a refused = let is : ◌≡◌ {A = Result Response AskFault} (Ok a) (Err fault.Refused) = refused.why in cc is
 
-of_try : (f : Form) (request : List ℕ) (old new : Talk) (a : Answer) → HasTried (until.Rows f) request old new (Ok a) → IsTakenRows f a a.begun
+of_try : (f : Form) (request : List ℕ) (old new : Talk) (a : Response) → HasTried (until.Rows f) request old new (Ok a) → IsTakenRows f a a.begun
 of_try f request old new a tried =
     ⊎_elim (refused_none f old new a)
     (λ (talked : HasTalked (until.Rows f) request old new (Ok a)). of_taken f old.come new.come a a.begun talked.asked.1) tried.0
 
-of_two : (f : Form) (request : List ℕ) (old new : Talk) (a : Answer) → HasTriedTwice (until.Rows f) request old new (Ok a) → IsTakenRows f a a.begun
+of_two : (f : Form) (request : List ℕ) (old new : Talk) (a : Response) → HasTriedTwice (until.Rows f) request old new (Ok a) → IsTakenRows f a a.begun
 of_two f request old new a (inl (once, settled)) = of_try f request old new a once
 of_two f request old new a (inr (mid, (e, vain, once, more))) = of_try f request mid new a more
 
 -- an answer to a question for rows is whole, or a report that was begun
-pub taken_rows : (f : Form) (request : List ℕ) (old new : Talk) (a : Answer) → HasTriedThrice (until.Rows f) request old new (Ok a) → IsTakenRows f a a.begun
+pub taken_rows : (f : Form) (request : List ℕ) (old new : Talk) (a : Response) → HasTriedThrice (until.Rows f) request old new (Ok a) → IsTakenRows f a a.begun
 taken_rows f request old new a (inl (once, settled)) = of_try f request old new a once
 taken_rows f request old new a (inr (mid, (e, vain, once, more))) = of_two f request mid new a more
 
 -- it came, and was printed so
-pub rows_shown : (f : Form) (path bytes items : List ℕ) (old mid new : Talk) (a : Answer) (before after : Given) (result : Result Bool RunFault) → bytes ≡ items
+pub rows_shown : (f : Form) (path bytes items : List ℕ) (old mid new : Talk) (a : Response) (before after : Given) (result : Result Bool RunFault) → bytes ≡ items
     → items ≡ rows_request path → HasTriedThrice (until.Rows f) bytes old mid (Ok a) → HasShownTaken f a a.begun mid new before after result
     → HasAskedRows path f (shown old before) (shown new after) result
 rows_shown f path bytes items old mid new a before after result bytes_are items_are tried printed =

@@ -7,7 +7,7 @@ use Rattle.desk_client.specs.Again.{Talk}
 use Rattle.desk_client.specs.Asked.{by_time}
 use Rattle.desk_client.specs.Heard.{body_of, service_fault}
 use Rattle.desk_client.specs.Printed.{call_ended, last_after, HasPrinted, HasPrintedBody, HasReadOn}
-use Rattle.desk_client.specs.declared.ask.Answer.{Answer}
+use Rattle.desk_client.specs.declared.ask.Response.{Response}
 use Rattle.desk_client.specs.declared.ask.AskFault.{AskFault}
 use Rattle.desk_client.specs.declared.ask.AskFault.TheVariants as fault
 use Rattle.desk_client.specs.declared.connect.LastTry.TheVariants as last
@@ -27,7 +27,7 @@ timed f body read_old read_new old new true fault.Long is = is
 timed f body read_old read_new old new true fault.Foreign is = is
 timed f body read_old read_new old new false e is = is
 
-pub printed : (f : Form) (a : Answer) (body : List ℕ) (talk_old talk_new : Talk) (old new : Given) (r : Result (Unit {0}) PrintFault) (result : Result Bool RunFault)
+pub printed : (f : Form) (a : Response) (body : List ℕ) (talk_old talk_new : Talk) (old new : Given) (r : Result (Unit {0}) PrintFault) (result : Result Bool RunFault)
     → body ≡ body_of a → HasPrintedBody f body talk_old.come talk_new.come old new r → HasReadOn talk_old talk_new → talk_new.last ≡ last_after r talk_old.last
     → result ≡ call_ended r → HasPrinted f a talk_old talk_new old new result
 printed f a body talk_old talk_new old new r result body_is is same last_is ends = record {
@@ -38,7 +38,7 @@ printed f a body talk_old talk_new old new r result body_is is same last_is ends
   result_is = ends;
 }
 
-pub broken : (f : Form) (a : Answer) (body : List ℕ) (talk_old talk_new : Talk) (old new : Given) (late : Bool) (e other : AskFault) (result : Result Bool RunFault)
+pub broken : (f : Form) (a : Response) (body : List ℕ) (talk_old talk_new : Talk) (old new : Given) (late : Bool) (e other : AskFault) (result : Result Bool RunFault)
     → body ≡ body_of a → HasPrintedBody f body talk_old.come talk_new.come old new (Err (print.Rest e)) → HasReadOn talk_old talk_new
     → other ≡ by_time late e → talk_new.last ≡ last.Failed other → result ≡ Err (service_fault other)
     → HasPrinted f a talk_old talk_new old new result

@@ -3,7 +3,7 @@ use Rattle.std.proofs.Common.{◌≡◌, ◌∙◌, refl, subst, inl, inr, ℕ, 
 use Rattle.desk_client.specs.Again.{is_vain, Talk, IsRefusedOrTalked, HasTriedAgain, HasTriedThrice, IsAskedUntil, IsSettled}
 use Rattle.desk_client.specs.Asked.{HasAsked}
 use Rattle.desk_client.specs.Count.{one_more}
-use Rattle.desk_client.specs.declared.ask.Answer.{Answer}
+use Rattle.desk_client.specs.declared.ask.Response.{Response}
 use Rattle.desk_client.specs.declared.ask.AskFault.{AskFault}
 use Rattle.desk_client.specs.declared.ask.AskFault.TheVariants as fault
 use Rattle.desk_client.specs.declared.ask.Until.{Until}
@@ -12,20 +12,20 @@ pub refused : (until : Until) (request : List ℕ) (old new : Talk) → new.trie
     → IsRefusedOrTalked until request old new (Err fault.Refused)
 refused until request old new tried none unsent unread = inl (record { why = refl; tried = tried; none = none; unsent = unsent; unread = unread })
 
-pub talked : (until : Until) (request : List ℕ) (old new : Talk) (result : Result Answer AskFault) → new.tried ≡ one_more old.tried → new.opened ≡ old.opened + 1
+pub talked : (until : Until) (request : List ℕ) (old new : Talk) (result : Result Response AskFault) → new.tried ≡ one_more old.tried → new.opened ≡ old.opened + 1
     → HasAsked until request old.sent new.sent old.come new.come result → IsRefusedOrTalked until request old new result
 talked until request old new result tried one asked = inr (record { tried = tried; one = one; asked = asked })
 
-pub settled : (Once More : Talk → Talk → Result Answer AskFault → Type 0) (old new : Talk) (result : Result Answer AskFault)
+pub settled : (Once More : Talk → Talk → Result Response AskFault → Type 0) (old new : Talk) (result : Result Response AskFault)
     → Once old new result → IsSettled result → HasTriedAgain Once More old new result
 settled Once More old new result once is = inl (once, is)
 
-pub again : (Once More : Talk → Talk → Result Answer AskFault → Type 0) (old mid new : Talk) (e : AskFault) (result : Result Answer AskFault)
+pub again : (Once More : Talk → Talk → Result Response AskFault → Type 0) (old mid new : Talk) (e : AskFault) (result : Result Response AskFault)
     → is_vain e ≡ true → Once old mid (Err e) → More mid new result → HasTriedAgain Once More old new result
 again Once More old mid new e result vain once more = inr (mid, (e, vain, once, more))
 
 -- the tries of a request are those of its question
-pub asked : (until u : Until) (request bytes items : List ℕ) (old new : Talk) (result : Result Answer AskFault) → u ≡ until → bytes ≡ items → items ≡ request
+pub asked : (until u : Until) (request bytes items : List ℕ) (old new : Talk) (result : Result Response AskFault) → u ≡ until → bytes ≡ items → items ≡ request
     → HasTriedThrice u bytes old new result → IsAskedUntil until request old new result
 asked until u request bytes items old new result until_is bytes_are items_are tried =
     let same : HasTriedThrice u request old new result = subst (λ (b : List ℕ). HasTriedThrice u b old new result) (bytes_are ∙ items_are) tried in

@@ -8,7 +8,7 @@ use Rattle.cli_run.specs.Came.{HasFailed, HasGrown}
 use Rattle.desk_client.specs.Front.{IsBegun}
 use Rattle.desk_client.specs.Request.{most_row_bytes}
 use Rattle.desk_client.specs.Whole.{IsCutShort, IsNeverWhole, IsNotWhole, IsWhole}
-use Rattle.desk_client.specs.declared.ask.Answer.{Answer}
+use Rattle.desk_client.specs.declared.ask.Response.{Response}
 use Rattle.desk_client.specs.declared.ask.AskFault.{AskFault}
 use Rattle.desk_client.specs.declared.ask.AskFault.TheVariants as fault
 use Rattle.desk_client.specs.declared.ask.Until.{Until}
@@ -28,21 +28,21 @@ IsNoAnswer fault.Long most came = most < length came
 IsNoAnswer _ most came = ⊥
 
 -- the bytes are this whole answer; or they aren't a whole answer
-abbrev pub HasUnderstood : ℕ → List ℕ → Result Answer AskFault → Type 0
+abbrev pub HasUnderstood : ℕ → List ℕ → Result Response AskFault → Type 0
 HasUnderstood most came (Ok a) =
     (length came ≤ most) × (a.bytes.items ≡ came) × (a.start ≤ length came)
     × IsWhole came a.status (drop a.start came) × (a.begun ≡ None)
 HasUnderstood most came (Err e) = IsNoAnswer e most came
 
 -- The bytes received up to the end of the connection are this whole answer.
-pub record HasAnswer (most : ℕ) (old new : Given) (a : Answer) : Type 0 where
+pub record HasAnswer (most : ℕ) (old new : Given) (a : Response) : Type 0 where
   pub come : HasCome most old new a.bytes.items
   pub few : length a.bytes.items ≤ most
   pub within : a.start ≤ length a.bytes.items
   pub whole : IsWhole a.bytes.items a.status (drop a.start a.bytes.items)
 
 -- The bytes received are a report up to a printable prefix of its body, and no read failed.
-pub record HasBegun (form : Form) (old new : Given) (a : Answer) (end : ℕ) : Type 0 where
+pub record HasBegun (form : Form) (old new : Given) (a : Response) (end : ℕ) : Type 0 where
   pub come : HasGrown old new [] a.bytes.items
   pub good : a.status ≡ 200
   pub begun : IsBegun form a.bytes.items a.start end
@@ -53,7 +53,7 @@ most_by (until.End most) = most
 most_by (until.Rows form) = most_row_bytes
 
 -- Only rows are returned before their whole answer was received.
-abbrev pub HasTaken : Until → Given → Given → Answer → Option ℕ → Type 0
+abbrev pub HasTaken : Until → Given → Given → Response → Option ℕ → Type 0
 HasTaken (until.End most) old new a begun = HasAnswer most old new a
 HasTaken (until.Rows form) old new a None = HasAnswer most_row_bytes old new a
 HasTaken (until.Rows form) old new a (Some end) = HasBegun form old new a end
@@ -61,7 +61,7 @@ HasTaken (until.Rows form) old new a (Some end) = HasBegun form old new a end
 -- An answer was read as far as requested. Or there is none: the reader failed, or memory ran out,
 -- or the bytes received up to the end of the connection aren't a whole answer. A reader that timed
 -- out has failed.
-abbrev pub HasRead : Until → Given → Given → Result Answer AskFault → Type 0
+abbrev pub HasRead : Until → Given → Given → Result Response AskFault → Type 0
 HasRead until old new (Ok a) = HasTaken until old new a a.begun
 HasRead until old new (Err fault.Refused) = ⊥
 HasRead until old new (Err fault.Write) = ⊥
@@ -72,7 +72,7 @@ HasRead until old new (Err e) = (came : List ℕ) × HasCome (most_by until) old
 
 -- The request was sent, and its answer was read; or a prefix of the request was sent, and nothing
 -- was read.
-abbrev pub HasAsked : Until → List ℕ → Given → Given → Given → Given → Result Answer AskFault → Type 0
+abbrev pub HasAsked : Until → List ℕ → Given → Given → Given → Given → Result Response AskFault → Type 0
 HasAsked until request sent_old sent_new read_old read_new (Err fault.Write) =
     ((sent : ℕ) × (sent_new.bytes ≡ sent_old.bytes ++ take sent request)) × HasCause sent_old sent_new × (read_new ≡ read_old)
 HasAsked until request sent_old sent_new read_old read_new result =

@@ -12,7 +12,7 @@ use Rattle.cli_words.specs.declared.line.LineCommand.{LineCommand}
 use Rattle.cli_words.specs.declared.line.LineCommand.TheVariants as command
 use Rattle.cli_run.specs.Answered.{HasRunInput}
 use Rattle.cli_run.specs.Asked.{IsCommandAsked}
-use Rattle.cli_run.specs.InTurn.{lines_of, HaveBeenMade}
+use Rattle.cli_run.specs.InTurn.{kept_lines, HaveBeenMade}
 use Rattle.cli_run.specs.Takes.{HasTakenNext}
 use Rattle.desk_client.specs.Again.{talked, Talk}
 use Rattle.desk_client.specs.ListRows.{HasAnsweredRow}
@@ -40,7 +40,7 @@ HasDone (command.Take paths) talk given turned taken left old new r =
 HasDone (command.Act verb key) talk given turned taken left old new r =
     HasRunInput (IsCommandAsked verb key) (HasAnsweredText talk taken (Some (verb, key))) (given old.1) (given new.1) old.0 new.0 r
 HasDone command.Acts talk given turned taken left old new r =
-    HaveBeenAnswered lines_of (λ number line old new. HasAnsweredLine taken number line (talked talk old) (talked talk new)) left old.0 new.0 r
+    HaveBeenAnswered kept_lines (λ number line old new. HasAnsweredLine taken number line (talked talk old) (talked talk new)) left old.0 new.0 r
     × IsReadToEnd (given new.1) r
 HasDone (command.Outbox f) talk given turned taken left old new r =
     HasAskedRows (rows_path (listing.All report.Pending) f) f (shown_at talk old.0) (shown_at talk new.0) r

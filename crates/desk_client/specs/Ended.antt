@@ -25,6 +25,11 @@ abbrev pub without : List ℕ → List ℕ → Option (List ℕ)
 without end text =
     where_true (pointwise ◌==◌ (drop (length text - length end) text) end) (take (length text - length end) text)
 
+-- the text after this prefix, if it begins with it
+abbrev pub behind : List ℕ → List ℕ → Option (List ℕ)
+behind front text =
+    where_true (bytes_eq (take (length front) text) front) (drop (length front) text)
+
 abbrev pub has_count_in : (List ℕ → Bool) → Option (List ℕ) → Bool
 has_count_in is_front None = false
 has_count_in is_front (Some text) = has_count is_front text

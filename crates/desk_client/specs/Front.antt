@@ -26,5 +26,5 @@ pub record IsFrontEnd (form : Form) (text : List ℕ) (end : ℕ) : Type 0 where
 -- the bytes are a report's, whose body starts at `start` and has this printable prefix
 pub record IsBegun (form : Form) (bytes : List ℕ) (start end : ℕ) : Type 0 where
   pub within : start ≤ length bytes
-  pub report : IsReport bytes (drop start bytes)
+  pub report : IsReport form bytes (drop start bytes)
   pub front : IsFrontEnd form (drop start bytes) end

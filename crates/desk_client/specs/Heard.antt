@@ -16,13 +16,13 @@ use Rattle.stock_list.specs.Come.{Come}
 use Rattle.cli_run.specs.Shut.{IsAnsweredShut}
 use Rattle.desk_client.specs.Again.{Talk, IsAnswered}
 use Rattle.desk_client.specs.Told.{Tells}
-use Rattle.desk_client.specs.declared.ask.Answer.{Answer}
+use Rattle.desk_client.specs.declared.ask.Response.{Response}
 use Rattle.desk_client.specs.declared.ask.AskFault.{AskFault}
 use Rattle.desk_client.specs.declared.ask.AskFault.TheVariants as vain
 use Rattle.desk_client.specs.declared.line.Heard.{Heard}
 use Rattle.desk_client.specs.declared.told.Told.TheVariants as told
 
-abbrev pub body_of : Answer → List ℕ
+abbrev pub body_of : Response → List ℕ
 body_of a = drop a.start a.bytes.items
 
 -- a service that doesn't answer is returned like a store that failed
@@ -31,7 +31,7 @@ service_fault vain.Memory = fault.Memory
 service_fault _ = fault.Store
 
 -- the answer has this line; or it isn't a desk's; or memory ran out
-abbrev pub HasUnderstoodLine : Answer → Result Heard RunFault → Type 0
+abbrev pub HasUnderstoodLine : Response → Result Heard RunFault → Type 0
 HasUnderstoodLine a (Ok heard) = Tells a.status (body_of a) (told.Line heard.good heard.text)
 HasUnderstoodLine a (Err fault.Store) = Tells a.status (body_of a) told.Nothing
 HasUnderstoodLine a (Err e) = e ≡ fault.Memory
@@ -39,9 +39,9 @@ HasUnderstoodLine a (Err e) = e ≡ fault.Memory
 -- the service was asked, and its answer has this line; or it didn't answer
 abbrev pub HasHeard : List ℕ → ℕ → Talk → Talk → Result Heard RunFault → Type 0
 HasHeard request most old new (Ok heard) =
-    (a : Answer) × IsAnswered most request old new (Ok a) × HasUnderstoodLine a (Ok heard)
+    (a : Response) × IsAnswered most request old new (Ok a) × HasUnderstoodLine a (Ok heard)
 HasHeard request most old new (Err e) =
-    ((a : Answer) × IsAnswered most request old new (Ok a) × HasUnderstoodLine a (Err e))
+    ((a : Response) × IsAnswered most request old new (Ok a) × HasUnderstoodLine a (Err e))
     ⊎ ((f : AskFault) × IsAnswered most request old new (Err f) × (e ≡ service_fault f))
 
 -- a telegram that was read is refused as unreadable: the date of its flight isn't an existing day

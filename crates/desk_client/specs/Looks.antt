@@ -1,22 +1,22 @@
 -- Reports and look-ups with a service.
-use Rattle.std.specs.Prelude.{◌≡◌, ◌⊎◌, ◌==◌, ◌&&◌, ◌||◌, ℕ, Bool, true, false, List, [], ◌∷◌, ◌++◌, length, take, drop, codes, is_some, Option, Some, None, Result, Ok, Err, option_and_then, ⊤}
+use Rattle.std.specs.Prelude.{◌≡◌, ◌⊎◌, ◌==◌, ◌&&◌, ◌||◌, ℕ, Bool, true, false, List, [], ◌∷◌, ◌++◌, codes, is_some, Option, Some, None, Result, Ok, Err, option_and_then, ⊤}
 use Rattle.std.specs.List.{list_all}
 use Rattle.std.specs.Str.{bytes_eq}
 use Rattle.awb_number.specs.Number.{number_text}
 use Rattle.imp_fields.specs.Characters.{is_printable}
-use Rattle.station_days.specs.Steps.{where_true}
 use Rattle.reports.specs.declared.form.Form.{Form}
 use Rattle.station_core.specs.Ends.{HasCause, HasSent}
 use Rattle.station_core.specs.Given.{Given}
 use Rattle.stock_list.specs.declared.answer.RunFault.{RunFault}
 use Rattle.stock_list.specs.declared.answer.RunFault.TheVariants as fault
 use Rattle.desk_client.specs.Again.{Talk, IsAnswered, IsAskedUntil}
-use Rattle.desk_client.specs.Ended.{ends_in}
+use Rattle.desk_client.specs.Ended.{behind, ends_in}
 use Rattle.desk_client.specs.Front.{IsBegun}
 use Rattle.desk_client.specs.Heard.{body_of, service_fault}
 use Rattle.desk_client.specs.Printed.{HasPrinted}
 use Rattle.desk_client.specs.Request.{get_request}
-use Rattle.desk_client.specs.declared.ask.Answer.{Answer}
+use Rattle.desk_client.specs.Whole.{IsOfForm}
+use Rattle.desk_client.specs.declared.ask.Response.{Response}
 use Rattle.desk_client.specs.declared.ask.AskFault.{AskFault}
 use Rattle.desk_client.specs.declared.ask.Until.TheVariants as until
 
@@ -29,7 +29,7 @@ abbrev pub shown : Talk → Given → Shown
 shown talk sent = record { talk = talk; sent = sent }
 
 -- a desk's own answer for an unknown number
-abbrev pub is_unknown : Answer → Bool
+abbrev pub is_unknown : Response → Bool
 is_unknown a = (a.status == 404) && bytes_eq (body_of a) (codes "{\"detail\":\"\",\"refused\":404}")
 
 -- a text was written, with this result; or a prefix, and the writer failed or wrote 0 bytes
@@ -41,20 +41,15 @@ HasShown text good old new (Err e) = (e ≡ fault.Write) × HasSent text old new
 abbrev pub HasShownNothing : Given → Given → Result Bool RunFault → Type 0
 HasShownNothing old new result = (new ≡ old) × (result ≡ Err fault.Store)
 
-abbrev pub HasRows : Form → Answer → Type 0
-HasRows f a = (a.status ≡ 200) × (ends_in f (body_of a) ≡ true)
+abbrev pub HasRows : Form → Response → Type 0
+HasRows f a = (a.status ≡ 200) × IsOfForm f a.bytes.items × (ends_in f (body_of a) ≡ true)
 
 -- an answer with rows in the form: they are written unchanged; for any other answer nothing is
 -- written
-abbrev pub HasShownRows : Form → Answer → Given → Given → Result Bool RunFault → Type 0
+abbrev pub HasShownRows : Form → Response → Given → Given → Result Bool RunFault → Type 0
 HasShownRows f a old new result =
     (HasRows f a × HasShown (body_of a) true old new result)
     ⊎ ((¬ HasRows f a) × HasShownNothing old new result)
-
--- the text after this prefix, if it begins with it
-abbrev pub behind : List ℕ → List ℕ → Option (List ℕ)
-behind front text =
-    where_true (bytes_eq (take (length front) text) front) (drop (length front) text)
 
 -- a text that begins with the object of a number, as a desk prints it
 abbrev pub has_object_front : ℕ → List ℕ → Bool
@@ -86,27 +81,27 @@ object_look w = record { shows = is_object_of w; end = 10 ∷ [] }
 abbrev pub history_look : ℕ → LookUp
 history_look w = record { shows = is_history_of w; end = [] }
 
-abbrev pub has_found : LookUp → Answer → Bool
+abbrev pub has_found : LookUp → Response → Bool
 has_found look a = (a.status == 200) && look.shows (body_of a)
 
 -- an answer that a number is unknown: that is written; for any other answer nothing is
-abbrev pub HasShownUnknown : Answer → Given → Given → Result Bool RunFault → Type 0
+abbrev pub HasShownUnknown : Response → Given → Given → Result Bool RunFault → Type 0
 HasShownUnknown a old new result =
     ((is_unknown a ≡ true) × HasShown (codes "unknown\n") false old new result)
     ⊎ ((is_unknown a ≡ false) × HasShownNothing old new result)
 
 -- an answer to a look-up: its body is written, or that the number is unknown; for any other answer
 -- nothing is written
-abbrev pub HasShownFound : LookUp → Answer → Given → Given → Result Bool RunFault → Type 0
+abbrev pub HasShownFound : LookUp → Response → Given → Given → Result Bool RunFault → Type 0
 HasShownFound look a old new result =
     ((has_found look a ≡ true) × HasShown (body_of a ++ look.end) true old new result)
     ⊎ ((has_found look a ≡ false) × HasShownUnknown a old new result)
 
 -- the service was asked, and its answer was shown; or it didn't answer, and nothing was written
-abbrev pub HasLooked : (Answer → Given → Given → Result Bool RunFault → Type 0) → ℕ → List ℕ → Shown → Shown
+abbrev pub HasLooked : (Response → Given → Given → Result Bool RunFault → Type 0) → ℕ → List ℕ → Shown → Shown
     → Result Bool RunFault → Type 0
 HasLooked Shows most request old new result =
-    ((a : Answer) × IsAnswered most request old.talk new.talk (Ok a) × Shows a old.sent new.sent result)
+    ((a : Response) × IsAnswered most request old.talk new.talk (Ok a) × Shows a old.sent new.sent result)
     ⊎ ((f : AskFault) × IsAnswered most request old.talk new.talk (Err f) × (new.sent ≡ old.sent)
     × (result ≡ Err (service_fault f)))
 
@@ -114,12 +109,12 @@ abbrev pub rows_request : List ℕ → List ℕ
 rows_request path = get_request path ++ []
 
 -- an answer with rows of which a prefix was received, or a whole one
-abbrev pub IsTakenRows : Form → Answer → Option ℕ → Type 0
+abbrev pub IsTakenRows : Form → Response → Option ℕ → Type 0
 IsTakenRows f a None = ⊤
 IsTakenRows f a (Some end) = IsBegun f a.bytes.items a.start end
 
 -- its rows were printed: of a whole answer at once, otherwise as they arrive
-abbrev pub HasShownTaken : Form → Answer → Option ℕ → Talk → Talk → Given → Given → Result Bool RunFault → Type 0
+abbrev pub HasShownTaken : Form → Response → Option ℕ → Talk → Talk → Given → Given → Result Bool RunFault → Type 0
 HasShownTaken f a None talk_old talk_new old new result = (talk_new ≡ talk_old) × HasShownRows f a old new result
 HasShownTaken f a (Some end) talk_old talk_new old new result = HasPrinted f a talk_old talk_new old new result
 
@@ -127,7 +122,7 @@ HasShownTaken f a (Some end) talk_old talk_new old new result = HasPrinted f a t
 -- and nothing was written.
 abbrev pub HasAskedRows : List ℕ → Form → Shown → Shown → Result Bool RunFault → Type 0
 HasAskedRows path f old new result =
-    ((a : Answer) × ((mid : Talk) × IsAskedUntil (until.Rows f) (rows_request path) old.talk mid (Ok a)
+    ((a : Response) × ((mid : Talk) × IsAskedUntil (until.Rows f) (rows_request path) old.talk mid (Ok a)
     × HasShownTaken f a a.begun mid new.talk old.sent new.sent result))
     ⊎ ((e : AskFault) × IsAskedUntil (until.Rows f) (rows_request path) old.talk new.talk (Err e) × (new.sent ≡ old.sent)
     × (result ≡ Err (service_fault e)))

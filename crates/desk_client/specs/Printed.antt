@@ -11,7 +11,7 @@ use Rattle.cli_run.specs.Came.{HasFailed, HasGrown}
 use Rattle.desk_client.specs.Ended.{has_end}
 use Rattle.desk_client.specs.Front.{mark_of, IsFront}
 use Rattle.desk_client.specs.Heard.{body_of, service_fault}
-use Rattle.desk_client.specs.declared.ask.Answer.{Answer}
+use Rattle.desk_client.specs.declared.ask.Response.{Response}
 use Rattle.desk_client.specs.declared.ask.AskFault.{AskFault}
 use Rattle.desk_client.specs.declared.ask.AskFault.TheVariants as fault
 use Rattle.desk_client.specs.declared.connect.LastTry.{LastTry}
@@ -111,7 +111,7 @@ call_ended (Err print.Write) = Err run.Write
 call_ended (Err (print.Rest e)) = Err (service_fault e)
 
 -- The rest of the report was read over the same connection, and printed in this way.
-pub record HasPrinted (form : Form) (a : Answer) (talk_old talk_new : Talk) (old new : Given) (result : Result Bool RunFault) : Type 0 where
+pub record HasPrinted (form : Form) (a : Response) (talk_old talk_new : Talk) (old new : Given) (result : Result Bool RunFault) : Type 0 where
   pub ended : Result (Unit {0}) PrintFault
   pub body : HasPrintedBody form (body_of a) talk_old.come talk_new.come old new ended
   pub same : HasReadOn talk_old talk_new

@@ -1,10 +1,13 @@
 -- Whole answers.
-use Rattle.std.specs.Prelude.{◌≡◌, ◌⊎◌, ◌≤◌, ◌<◌, ℕ, true, false, Some, List, [], ◌∷◌, ◌++◌, drop, length, map, codes}
+use Rattle.std.specs.Prelude.{◌≡◌, ◌⊎◌, ◌≤◌, ◌<◌, ◌==◌, ◌||◌, ℕ, Bool, true, false, Option, Some, None, List, [], ◌∷◌, ◌++◌, drop, length, map, codes}
 use Rattle.httparse.specs.Grammar.{ResponseHead, ReadsResponse, HasNoResponse, MayBecomeResponse, status_code}
 use Rattle.httparse.specs.Spans.{name_and_value}
 use Rattle.http_desk.specs.Digits.{number_told}
+use Rattle.http_desk.specs.Reply.{media_type}
 use Rattle.http_desk.specs.Request.{values_of}
-use Rattle.desk_client.specs.Ended.{has_end}
+use Rattle.reports.specs.declared.form.Form.{Form}
+use Rattle.reports.specs.declared.form.Form.TheVariants as form
+use Rattle.desk_client.specs.Ended.{behind, has_end}
 use Rattle.desk_client.specs.declared.whole.Extent.{Extent}
 use Rattle.desk_client.specs.declared.whole.Extent.TheVariants as extent
 use Rattle.desk_client.specs.declared.whole.Found.{Found}
@@ -12,6 +15,28 @@ use Rattle.desk_client.specs.declared.whole.Found.TheVariants as found
 
 abbrev pub most_fields : ℕ
 most_fields = 16
+
+-- the end of a media type, or parameters
+abbrev pub is_type_end : List ℕ → Bool
+is_type_end [] = true
+is_type_end (b ∷ bs) = b == 59
+
+abbrev pub is_type_end_in : Option (List ℕ) → Bool
+is_type_end_in None = false
+is_type_end_in (Some rest) = is_type_end rest
+
+-- one media type is given, that of rows in a form
+abbrev pub is_media : Form → List (List ℕ) → Bool
+is_media f (value ∷ []) = is_type_end_in (behind (media_type f) value)
+is_media f _ = false
+
+abbrev pub has_media : Form → List (List ℕ × List ℕ) → Bool
+has_media f fields = is_media f (values_of (codes "content-type") fields)
+
+-- a body without a length is rows, by its media type
+abbrev pub IsOfRows : List (List ℕ × List ℕ) → Type 0
+IsOfRows fields = values_of (codes "content-length") fields ≡ []
+    → has_media form.Text fields || has_media form.Json fields ≡ true
 
 -- the one given length is that of the body; or none is given, and the body ends like a report
 abbrev pub IsAsLong : List (List ℕ) → List ℕ → Type 0
@@ -22,6 +47,7 @@ IsAsLong (value ∷ other ∷ values) body = ⊥
 -- a desk never sends a chunked body
 pub record IsWholeBody (fields : List (List ℕ × List ℕ)) (body : List ℕ) : Type 0 where
   pub plain : values_of (codes "transfer-encoding") fields ≡ []
+  pub rows : IsOfRows fields
   pub long : IsAsLong (values_of (codes "content-length") fields) body
 
 -- The bytes are a head of this status and then this whole body.
@@ -48,6 +74,7 @@ IsTooShort (value ∷ other ∷ values) body = ⊥
 
 pub record IsShortBody (fields : List (List ℕ × List ℕ)) (body : List ℕ) : Type 0 where
   pub plain : values_of (codes "transfer-encoding") fields ≡ []
+  pub rows : IsOfRows fields
   pub short : IsTooShort (values_of (codes "content-length") fields) body
 
 -- a head of a desk, whose body is too short
@@ -62,15 +89,24 @@ pub record IsShortBehind (bytes : List ℕ) : Type 0 where
 abbrev pub IsCutShort : List ℕ → Type 0
 IsCutShort bytes = (HasNoResponse bytes × MayBecomeResponse bytes) ⊎ IsShortBehind bytes
 
--- The bytes are a head of status 200 without a length, as a desk writes it before a report, and
--- then this prefix of its body.
-pub record IsReport (bytes body : List ℕ) : Type 0 where
+-- The bytes are a head with the media type of rows in a form, and a body.
+pub record IsOfForm (f : Form) (bytes : List ℕ) : Type 0 where
+  pub head : ResponseHead
+  pub body : List ℕ
+  pub reads : ReadsResponse bytes head body
+  pub few : length head.fields ≤ most_fields
+  pub media : has_media f (map name_and_value head.fields) ≡ true
+
+-- The bytes are a head of status 200 without a length, as a desk writes it before rows in a form,
+-- and then this prefix of its body.
+pub record IsReport (f : Form) (bytes body : List ℕ) : Type 0 where
   pub head : ResponseHead
   pub reads : ReadsResponse bytes head body
   pub few : length head.fields ≤ most_fields
   pub good : status_code head ≡ 200
   pub plain : values_of (codes "transfer-encoding") (map name_and_value head.fields) ≡ []
   pub untold : values_of (codes "content-length") (map name_and_value head.fields) ≡ []
+  pub media : has_media f (map name_and_value head.fields) ≡ true
 
 -- the extent of a body by its head
 abbrev pub IsExtent : List (List ℕ) → List ℕ → Extent → Type 0

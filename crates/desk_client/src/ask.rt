@@ -6,7 +6,7 @@ ghost use Rattle.desk_client.specs.Looks.{shown, HasAskedRows};
 ghost use Rattle.desk_client.specs.Request.{most_of, request_of};
 ghost use Rattle.http_desk.specs.Paths.{rows_path};
 
-use crate::connect::{Connect, LastTry, Service};
+use crate::connect::{Connect, LastTry, RemoteDesk};
 use crate::front::begun_in;
 use crate::line::service_fault;
 use crate::question::{Question, most_of, request_of};
@@ -41,7 +41,7 @@ pub enum AskFault {
 
 /// An answer that was received.
 #[derive(Drop)]
-pub struct Answer {
+pub struct Response {
     pub status: u16,
     /// All bytes received.
     pub bytes: Vec<u8>,
@@ -63,14 +63,14 @@ pub enum Until {
 }
 
 /// Returns the bytes as an answer, if they are one and not too long.
-fn understood(bytes: Vec<u8>, most: usize) -> Result<Answer, AskFault>
+fn understood(bytes: Vec<u8>, most: usize) -> Result<Response, AskFault>
     ensures { HasUnderstood most bytes.items result }
 {
     if bytes.len() > most {
         return Err(AskFault::Long);
     }
     match found_in(bytes.as_slice()) {
-        Found::Whole(place) => Ok(Answer {
+        Found::Whole(place) => Ok(Response {
             status: place.status,
             bytes,
             start: place.start,
@@ -91,7 +91,7 @@ fn send_request<O: ByteOut>(writer: &mut O, request: &[u8]) -> Result<(), AskFau
 }
 
 /// Reads an answer to the end of its connection, or until it is too long.
-fn read_whole<I: ByteIn>(alloc: Global, reader: &mut I, most: usize) -> Result<Answer, AskFault>
+fn read_whole<I: ByteIn>(alloc: Global, reader: &mut I, most: usize) -> Result<Response, AskFault>
     ensures { HasRead (Until.End most) (I.given reader.old) (I.given reader.new) result }
 {
     match read_all(alloc, reader, most) {
@@ -102,7 +102,7 @@ fn read_whole<I: ByteIn>(alloc: Global, reader: &mut I, most: usize) -> Result<A
 
 /// Reads an answer until printable rows were received, or else to the end of its connection.
 #[tactic(auto, using(cli_run::proofs::Grown::grown_more, crate::proofs::Grown::come_more))]
-fn read_rows<I: ByteIn>(alloc: Global, reader: &mut I, form: Form) -> Result<Answer, AskFault>
+fn read_rows<I: ByteIn>(alloc: Global, reader: &mut I, form: Form) -> Result<Response, AskFault>
     ensures { HasRead (Until.Rows form) (I.given reader.old) (I.given reader.new) result }
 {
     let mut bytes = Vec::new(alloc);
@@ -112,7 +112,7 @@ fn read_rows<I: ByteIn>(alloc: Global, reader: &mut I, form: Form) -> Result<Ans
             return understood(bytes, usize::MAX);
         }
         if let Some((start, end)) = begun_in(bytes.as_slice(), from, form) {
-            return Ok(Answer {
+            return Ok(Response {
                 status: 200,
                 bytes,
                 start,
@@ -124,7 +124,7 @@ fn read_rows<I: ByteIn>(alloc: Global, reader: &mut I, form: Form) -> Result<Ans
 }
 
 /// Reads an answer as far as `until`.
-fn read_until<I: ByteIn>(alloc: Global, reader: &mut I, until: Until) -> Result<Answer, AskFault>
+fn read_until<I: ByteIn>(alloc: Global, reader: &mut I, until: Until) -> Result<Response, AskFault>
     ensures { HasRead until (I.given reader.old) (I.given reader.new) result }
 {
     match until {
@@ -141,7 +141,7 @@ fn ask_one<I: ByteIn, O: ByteOut>(
     writer: &mut O,
     request: &[u8],
     until: Until,
-) -> Result<Answer, AskFault>
+) -> Result<Response, AskFault>
     ensures { HasAsked until request.now (O.taken writer.old) (O.taken writer.new)
         (I.given reader.old) (I.given reader.new) result }
 {
@@ -170,7 +170,7 @@ impl AskFault {
 }
 
 /// Returns the outcome of a try.
-fn last_of(ended: &Result<Answer, AskFault>) -> LastTry
+fn last_of(ended: &Result<Response, AskFault>) -> LastTry
     ensures { result ≡ last_of ended.now }
 {
     match ended {
@@ -183,10 +183,10 @@ fn last_of(ended: &Result<Answer, AskFault>) -> LastTry
 #[tactic(auto, using(crate::proofs::Asking::timed))]
 fn ask_over_new<C: Connect, I: ByteIn, O: ByteOut>(
     alloc: Global,
-    service: &mut Service<C, I, O>,
+    service: &mut RemoteDesk<C, I, O>,
     request: &[u8],
     until: Until,
-) -> Result<Answer, AskFault>
+) -> Result<Response, AskFault>
     ensures { IsRefusedOrTalked until request.now
         (talk C.tried C.opened I.given O.taken service.old)
         (talk C.tried C.opened I.given O.taken service.new) result }
@@ -209,10 +209,10 @@ fn ask_over_new<C: Connect, I: ByteIn, O: ByteOut>(
 /// Sends a request over a new connection, reads its answer, and records the outcome.
 fn try_once<C: Connect, I: ByteIn, O: ByteOut>(
     alloc: Global,
-    service: &mut Service<C, I, O>,
+    service: &mut RemoteDesk<C, I, O>,
     request: &[u8],
     until: Until,
-) -> Result<Answer, AskFault>
+) -> Result<Response, AskFault>
     ensures { HasTried until request.now (talk C.tried C.opened I.given O.taken service.old)
         (talk C.tried C.opened I.given O.taken service.new) result }
 {
@@ -224,10 +224,10 @@ fn try_once<C: Connect, I: ByteIn, O: ByteOut>(
 /// Sends a request, and once more if the first try is in vain.
 fn try_twice<C: Connect, I: ByteIn, O: ByteOut>(
     alloc: Global,
-    service: &mut Service<C, I, O>,
+    service: &mut RemoteDesk<C, I, O>,
     request: &[u8],
     until: Until,
-) -> Result<Answer, AskFault>
+) -> Result<Response, AskFault>
     ensures { HasTriedTwice until request.now (talk C.tried C.opened I.given O.taken service.old)
         (talk C.tried C.opened I.given O.taken service.new) result }
 {
@@ -240,10 +240,10 @@ fn try_twice<C: Connect, I: ByteIn, O: ByteOut>(
 /// Sends a request, and up to twice more if tries are in vain.
 fn try_thrice<C: Connect, I: ByteIn, O: ByteOut>(
     alloc: Global,
-    service: &mut Service<C, I, O>,
+    service: &mut RemoteDesk<C, I, O>,
     request: &[u8],
     until: Until,
-) -> Result<Answer, AskFault>
+) -> Result<Response, AskFault>
     ensures { HasTriedThrice until request.now (talk C.tried C.opened I.given O.taken service.old)
         (talk C.tried C.opened I.given O.taken service.new) result }
 {
@@ -265,7 +265,7 @@ pub trait Ask {
     /// `Ok` is a whole answer. Returns [`AskFault::Memory`] if memory runs out. Otherwise returns
     /// the fault of the third try, which `talk` keeps as the outcome of the last try. The desk may
     /// have done a command or a telegram even then: ask again, under the same key.
-    fn ask(&mut self, alloc: Global, question: &Question<'_>) -> Result<Answer, AskFault>
+    fn ask(&mut self, alloc: Global, question: &Question<'_>) -> Result<Response, AskFault>
         ensures { IsAnswered (most_of question.now) (request_of question.now) (talk self.old)
             (talk self.new) result };
 
@@ -292,10 +292,10 @@ pub trait Ask {
             (shown (talk self.new) (W.taken output.new)) result };
 }
 
-impl<C: Connect, I: ByteIn, O: ByteOut> Ask for Service<C, I, O> {
+impl<C: Connect, I: ByteIn, O: ByteOut> Ask for RemoteDesk<C, I, O> {
     ghost talk = { talk C.tried C.opened I.given O.taken };
 
-    fn ask(&mut self, alloc: Global, question: &Question<'_>) -> Result<Answer, AskFault> {
+    fn ask(&mut self, alloc: Global, question: &Question<'_>) -> Result<Response, AskFault> {
         let Ok(request) = request_of(alloc, question) else {
             return Err(AskFault::Memory);
         };

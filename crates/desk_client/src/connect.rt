@@ -38,7 +38,7 @@ pub enum LastTry {
 /// A service on a port, with the reader and the writer of its last connection, and the outcome of
 /// the last try.
 #[derive(Drop)]
-pub struct Service<C, I, O> {
+pub struct RemoteDesk<C, I, O> {
     pub connections: C,
     pub reader: I,
     pub writer: O,

@@ -1,6 +1,6 @@
 //! The end of a report.
 ghost use Rattle.std.specs.Prelude.{◌≡◌, ◌≤◌, codes, length, option_map};
-ghost use Rattle.desk_client.specs.Ended.{before_digits, ends_in, has_count, has_count_in, has_end, is_before_count, is_before_json_count, without};
+ghost use Rattle.desk_client.specs.Ended.{before_digits, behind, ends_in, has_count, has_count_in, has_end, is_before_count, is_before_json_count, without};
 
 use reports::Form;
 
@@ -53,6 +53,12 @@ fn without<'a>(text: &'a [u8], end: &[u8]) -> Option<&'a [u8]>
     ensures { option_map (λ front. front.now) result ≡ without end.now text.entry.now }
 {
     text.strip_suffix(end)
+}
+
+pub(crate) fn behind<'a>(front: &[u8], text: &'a [u8]) -> Option<&'a [u8]>
+    ensures { option_map (λ rest. rest.now) result ≡ behind front.now text.entry.now }
+{
+    text.strip_prefix(front)
 }
 
 /// Returns whether a text ends with the last line of a report, such as `END 12`.

@@ -50,7 +50,7 @@ pub(crate) fn front_end(text: &[u8], from: usize, form: Form) -> Option<usize>
 pub(crate) fn begun_in(bytes: &[u8], from: usize, form: Form) -> Option<(usize, usize)>
     ensures { IfSome result (λ place. IsBegun form bytes.now place.0 place.1) }
 {
-    let start = report_in(bytes)?;
+    let start = report_in(bytes, form)?;
     let end = front_end(&bytes[start..], from.saturating_sub(start), form)?;
     Some((start, end))
 }

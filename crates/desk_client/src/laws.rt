@@ -35,9 +35,9 @@ pub fn whole_law()
         → (s ≡ t) × (b ≡ c) }
     ensures cut { (front more : List ℕ) (s t : ℕ) (b c : List ℕ) → IsWhole front s b
         → IsWhole (front ++ more) t c → (more ≡ []) ⊎ (has_end b ≡ true) }
-    ensures begun { (bytes body more : List ℕ) → IsReport bytes body → has_end (body ++ more) ≡ true
-        → IsWhole (bytes ++ more) 200 (body ++ more) }
-    ensures broken { (bytes body more : List ℕ) → IsReport bytes body
+    ensures begun { (f : Form) (bytes body more : List ℕ) → IsReport f bytes body
+        → has_end (body ++ more) ≡ true → IsWhole (bytes ++ more) 200 (body ++ more) }
+    ensures broken { (f : Form) (bytes body more : List ℕ) → IsReport f bytes body
         → has_end (body ++ more) ≡ false → IsCutShort (bytes ++ more) }
 {}
 

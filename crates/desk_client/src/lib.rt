@@ -21,8 +21,8 @@ mod status;
 mod told;
 mod whole;
 
-pub use ask::{Answer, Ask, AskFault, Until};
-pub use connect::{Connect, LastTry, Service};
+pub use ask::{Ask, AskFault, Response, Until};
+pub use connect::{Connect, LastTry, RemoteDesk};
 pub use laws::{lines_law, request_law, whole_law};
 pub use question::Question;
 pub use run::ask_command;

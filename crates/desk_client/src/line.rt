@@ -6,7 +6,7 @@ ghost use Rattle.cli_run.specs.declared.asked.Asked.{Asked as AnyAsked};
 ghost use Rattle.desk_client.specs.Heard.{body_of, is_late, service_fault, HasAnswered, HasAnsweredInput, HasHeard, HasUnderstoodLine};
 ghost use Rattle.desk_client.specs.Request.{most_of, request_of};
 
-use crate::ask::{Answer, Ask, AskFault};
+use crate::ask::{Ask, AskFault, Response};
 use crate::question::Question;
 use crate::told::{Told, told_answer};
 use cli_run::{Asked, answer_bad, answer_bad_line, answer_refusal, named_line, tell_refusal};
@@ -27,7 +27,7 @@ pub(crate) struct Heard {
     pub(crate) text: String,
 }
 
-impl Answer {
+impl Response {
     pub(crate) fn body(&self) -> &[u8]
         ensures { result.now ≡ body_of self.now }
     {
@@ -50,7 +50,7 @@ pub(crate) fn service_fault(fault: AskFault) -> RunFault
 }
 
 /// Returns the line in an answer.
-fn heard_of(alloc: Global, answer: &Answer) -> Result<Heard, RunFault>
+fn heard_of(alloc: Global, answer: &Response) -> Result<Heard, RunFault>
     ensures { HasUnderstoodLine answer.now result }
 {
     match told_answer(alloc, answer.status, answer.body()) {

@@ -1,11 +1,12 @@
 //! Look-ups of numbers, and histories of waybills.
-ghost use Rattle.std.specs.Prelude.{◌≡◌, ◌++◌, [], option_map};
+ghost use Rattle.std.specs.Prelude.{◌≡◌, ◌++◌, []};
 ghost use Rattle.std.specs.List.{list_all};
 ghost use Rattle.imp_fields.specs.Characters.{is_printable};
-ghost use Rattle.desk_client.specs.Looks.{behind, has_found, has_object_front, history_look, is_history_of, is_object_of, is_text_byte, is_unknown, object_look, shown, HasLooked, HasShownFound, HasShownUnknown};
+ghost use Rattle.desk_client.specs.Looks.{has_found, has_object_front, history_look, is_history_of, is_object_of, is_text_byte, is_unknown, object_look, shown, HasLooked, HasShownFound, HasShownUnknown};
 ghost use Rattle.desk_client.specs.Request.{get_request, history_path, most_of, most_row_bytes, request_of};
 
-use crate::ask::{Answer, Ask};
+use crate::ask::{Ask, Response};
+use crate::ended::behind;
 use crate::line::service_fault;
 use crate::question::Question;
 use awb_number::Awb;
@@ -17,16 +18,10 @@ use stock_list::RunFault;
 /// The answer of a desk for an unknown number.
 const UNKNOWN_BODY: &[u8] = b"{\"detail\":\"\",\"refused\":404}";
 
-fn is_unknown(answer: &Answer) -> bool
+fn is_unknown(answer: &Response) -> bool
     ensures { result ≡ is_unknown answer.now }
 {
     answer.status == 404 && answer.body() == UNKNOWN_BODY
-}
-
-fn behind<'a>(front: &[u8], text: &'a [u8]) -> Option<&'a [u8]>
-    ensures { option_map (λ rest. rest.now) result ≡ behind front.now text.entry.now }
-{
-    text.strip_prefix(front)
 }
 
 fn has_object_front(number: &Awb, text: &[u8]) -> bool
@@ -67,20 +62,20 @@ fn is_history_of(number: &Awb, text: &[u8]) -> bool
     has_object_front(number, text) && are_lines(text)
 }
 
-fn has_object(number: &Awb, answer: &Answer) -> bool
+fn has_object(number: &Awb, answer: &Response) -> bool
     ensures { result ≡ has_found (object_look number.now) answer.now }
 {
     answer.status == 200 && is_object_of(number, answer.body())
 }
 
-fn has_history(number: &Awb, answer: &Answer) -> bool
+fn has_history(number: &Awb, answer: &Response) -> bool
     ensures { result ≡ has_found (history_look number.now) answer.now }
 {
     answer.status == 200 && is_history_of(number, answer.body())
 }
 
 /// Writes that a number is unknown, if the answer says so.
-fn show_unknown<W: ByteOut>(answer: &Answer, output: &mut W) -> Result<bool, RunFault>
+fn show_unknown<W: ByteOut>(answer: &Response, output: &mut W) -> Result<bool, RunFault>
     ensures { HasShownUnknown answer.now (W.taken output.old) (W.taken output.new) result }
 {
     if !is_unknown(answer) {
@@ -93,7 +88,11 @@ fn show_unknown<W: ByteOut>(answer: &Answer, output: &mut W) -> Result<bool, Run
 }
 
 /// Writes the object in the answer to a look-up, or that the number is unknown.
-fn show_object<W: ByteOut>(number: &Awb, answer: &Answer, output: &mut W) -> Result<bool, RunFault>
+fn show_object<W: ByteOut>(
+    number: &Awb,
+    answer: &Response,
+    output: &mut W,
+) -> Result<bool, RunFault>
     ensures { HasShownFound (object_look number.now) answer.now (W.taken output.old)
         (W.taken output.new) result }
 {
@@ -107,7 +106,11 @@ fn show_object<W: ByteOut>(number: &Awb, answer: &Answer, output: &mut W) -> Res
 }
 
 /// Writes the history in an answer, or that the waybill is unknown.
-fn show_history<W: ByteOut>(number: &Awb, answer: &Answer, output: &mut W) -> Result<bool, RunFault>
+fn show_history<W: ByteOut>(
+    number: &Awb,
+    answer: &Response,
+    output: &mut W,
+) -> Result<bool, RunFault>
     ensures { HasShownFound (history_look number.now) answer.now (W.taken output.old)
         (W.taken output.new) result }
 {

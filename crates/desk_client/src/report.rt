@@ -5,21 +5,25 @@ ghost use Rattle.desk_client.specs.Front.{IsBegun};
 ghost use Rattle.desk_client.specs.Looks.{HasShownRows, HasShownTaken, IsTakenRows};
 ghost use Rattle.desk_client.specs.Printed.{HasPrinted};
 
-use crate::ask::Answer;
-use crate::connect::{Connect, LastTry, Service};
+use crate::ask::Response;
+use crate::connect::{Connect, LastTry, RemoteDesk};
 use crate::ended::ends_in;
 use crate::line::service_fault;
 use crate::printing::{PrintFault, print_report};
+use crate::whole::is_of_form;
 use cli_run::send_part;
 use reports::Form;
 use station_core::{ByteIn, ByteOut};
 use std::alloc::Global;
 use stock_list::RunFault;
 
-fn show_rows<W: ByteOut>(answer: &Answer, form: Form, output: &mut W) -> Result<bool, RunFault>
+fn show_rows<W: ByteOut>(answer: &Response, form: Form, output: &mut W) -> Result<bool, RunFault>
     ensures { HasShownRows form answer.now (W.taken output.old) (W.taken output.new) result }
 {
-    if answer.status != 200 || !ends_in(form, answer.body()) {
+    if answer.status != 200
+        || !is_of_form(answer.bytes.as_slice(), form)
+        || !ends_in(form, answer.body())
+    {
         return Err(RunFault::Store);
     }
     match send_part(output, answer.body()) {
@@ -32,8 +36,8 @@ fn show_rows<W: ByteOut>(answer: &Answer, form: Form, output: &mut W) -> Result<
 #[tactic(auto, using(crate::proofs::RowsPrinted::printed, crate::proofs::RowsPrinted::broken))]
 fn print_begun<C: Connect, I: ByteIn, O: ByteOut, W: ByteOut>(
     alloc: Global,
-    service: &mut Service<C, I, O>,
-    answer: &Answer,
+    service: &mut RemoteDesk<C, I, O>,
+    answer: &Response,
     end: usize,
     form: Form,
     output: &mut W,
@@ -57,8 +61,8 @@ fn print_begun<C: Connect, I: ByteIn, O: ByteOut, W: ByteOut>(
 /// Writes the rows of an answer, of a whole one or as they arrive.
 pub(crate) fn show_answer<C: Connect, I: ByteIn, O: ByteOut, W: ByteOut>(
     alloc: Global,
-    service: &mut Service<C, I, O>,
-    answer: &Answer,
+    service: &mut RemoteDesk<C, I, O>,
+    answer: &Response,
     form: Form,
     output: &mut W,
 ) -> Result<bool, RunFault>

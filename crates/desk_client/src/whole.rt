@@ -1,20 +1,22 @@
 //! Recognising whole answers.
-ghost use Rattle.std.specs.Prelude.{◌≡◌, ◌≤◌, ◌∷◌, [], codes, drop, length, map, true, All, IfSome};
+ghost use Rattle.std.specs.Prelude.{◌≡◌, ◌≤◌, ◌∷◌, [], codes, drop, false, length, map, true, All, IfSome};
 ghost use Rattle.httparse.specs.Spans.{header_bytes, IsHeaderWithin};
+ghost use Rattle.http_desk.specs.Reply.{media_type};
 ghost use Rattle.http_desk.specs.Request.{values_of};
-ghost use Rattle.desk_client.specs.Whole.{IsExtent, IsExtentOf, IsFound, IsReport};
+ghost use Rattle.desk_client.specs.Whole.{has_media, is_media, is_type_end, IsExtent, IsExtentOf, IsFound, IsOfForm, IsReport};
 
-use crate::ended::has_end;
+use crate::ended::{behind, has_end};
 use http_desk::{Values, number_told, values_of};
 use httparse::Status;
 use httparse::spans::{EMPTY_HEADER_SPAN, HeaderSpan, parse_response};
+use reports::Form;
 
 /// The largest number of fields in an answer's head.
 const MOST_FIELDS: usize = 16;
 
 /// The status of an answer, and the start of its body.
 #[derive(Clone, Copy)]
-pub(crate) struct Place {
+pub(crate) struct Head {
     pub(crate) status: u16,
     pub(crate) start: usize,
 }
@@ -34,7 +36,7 @@ pub(crate) enum Extent {
 #[derive(Clone, Copy)]
 pub(crate) enum Found {
     /// A whole answer.
-    Whole(Place),
+    Whole(Head),
     /// A prefix of an answer.
     Cut,
     /// Not a prefix of any answer of a desk.
@@ -72,8 +74,9 @@ fn extent_of_report(body: &[u8]) -> Extent
     }
 }
 
-/// Returns the extent of a body by its head. A desk never sends a chunked body.
-#[tactic(auto, using(crate::proofs::Bodies::by_lengths, crate::proofs::Bodies::in_parts, crate::proofs::Bodies::of_several))]
+/// Returns the extent of a body by its head. A desk never sends a chunked body, and without a
+/// length it sends only rows.
+#[tactic(auto, using(crate::proofs::Bodies::by_length, crate::proofs::Bodies::by_rows, crate::proofs::Bodies::in_parts, crate::proofs::Bodies::of_no_rows, crate::proofs::Bodies::of_several))]
 fn extent_of(buf: &[u8], fields: &[HeaderSpan], body: &[u8]) -> Extent
     requires { All (IsHeaderWithin (length buf.now)) fields.now }
     ensures { IsExtentOf (map (header_bytes buf.now) fields.now) body.now result }
@@ -82,7 +85,13 @@ fn extent_of(buf: &[u8], fields: &[HeaderSpan], body: &[u8]) -> Extent
         return Extent::Never;
     };
     match values_of(buf, fields, b"content-length") {
-        Values::Nothing => extent_of_report(body),
+        Values::Nothing => {
+            if has_media(buf, fields, Form::Text) || has_media(buf, fields, Form::Json) {
+                extent_of_report(body)
+            } else {
+                Extent::Never
+            }
+        }
         Values::One(value) => extent_by(value, body),
         Values::More => Extent::Never,
     }
@@ -105,15 +114,66 @@ fn is_untold(buf: &[u8], fields: &[HeaderSpan]) -> bool
     true
 }
 
-/// Returns the start of the body if the bytes are a prefix of a report.
-pub(crate) fn report_in(bytes: &[u8]) -> Option<usize>
+fn media_type(form: Form) -> &'static [u8]
+    ensures { result.now ≡ media_type form }
+{
+    match form {
+        Form::Text => b"text/plain",
+        Form::Json => b"application/json",
+    }
+}
+
+fn is_type_end(rest: &[u8]) -> bool
+    ensures { result ≡ is_type_end rest.now }
+{
+    match rest.first() {
+        Some(b) => *b == b';',
+        None => true,
+    }
+}
+
+/// Returns whether a media type is that of rows in a form.
+fn is_media(form: Form, value: &[u8]) -> bool
+    ensures { result ≡ is_media form (value.now ∷ []) }
+{
+    match behind(media_type(form), value) {
+        Some(rest) => is_type_end(rest),
+        None => false,
+    }
+}
+
+fn has_media(buf: &[u8], fields: &[HeaderSpan], form: Form) -> bool
+    requires { All (IsHeaderWithin (length buf.now)) fields.now }
+    ensures { result ≡ has_media form (map (header_bytes buf.now) fields.now) }
+{
+    match values_of(buf, fields, b"content-type") {
+        Values::One(value) => is_media(form, value),
+        _ => false,
+    }
+}
+
+/// Returns whether an answer has the media type of rows in a form.
+pub(crate) fn is_of_form(bytes: &[u8], form: Form) -> bool
+    ensures given { result ≡ true → IsOfForm form bytes.now }
+    ensures other { result ≡ false → ¬ (IsOfForm form bytes.now) }
+{
+    let mut headers = [EMPTY_HEADER_SPAN; MOST_FIELDS];
+    match parse_response(bytes, &mut headers) {
+        Ok(Status::Complete(spans)) => has_media(bytes, &headers[..spans.headers], form),
+        _ => false,
+    }
+}
+
+/// Returns the start of the body if the bytes are a prefix of a report in a form.
+pub(crate) fn report_in(bytes: &[u8], form: Form) -> Option<usize>
     ensures within { IfSome result (λ start. start ≤ length bytes.now) }
-    ensures report { IfSome result (λ start. IsReport bytes.now (drop start bytes.now)) }
+    ensures report { IfSome result (λ start. IsReport form bytes.now (drop start bytes.now)) }
 {
     let mut headers = [EMPTY_HEADER_SPAN; MOST_FIELDS];
     match parse_response(bytes, &mut headers) {
         Ok(Status::Complete(spans)) => {
-            if spans.code == 200 && is_untold(bytes, &headers[..spans.headers]) {
+            let fields = &headers[..spans.headers];
+            if spans.code == 200 && is_untold(bytes, fields) && has_media(bytes, fields, form) {
                 Some(spans.len)
             } else {
                 None
@@ -132,7 +192,7 @@ pub(crate) fn found_in(bytes: &[u8]) -> Found
         Ok(Status::Complete(spans)) => {
             let fields = &headers[..spans.headers];
             match extent_of(bytes, fields, &bytes[spans.len..]) {
-                Extent::Whole => Found::Whole(Place {
+                Extent::Whole => Found::Whole(Head {
                     status: spans.code,
                     start: spans.len,
                 }),

@@ -1,8 +1,8 @@
 //! The keepers on which a day is played.
 use imp_fields::Airport;
-use map_state::MapState;
 use plain_station::PlainStation;
 use sqlite::MemStore;
+use state_store::MapState;
 use station_engine::StoredStation;
 use station_rows::open_memory;
 use station_tables::{AttachFault, Station, attach, create};

@@ -17,7 +17,7 @@ fn files_of(part: &str) -> &'static [&'static str] {
         "station" => STATION_FILES,
         "found" => found_tests::FILES,
         "lines" => line_tests::FILES,
-        "http" => http_tests::FILES,
+        "http" => message_tests::http::FILES,
         _ => &[],
     }
 }
@@ -37,7 +37,7 @@ fn run_file(rt: &HostRuntime, part: &str, file: &str) -> Result<Option<bool>, io
         "station" => run_station_file(rt, file)?,
         "found" => found_tests::run_file(rt, part, file)?,
         "lines" => line_tests::run_file(rt, file)?,
-        "http" => http_tests::run_file(rt, file)?,
+        "http" => message_tests::http::run_file(rt, file)?,
         _ => return Ok(None),
     }))
 }
@@ -63,7 +63,7 @@ fn run_word(rt: &HostRuntime, word: &str) -> Result<Option<bool>, io::Error> {
         "station-memory" => message_tests::run_memory(rt)? & desk_days::run_memory(rt)?,
         "found-memory" => found_tests::run_memory(rt)?,
         "service" => {
-            http_tests::run_service(rt)?;
+            message_tests::http::run_service(rt)?;
             true
         }
         "first-steps" => desk_days::run_first_steps(rt)?,

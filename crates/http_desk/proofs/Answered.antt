@@ -5,8 +5,8 @@ use Rattle.station_days.specs.Date.{LocalMinute}
 use Rattle.station_core.specs.Given.{Given}
 use Rattle.station_core.specs.Keeping.{Keeping, OnlyReads}
 use Rattle.station_core.specs.Step.{State}
-use Rattle.http_desk.specs.declared.asking.Told.{Told}
-use Rattle.http_desk.specs.declared.asking.Told.TheVariants as told
+use Rattle.http_desk.specs.declared.asking.Response.{Response}
+use Rattle.http_desk.specs.declared.asking.Response.TheVariants as told
 use Rattle.http_desk.specs.declared.printout.Printout.{Printout}
 use Rattle.http_desk.specs.declared.serve.Served.{Served}
 use Rattle.http_desk.specs.declared.serve.ServeFault.{ServeFault}
@@ -18,12 +18,12 @@ use Rattle.http_desk.proofs.Joining.{served, gave_up, reopen_told, ok_more, all_
 
 -- by the keeper that was asked, and by what it is after the answer was read from it
 module _ {K : Type 0} (k : Keeping K) (s : State) (at : LocalMinute) (came bytes : List ℕ) (come : came ≡ bytes) (mid new : K)
-    (reads : OnlyReads k mid new) (sound : k.is_sound new) (before after : Given) (t : Told) (r : Result Served ServeFault)
+    (reads : OnlyReads k mid new) (sound : k.is_sound new) (before after : Given) (t : Response) (r : Result Served ServeFault)
     (told_mid : IsToldFor bytes s at t (station_after k mid))
     (written : ((name : Printout) → t ≡ told.Report name → k.keeps mid s × (k.is_broken mid ≡ false)) → k.is_sound new → HasWritten t s before after r) where
-  open_at : (u : Told) → IsToldFor bytes s at u (station_after k mid) → (name : Printout) → u ≡ told.Report name → k.keeps mid s × (k.is_broken mid ≡ false)
+  open_at : (u : Response) → IsToldFor bytes s at u (station_after k mid) → (name : Printout) → u ≡ told.Report name → k.keeps mid s × (k.is_broken mid ≡ false)
   open_at u given name is =
-      let report : IsToldFor bytes s at (told.Report name) (station_after k mid) = subst (λ (v : Told). IsToldFor bytes s at v (station_after k mid)) is given in
+      let report : IsToldFor bytes s at (told.Report name) (station_after k mid) = subst (λ (v : Response). IsToldFor bytes s at v (station_after k mid)) is given in
       (report.2.1, report.2.0)
 
   goes_out : HasWritten t s before after r
@@ -48,7 +48,7 @@ module _ {K : Type 0} (k : Keeping K) (s : State) (at : LocalMinute) (came bytes
       (reopen_told t s before after r goes_out)
 
 -- the same on a station that has to be opened again
-pub shut_all : (at : LocalMinute) (came bytes : List ℕ) → came ≡ bytes → (before after : Given) (t : Told) (r : Result Served ServeFault)
+pub shut_all : (at : LocalMinute) (came bytes : List ℕ) → came ≡ bytes → (before after : Given) (t : Response) (r : Result Served ServeFault)
     → IsToldShut bytes at t → HasWrittenShut t before after r → HasServedShut at came before after r
 shut_all at came bytes come before after t r asked written =
     all_shut at came before after t r (subst (λ (b : List ℕ). IsToldShut b at t) (sym come) asked) written

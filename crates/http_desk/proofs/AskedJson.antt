@@ -9,8 +9,8 @@ use Rattle.station_core.specs.declared.input.Input.{Input}
 use Rattle.station_core.specs.Keeping.{Answers, MayLeave, IsMemoryOrStore, IsBrokenAfter}
 use Rattle.station_core.specs.Step.{State, step}
 use Rattle.station_core.specs.declared.rows.Waybill.{Waybill}
-use Rattle.http_desk.specs.declared.asking.Told.{Told}
-use Rattle.http_desk.specs.declared.asking.Told.TheVariants as told
+use Rattle.http_desk.specs.declared.asking.Response.{Response}
+use Rattle.http_desk.specs.declared.asking.Response.TheVariants as told
 use Rattle.http_desk.specs.declared.wanted.Wanted.{Wanted}
 use Rattle.http_desk.specs.declared.wanted.Wanted.TheVariants as wanted
 use Rattle.http_desk.specs.Reply.{Reply, answer_reply, refusal_reply, IsHistory}
@@ -20,7 +20,7 @@ use Rattle.http_desk.specs.Wanted.{wanted_reply, wanted_state}
 use Rattle.station_core.proofs.Refusals.{refused_stays}
 
 -- a reply of JSON, where the state after it is the one before
-pub asked_json : (s : State) (at : LocalMinute) (w : Wanted) (t : Told) (left : StationAfter)
+pub asked_json : (s : State) (at : LocalMinute) (w : Wanted) (t : Response) (left : StationAfter)
     → IsToldAs (wanted_reply s at w) t → wanted_state s at w ≡ s → WorksAt left s → HasAsked s at w t left
 asked_json s at w (told.Accepted count) left is same kept = (is, subst (WorksAt left) (sym same) kept)
 asked_json s at w (told.Whole status out) left is same kept = (is.0, is.1 s, same, kept)
@@ -28,7 +28,7 @@ asked_json s at w (told.Report name) left is same kept = absurd is
 asked_json s at w (told.Unavailable reopen) left is same kept = inl kept
 
 -- an input that was refused
-pub asked_refused : (s : State) (at : LocalMinute) (i : Input) (refusal : Refusal) (t : Told) (left : StationAfter)
+pub asked_refused : (s : State) (at : LocalMinute) (i : Input) (refusal : Refusal) (t : Response) (left : StationAfter)
     → (step s i at).answer ≡ answer.Refused refusal → IsToldAs (refusal_reply refusal) t → WorksAt left (step s i at).state → HasAsked s at (wanted.Input i) t left
 asked_refused s at i refusal t left is told kept =
     let same : (step s i at).state ≡ s = refused_stays s i at refusal is in
@@ -44,18 +44,18 @@ asked_fault s at i (fault.Refused refusal) reopen left is breaks kept leaves = a
 asked_fault s at i fault.Reopen reopen left is breaks kept leaves = absurd is
 
 -- a reply of JSON that asks nothing of a station that has to be opened again
-pub shut_json : (at : LocalMinute) (w : Wanted) (t : Told) → ((s : State) → IsToldAs (wanted_reply s at w) t) → ((s : State) → wanted_state s at w ≡ s) → HasAskedShut at w t
+pub shut_json : (at : LocalMinute) (w : Wanted) (t : Response) → ((s : State) → IsToldAs (wanted_reply s at w) t) → ((s : State) → wanted_state s at w ≡ s) → HasAskedShut at w t
 shut_json at w t is same = λ s. asked_json s at w t (station_at s) (is s) (same s) (refl, refl)
 
 -- what it would be asked isn't replied
-pub shut_unavailable : (at : LocalMinute) (w : Wanted) (t : Told) → IsUnavailable t → HasAskedShut at w t
+pub shut_unavailable : (at : LocalMinute) (w : Wanted) (t : Response) → IsUnavailable t → HasAskedShut at w t
 shut_unavailable at w (told.Unavailable reopen) is = λ s. inl (refl, refl)
 shut_unavailable at w (told.Accepted count) is = absurd is
 shut_unavailable at w (told.Whole status out) is = absurd is
 shut_unavailable at w (told.Report name) is = absurd is
 
 -- the history of a waybill with this record
-pub told_history : (s : State) (w : ℕ) (known : Waybill) (text : List ℕ) (t : Told) → IsHistory s w known text → IsHistoryTold text t → TellsHistory s w known t
+pub told_history : (s : State) (w : ℕ) (known : Waybill) (text : List ℕ) (t : Response) → IsHistory s w known text → IsHistoryTold text t → TellsHistory s w known t
 told_history s w known text (told.Whole status bytes) is tells = (tells.0, (text, is, tells.1))
 told_history s w known text (told.Unavailable reopen) is tells = tells
 told_history s w known text (told.Accepted count) is tells = absurd tells

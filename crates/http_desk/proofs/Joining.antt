@@ -9,8 +9,8 @@ use Rattle.http_desk.specs.declared.wanted.Wanted.{Wanted}
 use Rattle.http_desk.specs.declared.wanted.Wanted.TheVariants as wanted
 use Rattle.http_desk.specs.Told.{HasAsked, HasAskedShut, tells_reopen}
 use Rattle.http_desk.specs.Wanted.{Wants, wanted_reply, wanted_state}
-use Rattle.http_desk.specs.declared.asking.Told.{Told}
-use Rattle.http_desk.specs.declared.asking.Told.TheVariants as told
+use Rattle.http_desk.specs.declared.asking.Response.{Response}
+use Rattle.http_desk.specs.declared.asking.Response.TheVariants as told
 use Rattle.http_desk.specs.declared.printout.Printout.{Printout}
 use Rattle.http_desk.specs.declared.serve.Served.{Served}
 use Rattle.http_desk.specs.declared.serve.ServeFault.{ServeFault}
@@ -74,7 +74,7 @@ module _ (s : State) (at : LocalMinute) (bytes : List ℕ) (old new : Given) (wa
   reported name (Err (serve.Write n)) (gets, whole, kept) h =
       (⊎_elim (λ part. inr (name, gets, kept_on s kept, part)) (λ part. inl (503, unavailable, no_answer (inl (kept_on s kept)), part)) h.0, h.1)
 
-  written : (t : Told) (r : Result Served ServeFault) → IsToldFor bytes s at t was → HasWritten t s old new r → Out r
+  written : (t : Response) (r : Result Served ServeFault) → IsToldFor bytes s at t was → HasWritten t s old new r → Out r
   written (told.Accepted count) r (after, answers, kept) h = sent 200 _ (ok_answer count) r (inl (after, answers, kept_on after kept)) h
   written (told.Whole status out) r (answers, kept) h = sent status _ out.items r (inl (s, answers, kept_on s kept)) h
   written (told.Report name) r is h = reported name r is h
@@ -86,18 +86,18 @@ module _ (s : State) (at : LocalMinute) (bytes : List ℕ) (old new : Given) (wa
   of_out (Err (serve.Write n)) out = out
 
   -- what was served
-  pub served : (t : Told) (r : Result Served ServeFault) → IsToldFor bytes s at t was → HasWritten t s old new r
+  pub served : (t : Response) (r : Result Served ServeFault) → IsToldFor bytes s at t was → HasWritten t s old new r
       → HasServed s at bytes old new left r
   served t r is h = of_out r (written t r is h)
 
   -- the same on a station that has to be opened again
-  written_shut : (t : Told) (r : Result Served ServeFault) → IsToldFor bytes s at t was → HasWrittenShut t old new r → Out r
+  written_shut : (t : Response) (r : Result Served ServeFault) → IsToldFor bytes s at t was → HasWrittenShut t old new r → Out r
   written_shut (told.Accepted count) r (after, answers, kept) h = sent 200 _ (ok_answer count) r (inl (after, answers, kept_on after kept)) h
   written_shut (told.Whole status out) r (answers, kept) h = sent status _ out.items r (inl (s, answers, kept_on s kept)) h
   written_shut (told.Report name) r (gets, whole, kept) (reopen, h) = sent 503 reopen unavailable r (no_answer (inl (kept_on s kept))) h
   written_shut (told.Unavailable reopen) r states h = sent 503 reopen unavailable r (no_answer (told_on states)) h
 
-  pub served_shut : (t : Told) (r : Result Served ServeFault) → IsToldFor bytes s at t was → HasWrittenShut t old new r
+  pub served_shut : (t : Response) (r : Result Served ServeFault) → IsToldFor bytes s at t was → HasWrittenShut t old new r
       → HasServed s at bytes old new left r
   served_shut t r is h = of_out r (written_shut t r is h)
 
@@ -108,7 +108,7 @@ module _ (s : State) (at : LocalMinute) (bytes : List ℕ) (old new : Given) (wa
   no_accepted count reopen (Err (serve.Write n)) (part, why) begins = ok_no_503 count (begins_as_503 n (ok_answer count) (subst BeginsAs503 (added_is old new (take n (ok_answer count)) part.1) begins))
 
   -- what 503 says of the station
-  pub gave_up : (t : Told) (r : Result Served ServeFault) → IsToldFor bytes s at t was → HasWritten t s old new r → BeginsAs503 (added old new)
+  pub gave_up : (t : Response) (r : Result Served ServeFault) → IsToldFor bytes s at t was → HasWritten t s old new r → BeginsAs503 (added old new)
       → IsUnchangedOrBroken bytes s at left
   gave_up (told.Accepted count) r is h begins = absurd (no_accepted count _ r h begins)
   gave_up (told.Whole status out) r (answers, kept) h begins = inl (kept_on s kept)
@@ -116,7 +116,7 @@ module _ (s : State) (at : LocalMinute) (bytes : List ℕ) (old new : Given) (wa
   gave_up (told.Unavailable reopen) r states h begins = told_on states
 
 -- whether it is asked to open the station again
-pub reopen_told : (t : Told) (s : State) (old new : Given) (r : Result Served ServeFault) → HasWritten t s old new r → IfOk r (λ v. v.reopen ≡ tells_reopen t)
+pub reopen_told : (t : Response) (s : State) (old new : Given) (r : Result Served ServeFault) → HasWritten t s old new r → IfOk r (λ v. v.reopen ≡ tells_reopen t)
 reopen_told (told.Accepted count) s old new (Ok v) (is, e) = ap (λ (v : Served). v.reopen) is
 reopen_told (told.Whole status out) s old new (Ok v) (is, e) = ap (λ (v : Served). v.reopen) is
 reopen_told (told.Report name) s old new (Ok v) h = ⊎_elim (λ whole. ap (λ (v : Served). v.reopen) whole.0) (λ rest. ⊎_elim (λ part. ap (λ (v : Served). v.reopen) part.0) (λ none. ap (λ (v : Served). v.reopen) none.0) rest) h
@@ -133,7 +133,7 @@ module _ (bytes : List ℕ) (s : State) (at : LocalMinute) where
   accepted_is reply next count is =
       subst (λ (r : Reply). Replied s r next 200 (ok_answer count) next) (sym is) (record { status_is = refl; written = refl; state = refl })
 
-  pub told_bytes : (w : Wanted) (t : Told) (left : StationAfter) → Wants bytes w → HasAsked s at w t left → IsToldFor bytes s at t left
+  pub told_bytes : (w : Wanted) (t : Response) (left : StationAfter) → Wants bytes w → HasAsked s at w t left → IsToldFor bytes s at t left
   told_bytes w (told.Accepted count) left wants (is, kept) =
       (wanted_state s at w, wants.answered s at 200 (ok_answer count) (wanted_state s at w) (accepted_is (wanted_reply s at w) (wanted_state s at w) count is), kept)
   told_bytes w (told.Whole status out) left wants (is, written, same, kept) =
@@ -149,11 +149,11 @@ module _ (bytes : List ℕ) (s : State) (at : LocalMinute) where
   told_bytes w (told.Unavailable reopen) left wants (inr (broke, (i, is, states))) = inr (broke, (i, wants.input i is, states))
 
 -- what is served on a station that has to be opened again
-pub all_shut : (at : LocalMinute) (bytes : List ℕ) (old new : Given) (t : Told) (r : Result Served ServeFault) → IsToldShut bytes at t
+pub all_shut : (at : LocalMinute) (bytes : List ℕ) (old new : Given) (t : Response) (r : Result Served ServeFault) → IsToldShut bytes at t
     → HasWrittenShut t old new r → HasServedShut at bytes old new r
 all_shut at bytes old new t r told written = λ s.
     served_shut s at bytes old new (station_at s) (station_at s) refl (λ next is. is) (λ found is. is) t r (told s) written
 
 -- what was asked there is told for the request's bytes
-pub shut_bytes : (bytes : List ℕ) (at : LocalMinute) (w : Wanted) (t : Told) → Wants bytes w → HasAskedShut at w t → IsToldShut bytes at t
+pub shut_bytes : (bytes : List ℕ) (at : LocalMinute) (w : Wanted) (t : Response) → Wants bytes w → HasAskedShut at w t → IsToldShut bytes at t
 shut_bytes bytes at w t wants asked = λ s. told_bytes bytes s at w t (station_at s) wants (asked s)

@@ -15,9 +15,9 @@ use Rattle.desk_commands.specs.declared.command.Command.{Command}
 use Rattle.desk_commands.specs.declared.verb.Verb.{Verb}
 use Rattle.desk_commands.specs.Body.{IsBodyOf}
 use Rattle.telegrams.specs.Meaning.{Meant, IsTelegram, telegram_fault, refusal_of}
-use Rattle.telegram_look.specs.Look.{IsLook, IsLookFault}
-use Rattle.telegram_look.specs.LookObject.{look_object}
-use Rattle.telegram_look.specs.declared.look.Look.{Look}
+use Rattle.input_reasons.specs.Look.{IsLook, IsLookFault}
+use Rattle.input_reasons.specs.LookObject.{look_object}
+use Rattle.input_reasons.specs.declared.look.Look.{Look}
 use Rattle.station_core.specs.Key.{is_key}
 use Rattle.station_core.specs.declared.input.Input.{Input}
 use Rattle.station_core.specs.declared.input.Input.TheVariants.{Keyed, Wire}

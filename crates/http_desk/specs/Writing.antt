@@ -4,8 +4,8 @@ use Rattle.station_days.specs.Date.{LocalMinute}
 use Rattle.station_core.specs.Given.{Given}
 use Rattle.station_core.specs.Ends.{Sent, HasCause}
 use Rattle.station_core.specs.Step.{State}
-use Rattle.http_desk.specs.declared.asking.Told.{Told}
-use Rattle.http_desk.specs.declared.asking.Told.TheVariants as told
+use Rattle.http_desk.specs.declared.asking.Response.{Response}
+use Rattle.http_desk.specs.declared.asking.Response.TheVariants as told
 use Rattle.http_desk.specs.declared.printout.Printout.{Printout}
 use Rattle.http_desk.specs.declared.serve.Served.{Served}
 use Rattle.http_desk.specs.declared.serve.ServeFault.{ServeFault}
@@ -18,7 +18,7 @@ use Rattle.http_desk.specs.Serving.{unavailable, GetsReport, SomeOrEach, IsUncha
 
 -- The answer to the request with these bytes, and the state kept after it, which differs only if an
 -- input was accepted.
-abbrev pub IsToldFor : List ℕ → State → LocalMinute → Told → StationAfter → Type 0
+abbrev pub IsToldFor : List ℕ → State → LocalMinute → Response → StationAfter → Type 0
 IsToldFor bytes s at (told.Accepted count) left =
     (after : State) × Answers bytes s at 200 (ok_answer count) after × WorksAt left after
 IsToldFor bytes s at (told.Whole status out) left =
@@ -60,14 +60,14 @@ HasReported s name old new (Err (serve.Write sent)) =
     × HasCause old new
 
 -- the answer was written
-abbrev pub HasWritten : Told → State → Given → Given → Result Served ServeFault → Type 0
+abbrev pub HasWritten : Response → State → Given → Given → Result Served ServeFault → Type 0
 HasWritten (told.Accepted count) s old new r = HasSent 200 false (ok_answer count) old new r
 HasWritten (told.Whole status out) s old new r = HasSent status false out.items old new r
 HasWritten (told.Report name) s old new r = HasReported s name old new r
 HasWritten (told.Unavailable reopen) s old new r = HasSent 503 reopen unavailable old new r
 
 -- the same on a broken station, whose reports aren't read
-abbrev pub HasWrittenShut : Told → Given → Given → Result Served ServeFault → Type 0
+abbrev pub HasWrittenShut : Response → Given → Given → Result Served ServeFault → Type 0
 HasWrittenShut (told.Accepted count) old new r = HasSent 200 false (ok_answer count) old new r
 HasWrittenShut (told.Whole status out) old new r = HasSent status false out.items old new r
 HasWrittenShut (told.Report name) old new r =
@@ -75,5 +75,5 @@ HasWrittenShut (told.Report name) old new r =
 HasWrittenShut (told.Unavailable reopen) old new r = HasSent 503 reopen unavailable old new r
 
 -- on a broken station the answer is one that holds for each state and leaves it as it is
-abbrev pub IsToldShut : List ℕ → LocalMinute → Told → Type 0
+abbrev pub IsToldShut : List ℕ → LocalMinute → Response → Type 0
 IsToldShut bytes at t = (s : State) → IsToldFor bytes s at t (station_at s)

@@ -27,7 +27,7 @@ use std::alloc::{AllocError, Global};
 
 /// An answer to write.
 #[derive(Drop)]
-pub(crate) enum Told {
+pub(crate) enum Response {
     /// An input was accepted, with this count. Writing the answer allocates nothing.
     Accepted(u32),
     /// Any other answer but a report: its status and its bytes.
@@ -38,43 +38,43 @@ pub(crate) enum Told {
     Unavailable(bool),
 }
 
-/// Returns a JSON answer, or [`Told::Unavailable`] if memory runs out.
+/// Returns a JSON answer, or [`Response::Unavailable`] if memory runs out.
 fn json_told(
     alloc: Global,
     status: u16,
     allow: Option<&str>,
     body: Result<String, AllocError>,
-) -> Told
+) -> Response
     requires { IsStatusCode status }
     ensures { (d : Data) → IfOk body (λ text. string_bytes text ≡ compact_text d)
         → IsToldAs (json_reply status (option_map (λ method. method.now) allow.entry) d) result }
 {
     let Ok(body) = body else {
-        return Told::Unavailable(false);
+        return Response::Unavailable(false);
     };
     match json_answer(alloc, status, allow, body.as_str()) {
-        Ok(text) => Told::Whole(status, text.into_bytes()),
-        Err(_) => Told::Unavailable(false),
+        Ok(text) => Response::Whole(status, text.into_bytes()),
+        Err(_) => Response::Unavailable(false),
     }
 }
 
-fn fault_told(alloc: Global, fault: &FaultTold) -> Told
+fn fault_told(alloc: Global, fault: &FaultTold) -> Response
     ensures { IsToldAs (fault_reply (meant fault.now)) result }
 {
     if fault.status < 100 || fault.status > 999 {
-        return Told::Unavailable(false);
+        return Response::Unavailable(false);
     }
     let body = refused_text(alloc, fault.status, fault.word);
     json_told(alloc, fault.status, fault.allow, body)
 }
 
-/// Returns the answer to a dry run, or [`Told::Unavailable`] if memory runs out.
-fn look_told(alloc: Global, seen: &str) -> Told
+/// Returns the answer to a dry run, or [`Response::Unavailable`] if memory runs out.
+fn look_told(alloc: Global, seen: &str) -> Response
     ensures { IsToldAs (look_reply seen.now) result }
 {
     match json_answer(alloc, 200, None, seen) {
-        Ok(text) => Told::Whole(200, text.into_bytes()),
-        Err(_) => Told::Unavailable(false),
+        Ok(text) => Response::Whole(200, text.into_bytes()),
+        Err(_) => Response::Unavailable(false),
     }
 }
 
@@ -96,14 +96,14 @@ fn refusal_text(alloc: Global, refusal: &Refusal) -> Result<String, AllocError>
     refused_text(alloc, refusal.number, detail.as_str())
 }
 
-fn refusal_told(alloc: Global, refusal: &Refusal) -> Told
+fn refusal_told(alloc: Global, refusal: &Refusal) -> Response
     ensures { IsToldAs (refusal_reply refusal.now) result }
 {
     let body = refusal_text(alloc, refusal);
     json_told(alloc, refusal_status(refusal.number), None, body)
 }
 
-fn holder_told(alloc: Global, number: &Awb, holder: &Option<Holder>) -> Told
+fn holder_told(alloc: Global, number: &Awb, holder: &Option<Holder>) -> Response
     ensures { IsToldAs (holder_reply number.now holder.now) result }
 {
     match holder {
@@ -112,7 +112,7 @@ fn holder_told(alloc: Global, number: &Awb, holder: &Option<Holder>) -> Told
     }
 }
 
-fn waybill_told(alloc: Global, number: &Awb, waybill: &Option<Waybill>) -> Told
+fn waybill_told(alloc: Global, number: &Awb, waybill: &Option<Waybill>) -> Response
     ensures { IsToldAs (waybill_reply number.now waybill.now) result }
 {
     match waybill {
@@ -121,7 +121,7 @@ fn waybill_told(alloc: Global, number: &Awb, waybill: &Option<Waybill>) -> Told
     }
 }
 
-fn ask_holder<K: Keeper>(alloc: Global, keeper: &mut K, number: &Awb) -> Told
+fn ask_holder<K: Keeper>(alloc: Global, keeper: &mut K, number: &Awb) -> Response
     ensures premise { KeepsSound K.keeping keeper.old keeper.new }
     ensures breaks { K.keeping.is_broken keeper.new ≡ K.keeping.is_broken keeper.old }
     ensures asked { (s : State) (at : LocalMinute) → K.keeping.keeps keeper.old s
@@ -133,11 +133,11 @@ fn ask_holder<K: Keeper>(alloc: Global, keeper: &mut K, number: &Awb) -> Told
 {
     match keeper.holder(number) {
         Ok(holder) => holder_told(alloc, number, &holder),
-        Err(fault) => Told::Unavailable(fault == ActFault::Reopen),
+        Err(fault) => Response::Unavailable(fault == ActFault::Reopen),
     }
 }
 
-fn ask_waybill<K: Keeper>(alloc: Global, keeper: &mut K, number: &Awb) -> Told
+fn ask_waybill<K: Keeper>(alloc: Global, keeper: &mut K, number: &Awb) -> Response
     ensures premise { KeepsSound K.keeping keeper.old keeper.new }
     ensures breaks { K.keeping.is_broken keeper.new ≡ K.keeping.is_broken keeper.old }
     ensures asked { (s : State) (at : LocalMinute) → K.keeping.keeps keeper.old s
@@ -149,22 +149,22 @@ fn ask_waybill<K: Keeper>(alloc: Global, keeper: &mut K, number: &Awb) -> Told
 {
     match keeper.waybill(number) {
         Ok(waybill) => waybill_told(alloc, number, &waybill),
-        Err(fault) => Told::Unavailable(fault == ActFault::Reopen),
+        Err(fault) => Response::Unavailable(fault == ActFault::Reopen),
     }
 }
 
-/// Returns the answer with a history, or [`Told::Unavailable`] if memory runs out.
-fn history_told(alloc: Global, history: &[u8]) -> Told
+/// Returns the answer with a history, or [`Response::Unavailable`] if memory runs out.
+fn history_told(alloc: Global, history: &[u8]) -> Response
     ensures { IsHistoryTold history.now result }
 {
     match history_answer(alloc, history) {
-        Ok(answer) => Told::Whole(200, answer),
-        Err(_) => Told::Unavailable(false),
+        Ok(answer) => Response::Whole(200, answer),
+        Err(_) => Response::Unavailable(false),
     }
 }
 
 /// Reads the history of a known waybill from a working keeper.
-fn ask_known<K: Keeper>(alloc: Global, keeper: &mut K, number: &Awb, known: &Waybill) -> Told
+fn ask_known<K: Keeper>(alloc: Global, keeper: &mut K, number: &Awb, known: &Waybill) -> Response
     ensures reads { OnlyReads K.keeping keeper.old keeper.new }
     ensures told { IfSound K.keeping keeper.old keeper.new
         (λ s. TellsHistory s number.now known.now result) }
@@ -172,11 +172,11 @@ fn ask_known<K: Keeper>(alloc: Global, keeper: &mut K, number: &Awb, known: &Way
 {
     match history_text(alloc, keeper, number, known) {
         Ok(history) => history_told(alloc, history.as_slice()),
-        Err(_) => Told::Unavailable(false),
+        Err(_) => Response::Unavailable(false),
     }
 }
 
-fn ask_history<K: Keeper>(alloc: Global, keeper: &mut K, number: &Awb) -> Told
+fn ask_history<K: Keeper>(alloc: Global, keeper: &mut K, number: &Awb) -> Response
     ensures premise { KeepsSound K.keeping keeper.old keeper.new }
     ensures breaks { K.keeping.is_broken keeper.new ≡ K.keeping.is_broken keeper.old }
     ensures asked { (s : State) (at : LocalMinute) → K.keeping.keeps keeper.old s
@@ -189,11 +189,11 @@ fn ask_history<K: Keeper>(alloc: Global, keeper: &mut K, number: &Awb) -> Told
     match keeper.waybill(number) {
         Ok(Some(known)) => ask_known(alloc, keeper, number, &known),
         Ok(None) => fault_told(alloc, &NOT_FOUND),
-        Err(fault) => Told::Unavailable(fault == ActFault::Reopen),
+        Err(fault) => Response::Unavailable(fault == ActFault::Reopen),
     }
 }
 
-fn ask_input<K: Keeper>(alloc: Global, keeper: &mut K, input: &Input<'_>, at: Moment) -> Told
+fn ask_input<K: Keeper>(alloc: Global, keeper: &mut K, input: &Input<'_>, at: Moment) -> Response
     ensures premise { KeepsSound K.keeping keeper.old keeper.new }
     ensures asked { IfWorks K.keeping keeper.old keeper.new (λ s. HasAsked s at
         (Wanted.Input input.now) result (station_after K.keeping keeper.new)) }
@@ -202,14 +202,19 @@ fn ask_input<K: Keeper>(alloc: Global, keeper: &mut K, input: &Input<'_>, at: Mo
         result }
 {
     match answer_one(keeper, input, at) {
-        Ok(Answer::Done(reply)) => Told::Accepted(reply.count),
+        Ok(Answer::Done(reply)) => Response::Accepted(reply.count),
         Ok(Answer::Refused(refusal)) => refusal_told(alloc, &refusal),
-        Err(fault) => Told::Unavailable(fault != ActFault::Memory),
+        Err(fault) => Response::Unavailable(fault != ActFault::Memory),
     }
 }
 
 /// Calls the station for a request. A report isn't read yet.
-pub(crate) fn ask<K: Keeper>(alloc: Global, keeper: &mut K, wanted: &Wanted<'_>, at: Moment) -> Told
+pub(crate) fn ask<K: Keeper>(
+    alloc: Global,
+    keeper: &mut K,
+    wanted: &Wanted<'_>,
+    at: Moment,
+) -> Response
     ensures premise { KeepsSound K.keeping keeper.old keeper.new }
     ensures asked { IfWorks K.keeping keeper.old keeper.new
         (λ s. HasAsked s at wanted.now result (station_after K.keeping keeper.new)) }
@@ -225,7 +230,7 @@ pub(crate) fn ask<K: Keeper>(alloc: Global, keeper: &mut K, wanted: &Wanted<'_>,
         Wanted::Waybill(number) => ask_waybill(alloc, keeper, number),
         Wanted::History(number) => ask_history(alloc, keeper, number),
         Wanted::Holder(number) => ask_holder(alloc, keeper, number),
-        Wanted::Report(printout) => Told::Report(*printout),
+        Wanted::Report(printout) => Response::Report(*printout),
         Wanted::Input(input) => ask_input(alloc, keeper, input, at),
     }
 }

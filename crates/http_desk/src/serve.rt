@@ -9,7 +9,7 @@ ghost use Rattle.http_desk.specs.StationAfter.{station_after};
 ghost use Rattle.http_desk.specs.Serving.{added, HasServed, HasServedShut, IsUnfinished, StopsServing, IsPosted, BeginsAs200, BeginsAs503, IsAfterStep, IsUnchangedOrBroken};
 ghost use Rattle.http_desk.specs.Writing.{IsToldFor, IsToldShut};
 
-use crate::asking::{Told, ask};
+use crate::asking::{Response, ask};
 use crate::reading::ReadEnd;
 use crate::request::{Came, read_request, wanted};
 use crate::writing::write_told;
@@ -36,7 +36,13 @@ pub enum ServeFault {
 }
 
 /// Calls the station for a received request.
-fn told_for<K: Keeper>(alloc: Global, keeper: &mut K, bytes: &[u8], came: Came, at: Moment) -> Told
+fn told_for<K: Keeper>(
+    alloc: Global,
+    keeper: &mut K,
+    bytes: &[u8],
+    came: Came,
+    at: Moment,
+) -> Response
     requires request { HasRequest bytes.now came }
     ensures premise { KeepsSound K.keeping keeper.old keeper.new }
     ensures told { IfWorks K.keeping keeper.old keeper.new
@@ -48,7 +54,7 @@ fn told_for<K: Keeper>(alloc: Global, keeper: &mut K, bytes: &[u8], came: Came, 
 {
     match wanted(alloc, bytes, came) {
         Ok(wanted) => ask(alloc, keeper, &wanted, at),
-        Err(_) => Told::Unavailable(false),
+        Err(_) => Response::Unavailable(false),
     }
 }
 
@@ -109,7 +115,7 @@ pub fn serve_one<K: Keeper, I: ByteIn, O: ByteOut>(
             let told = told_for(alloc, keeper, bytes.as_slice(), came, at);
             write_told(alloc, keeper, writer, &told)
         }
-        Err(ReadEnd::Memory) => write_told(alloc, keeper, writer, &Told::Unavailable(false)),
+        Err(ReadEnd::Memory) => write_told(alloc, keeper, writer, &Response::Unavailable(false)),
         Err(ReadEnd::Read) => Err(ServeFault::Read),
         Err(ReadEnd::Head) => unreachable!(),
     }

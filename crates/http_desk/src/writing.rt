@@ -9,7 +9,7 @@ ghost use Rattle.http_desk.specs.declared.printout.Printout.{Printout as AnyPrin
 
 use crate::accepted::{ROOM, put_accepted};
 use crate::answer::report_head;
-use crate::asking::Told;
+use crate::asking::Response;
 use crate::printout::Printout;
 use crate::serve::{ServeFault, Served};
 use reports::{ReportCause, ReportFault, write_listing};
@@ -113,11 +113,11 @@ pub(crate) fn write_told<K: Keeper, O: ByteOut>(
     alloc: Global,
     keeper: &mut K,
     writer: &mut O,
-    told: &Told,
+    told: &Response,
 ) -> Result<Served, ServeFault>
     ensures reads { OnlyReads K.keeping keeper.old keeper.new }
     ensures writes { StopsServing (O.taken writer.old) (O.taken writer.new) result }
-    ensures written { (s : State) → ((name : AnyPrintout) → told.now ≡ Told.Report name
+    ensures written { (s : State) → ((name : AnyPrintout) → told.now ≡ Response.Report name
         → K.keeping.keeps keeper.old s × (K.keeping.is_broken keeper.old ≡ false))
         → K.keeping.is_sound keeper.new → HasWritten told.now s (O.taken writer.old)
         (O.taken writer.new) result }
@@ -127,9 +127,9 @@ pub(crate) fn write_told<K: Keeper, O: ByteOut>(
     ensures read { result ≡ Err ServeFault.Read → ⊥ }
 {
     match told {
-        Told::Accepted(count) => send_accepted(writer, *count),
-        Told::Whole(status, bytes) => send_answer(writer, *status, bytes.as_slice(), false),
-        Told::Report(printout) => answer_report(alloc, keeper, writer, *printout),
-        Told::Unavailable(reopen) => send_answer(writer, 503, unavailable(), *reopen),
+        Response::Accepted(count) => send_accepted(writer, *count),
+        Response::Whole(status, bytes) => send_answer(writer, *status, bytes.as_slice(), false),
+        Response::Report(printout) => answer_report(alloc, keeper, writer, *printout),
+        Response::Unavailable(reopen) => send_answer(writer, 503, unavailable(), *reopen),
     }
 }

@@ -1,1 +1,5 @@
+pub mod Doubt
+pub mod Look
+pub mod LookObject
+pub mod LookText
 pub mod Reason

@@ -6,7 +6,7 @@ use crate::calls::{Parts, ended_said};
 use crate::words::{fault_said, words_of};
 use cli_run::Feed;
 use cli_words::{Line, parse_words};
-use desk_client::{Connect, LastTry, Service, ask_command, end_asked};
+use desk_client::{Connect, LastTry, RemoteDesk, ask_command, end_asked};
 use station_core::Counted;
 use std::alloc::Global;
 use std::cell::{Cell, RefCell};
@@ -240,7 +240,7 @@ fn run(
     let port = line.at?;
     let mut feed = Feed::new(Parts::new(input, false));
     let wire = Wire::new(alloc);
-    let mut service = Service {
+    let mut service = RemoteDesk {
         connections: Scripted {
             wire: &wire,
             rest: script,

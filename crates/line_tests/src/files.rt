@@ -1,7 +1,7 @@
 //! Calls over two files in memory, opened like the program opens a station's file.
 use crate::calls::{Parts, ended_said, now};
 use crate::words::{fault_said, words_of};
-use cli_call::{FileEnd, run_file, run_file_beside};
+use cli_call::{FileEnd, run_file};
 use cli_run::{Feed, is_migration, is_opening};
 use cli_words::{Line, parse_words};
 use sqlite::{Connection, FileStore, Files, Options};
@@ -169,7 +169,7 @@ fn run(alloc: Global, bytes: &mut FileBytes, line: &Line<'_>, input: &str) -> Op
             (how, end)
         }
         Opened::Beside(conn) => {
-            let end = run_file_beside(alloc, line, conn, &mut feed, &mut output, &mut errors, at);
+            let end = run_file(alloc, line, conn, &mut feed, &mut output, &mut errors, at);
             ("beside", end)
         }
     };

@@ -1,7 +1,7 @@
 //! Telegrams that arrive, and dry runs of telegrams.
 use crate::said::{refusal_said, runs, yes_or_no};
+use input_reasons::{LinePart, look_at, look_object, look_text};
 use std::alloc::Global;
-use telegram_look::{LinePart, look_at, look_object, look_text};
 use telegrams::read_telegram;
 use test_kit::{say, shown};
 

@@ -1,5 +1,6 @@
 //! Fields, messages, commands, orders and replies, each read or written as a line of `NAME.cases`
-//! says, such as `airport 'FRA' = FRA`. Run `run_memory` with each allocation failing in turn.
+//! says, such as `airport 'FRA' = FRA`; and requests over HTTP (`http`). Run `run_memory` with each
+//! allocation failing in turn.
 #![tactic(auto)]
 
 mod arrivals;
@@ -9,6 +10,7 @@ mod ffm;
 mod fields;
 mod fsu;
 mod given;
+pub mod http;
 mod lines;
 mod memory;
 mod orders;

@@ -30,7 +30,7 @@ fn use_up(stock: &mut PlainRows, awb: &Awb) -> Result<(), AllocError>
 
 /// The rows that a command changes, copied from the stored ones.
 #[derive(Drop)]
-pub(crate) struct Next {
+pub(crate) struct NextRows {
     alloc: Global,
     stock: PlainRows,
     declared: Vec<DeclaredRow>,
@@ -42,11 +42,11 @@ pub(crate) struct Next {
     confirmed: u32,
 }
 
-impl Next {
-    fn of(cargo: &CargoLists) -> Result<Next, AllocError>
+impl NextRows {
+    fn of(cargo: &CargoLists) -> Result<NextRows, AllocError>
         ensures { IfOk result (λ next. cargo_with cargo.now next ≡ cargo_of cargo.now) }
     {
-        Ok(Next {
+        Ok(NextRows {
             alloc: cargo.alloc,
             stock: cargo.stock.try_clone()?,
             declared: Vec::from_slice(cargo.alloc, &cargo.declared)?,
@@ -112,11 +112,15 @@ impl Next {
     }
 
     /// Returns the rows after changes, in order.
-    fn after(cargo: &CargoLists, text: &[u8], changes: &[Change<'_>]) -> Result<Next, AllocError>
+    fn after(
+        cargo: &CargoLists,
+        text: &[u8],
+        changes: &[Change<'_>],
+    ) -> Result<NextRows, AllocError>
         ensures { IfOk result (λ next. cargo_with cargo.now next ≡ written_all text.now changes.now
             (cargo_of cargo.now)) }
     {
-        let mut next = Next::of(cargo)?;
+        let mut next = NextRows::of(cargo)?;
         for change in changes {
             next.write(text, change)?;
         }
@@ -134,7 +138,7 @@ fn can_be_numbered(rows: usize, more: usize) -> bool
 
 impl CargoLists {
     /// Returns whether all moves, trail lines and messages could be numbered.
-    fn has_room_for(&self, next: &Next, moves: &[Move], messages: &Vec<Vec<u8>>) -> bool
+    fn has_room_for(&self, next: &NextRows, moves: &[Move], messages: &Vec<Vec<u8>>) -> bool
         ensures { result ≡ has_room
             (sent (texts_in messages.now.items)
             (record (cargo_with self.now next.now) { book = self.now.book.items ++ moves.now })) }
@@ -147,7 +151,7 @@ impl CargoLists {
     /// Replaces the rows, and appends moves and messages.
     fn take_over(
         &mut self,
-        mut next: Next,
+        mut next: NextRows,
         moves: &[Move],
         mut messages: Vec<Vec<u8>>,
     ) -> Result<(), AllocError>
@@ -187,7 +191,7 @@ impl CargoLists {
         let Ok(messages) = notice_texts(self.alloc, &plan.notices) else {
             return Err(ActFault::Memory);
         };
-        let Ok(next) = Next::after(self, text, &plan.changes) else {
+        let Ok(next) = NextRows::after(self, text, &plan.changes) else {
             return Err(ActFault::Memory);
         };
         if !self.has_room_for(&next, &plan.moves, &messages) {

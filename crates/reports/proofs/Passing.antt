@@ -28,14 +28,14 @@ use Rattle.reports.specs.Tallies.{TakesMove, counted, listed, nothing_of, row_of
 use Rattle.reports.specs.declared.manifest.ManifestRow.{ManifestRow}
 use Rattle.reports.specs.declared.tallies.Count.{Count}
 use Rattle.reports.specs.declared.tallies.Tallies.{Tallies}
-use Rattle.reports.specs.declared.tallies.Tally.{Tally}
+use Rattle.reports.specs.declared.tallies.FlightSums.{FlightSums}
 
 -- rows that were put, where none is ahead
 pub all_put : {X Row : Type 0} (f : X → List Row) (rows : List Row) (ahead all : List X) → rows ++ flat_map f ahead ≡ flat_map f all → ahead ≡ [] → rows ≡ flat_map f all
 all_put f rows ahead all whole none = sym (append-nil rows) ∙ ap (λ l. rows ++ flat_map f l) (sym none) ∙ whole
 
 -- the sums of a waybill after more movements
-abbrev pub after : FlightDate → ℕ → List Move → Option Tally → Option Tally
+abbrev pub after : FlightDate → ℕ → List Move → Option FlightSums → Option FlightSums
 after f w [] t = t
 after f w (m ∷ ms) t = after f w ms (if m.awb == w then Some (with_move f m (unwrap_or t (nothing_of w))) else t)
 
@@ -43,7 +43,7 @@ abbrev pub moves_of : List BookRow → List Move
 moves_of rows = map (λ row. row.movement) rows
 
 -- under the waybill of a movement there is something new, and elsewhere what was there
-under : (a w : ℕ) (g : ℕ → Option Tally) (other : Option Tally) → cond (eq_by_cmp nat_cmp a w) (g a) other ≡ (if a == w then g w else other)
+under : (a w : ℕ) (g : ℕ → Option FlightSums) (other : Option FlightSums) → cond (eq_by_cmp nat_cmp a w) (g a) other ≡ (if a == w then g w else other)
 under a w g other =
     ap (λ b. cond b (g a) other) (unsigned_tied a w)
     ∙ elim (a == w) as (λ b. (a == w) ≡ b → cond b (g a) other ≡ (if b then g w else other)) [
@@ -57,27 +57,27 @@ pub passed : (rows : List BookRow) (f : FlightDate) (old new : Tallies) → old.
 passed [] f old new of h room w = ap (λ (t : Tallies). get nat_cmp t.by_number w) h
 passed (row ∷ rows) f old new of (true, mid, took, more) room w =
     let m : Move = row.movement in
-    let had : Option Tally = get nat_cmp old.by_number w in
-    let put : ℕ → Option Tally = λ a. Some (with_move f m (unwrap_or (get nat_cmp old.by_number a) (nothing_of a))) in
+    let had : Option FlightSums = get nat_cmp old.by_number w in
+    let put : ℕ → Option FlightSums = λ a. Some (with_move f m (unwrap_or (get nat_cmp old.by_number a) (nothing_of a))) in
     let at_flight : get nat_cmp mid.by_number w ≡ cond (eq_by_cmp nat_cmp m.awb w) (put m.awb) had =
     subst (λ g. get nat_cmp mid.by_number w ≡ cond (eq_by_cmp nat_cmp m.awb w) (Some (with_move g m (tally_in old m.awb))) had) of (took.2 w) in
     passed rows f mid new (took.0 ∙ of) more room w ∙ ap (after f w (moves_of rows)) (at_flight ∙ under m.awb w put had)
 passed (row ∷ rows) f old new of (false, mid, took, more) room w = absurd (true≢false (sym took ∙ sym (ap (λ (t : Tallies). t.is_full) more) ∙ room))
 
 -- a sum of the waybill's movements
-module _ (f : FlightDate) (w : ℕ) (project : Tally → ℕ) (adds : Move → ℕ)
-    (one_more : (m : Move) (t : Tally) → (m.awb == w) ≡ true → project (with_move f m t) ≡ project t + adds m)
+module _ (f : FlightDate) (w : ℕ) (project : FlightSums → ℕ) (adds : Move → ℕ)
+    (one_more : (m : Move) (t : FlightSums) → (m.awb == w) ≡ true → project (with_move f m t) ≡ project t + adds m)
     (no_more : (m : Move) → (m.awb == w) ≡ false → adds m ≡ 0) where
-  abbrev sum_in : Option Tally → ℕ
+  abbrev sum_in : Option FlightSums → ℕ
   sum_in t = project (unwrap_or t (nothing_of w))
 
-  with_one : (m : Move) (t : Option Tally) → sum_in (if m.awb == w then Some (with_move f m (unwrap_or t (nothing_of w))) else t) ≡ sum_in t + adds m
+  with_one : (m : Move) (t : Option FlightSums) → sum_in (if m.awb == w then Some (with_move f m (unwrap_or t (nothing_of w))) else t) ≡ sum_in t + adds m
   with_one m t = elim (m.awb == w) as (λ b. (m.awb == w) ≡ b → sum_in (if b then Some (with_move f m (unwrap_or t (nothing_of w))) else t) ≡ sum_in t + adds m) [
     | true ↦ λ e. one_more m (unwrap_or t (nothing_of w)) e
     | false ↦ λ e. let none = no_more m e in omega (arith, none)
   ] refl
 
-  pub sum_after : (ms : List Move) (t : Option Tally) → sum_in (after f w ms t) ≡ sum_in t + sum_by adds ms
+  pub sum_after : (ms : List Move) (t : Option FlightSums) → sum_in (after f w ms t) ≡ sum_in t + sum_by adds ms
   sum_after [] t = omega arith
   sum_after (m ∷ ms) t =
       let more = sum_after ms (if m.awb == w then Some (with_move f m (unwrap_or t (nothing_of w))) else t) in
@@ -97,7 +97,7 @@ not_added true c n e = absurd (true≢false e)
 not_added false c n e = refl
 
 module _ (f : FlightDate) (w : ℕ) where
-  abbrev tally_of : List Move → Tally
+  abbrev tally_of : List Move → FlightSums
   tally_of ms = unwrap_or (after f w ms None) (nothing_of w)
 
   module _ (measure : Move → ℕ) (project : Count → ℕ) (none : project (record { pieces = 0; tenths = 0 }) ≡ 0)
@@ -123,7 +123,7 @@ module _ (f : FlightDate) (w : ℕ) where
         (λ m e. not_added (m.awb == w) (leaves f m) (measure m) e) ms None in
         omega (arith, all, none)
 
-  same_number : (ms : List Move) (t : Option Tally) → (unwrap_or t (nothing_of w)).awb ≡ w → (unwrap_or (after f w ms t) (nothing_of w)).awb ≡ w
+  same_number : (ms : List Move) (t : Option FlightSums) → (unwrap_or t (nothing_of w)).awb ≡ w → (unwrap_or (after f w ms t) (nothing_of w)).awb ≡ w
   same_number [] t e = e
   same_number (m ∷ ms) t e = same_number ms _ (elim (m.awb == w) as (λ b. (unwrap_or (if b then Some (with_move f m (unwrap_or t (nothing_of w))) else t) (nothing_of w)).awb ≡ w) [ true ↦ e | false ↦ e ])
 
@@ -140,7 +140,7 @@ module _ (f : FlightDate) (w : ℕ) where
       λ i. record { awb = number i; built = amount (in_pieces i - out_pieces i) (in_tenths i - out_tenths i); departed = amount (away_pieces i) (away_tenths i) }
 
   -- a waybill has sums as soon as it has a movement
-  has_sums : (ms : List Move) (t : Option Tally) → is_some (after f w ms t) ≡ (is_some t || has_moves ms w)
+  has_sums : (ms : List Move) (t : Option FlightSums) → is_some (after f w ms t) ≡ (is_some t || has_moves ms w)
   has_sums [] t = sym (or_false (is_some t))
     where
       or_false : (b : Bool) → (b || false) ≡ b
@@ -180,7 +180,7 @@ turned a b = elim (a == b) as (λ t. (a == b) ≡ t → t ≡ (b == a)) [
 ] refl
 
 -- a key is among the keys where the look-up finds something
-listed_keys : (q : ℕ) (es : List (ℕ × Tally)) → is_in q (keys_of es) ≡ is_some (lookup (λ k. is_eq (nat_cmp q k)) es)
+listed_keys : (q : ℕ) (es : List (ℕ × FlightSums)) → is_in q (keys_of es) ≡ is_some (lookup (λ k. is_eq (nat_cmp q k)) es)
 listed_keys q [] = refl
 listed_keys q (e ∷ es) =
     ap (λ b. (e.0 == q) || b) (listed_keys q es)
@@ -192,18 +192,18 @@ module _ (f : FlightDate) (ms : List Move) where
   row_at w = if has_pieces (manifest_row ms f w) then manifest_row ms f w ∷ [] else []
 
   -- the value that is found under a key makes the key's row
-  found_row : (w : ℕ) (t : Tally) → after f w ms None ≡ Some t → listed t ≡ row_at w
+  found_row : (w : ℕ) (t : FlightSums) → after f w ms None ≡ Some t → listed t ≡ row_at w
   found_row w t is =
       let row : row_of t ≡ manifest_row ms f w = ap (λ o. row_of (unwrap_or o (nothing_of w))) (sym is) ∙ row_is f w ms in
       ap (λ r. if has_pieces r then r ∷ [] else []) row
 
-  rows_at : (m : ℕ → Option Tally) → ((w : ℕ) → m w ≡ after f w ms None) → (es : List (ℕ × Tally)) → AllByRecursion (λ e. m e.0 ≡ Some e.1) es
+  rows_at : (m : ℕ → Option FlightSums) → ((w : ℕ) → m w ≡ after f w ms None) → (es : List (ℕ × FlightSums)) → AllByRecursion (λ e. m e.0 ≡ Some e.1) es
       → flat_map (λ e. listed e.1) es ≡ flat_map row_at (keys_of es)
   rows_at m is [] all = refl
   rows_at m is (e ∷ es) all = λ i. found_row e.0 e.1 (sym (is e.0) ∙ all.0) i ++ rows_at m is es all.1 i
 
   -- the rows of the map are those of the movements
-  pub rows_of : (tree : BTreeMap ℕ Tally) → IsOrdered nat_cmp tree → ((w : ℕ) → get nat_cmp tree w ≡ after f w ms None) → flat_map (λ e. listed e.1) tree.entries ≡ manifest_of ms f
+  pub rows_of : (tree : BTreeMap ℕ FlightSums) → IsOrdered nat_cmp tree → ((w : ℕ) → get nat_cmp tree w ≡ after f w ms None) → flat_map (λ e. listed e.1) tree.entries ≡ manifest_of ms f
   rows_of tree ordered is =
       let found = recursion_from_All (λ e. get nat_cmp tree e.0 ≡ Some e.1) tree.entries (All-found nat_cmp_total tree ordered) in
       let numbers : keys tree ≡ waybills_of ms = same_rising (keys tree) (waybills_of ms) (ascending (keys tree) ordered) (Rising-waybills_of ms)

@@ -12,13 +12,13 @@ use Rattle.reports.specs.Manifest.{has_pieces, leaves}
 use Rattle.reports.specs.declared.manifest.ManifestRow.{ManifestRow}
 use Rattle.reports.specs.declared.tallies.Count.{Count}
 use Rattle.reports.specs.declared.tallies.Tallies.{Tallies}
-use Rattle.reports.specs.declared.tallies.Tally.{Tally}
+use Rattle.reports.specs.declared.tallies.FlightSums.{FlightSums}
 
 -- a waybill without movements
 abbrev pub zero : Count
 zero = record { pieces = 0; tenths = 0 }
 
-abbrev pub nothing_of : ℕ → Tally
+abbrev pub nothing_of : ℕ → FlightSums
 nothing_of w = record { awb = w; brought = zero; removed = zero; departed = zero }
 
 -- a count with another movement, if it is counted
@@ -27,7 +27,7 @@ counted true m c = record { pieces = c.pieces + m.pieces; tenths = c.tenths + m.
 counted false m c = c
 
 -- the sums of a waybill with another movement
-abbrev pub with_move : FlightDate → Move → Tally → Tally
+abbrev pub with_move : FlightDate → Move → FlightSums → FlightSums
 with_move f m t = record {
   awb = t.awb;
   brought = counted (same_place (Built f) m.to) m t.brought;
@@ -35,18 +35,18 @@ with_move f m t = record {
   departed = counted (leaves f m) m t.departed;
 }
 
-abbrev pub row_of : Tally → ManifestRow
+abbrev pub row_of : FlightSums → ManifestRow
 row_of t = record {
   awb = t.awb;
   built = amount (t.brought.pieces - t.removed.pieces) (t.brought.tenths - t.removed.tenths);
   departed = amount t.departed.pieces t.departed.tenths;
 }
 
-abbrev pub listed : Tally → List ManifestRow
+abbrev pub listed : FlightSums → List ManifestRow
 listed t = if has_pieces (row_of t) then row_of t ∷ [] else []
 
 -- the sums of a waybill so far
-abbrev pub tally_in : Tallies → ℕ → Tally
+abbrev pub tally_in : Tallies → ℕ → FlightSums
 tally_in t w = unwrap_or (get nat_cmp t.by_number w) (nothing_of w)
 
 -- no movements yet

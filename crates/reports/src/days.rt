@@ -27,7 +27,7 @@ pub struct Dated<Row> {
 }
 
 /// A row of a waybill.
-pub(crate) trait OfWaybill {
+pub(crate) trait HasAwb {
     ghost use Rattle.std.specs.Prelude.{ℕ};
 
     ghost number: { Self → ℕ };
@@ -36,7 +36,7 @@ pub(crate) trait OfWaybill {
         ensures { result ≡ number self.now };
 }
 
-impl OfWaybill for ShedRow {
+impl HasAwb for ShedRow {
     ghost number = { λ row. row.awb };
 
     fn number(&self) -> Awb {
@@ -44,7 +44,7 @@ impl OfWaybill for ShedRow {
     }
 }
 
-impl OfWaybill for IrregularRow {
+impl HasAwb for IrregularRow {
     ghost number = { λ row. row.awb };
 
     fn number(&self) -> Awb {
@@ -251,7 +251,7 @@ fn gathered<Row: Drop, R: Reading<Row>, K: Keeper>(
 }
 
 /// Puts a row behind the others, with its day.
-fn put_dated<Row: OfWaybill + Drop, K: Keeper>(
+fn put_dated<Row: HasAwb + Drop, K: Keeper>(
     keeper: &mut K,
     dated: &mut Vec<Dated<Row>>,
     row: Row,
@@ -269,7 +269,7 @@ fn put_dated<Row: OfWaybill + Drop, K: Keeper>(
 }
 
 /// Returns the rows, each with its day.
-fn all_dated<Row: OfWaybill + Copy, K: Keeper>(
+fn all_dated<Row: HasAwb + Copy, K: Keeper>(
     alloc: Global,
     keeper: &mut K,
     rows: &[Row],
@@ -289,7 +289,7 @@ fn all_dated<Row: OfWaybill + Copy, K: Keeper>(
 }
 
 /// Returns the rows of a reader, each with its day.
-fn dated_rows<Row: OfWaybill + Copy + Drop, R: Reading<Row>, K: Keeper>(
+fn dated_rows<Row: HasAwb + Copy + Drop, R: Reading<Row>, K: Keeper>(
     alloc: Global,
     keeper: &mut K,
     reading: &R,
@@ -310,7 +310,7 @@ pub(crate) struct DatedReading<R> {
     pub(crate) lasting: Lasting,
 }
 
-impl<Row: OfWaybill + Copy + Drop, R: Reading<Row>> Reading<Dated<Row>> for DatedReading<R> {
+impl<Row: HasAwb + Copy + Drop, R: Reading<Row>> Reading<Dated<Row>> for DatedReading<R> {
     ghost use Rattle.std.specs.Prelude.{List};
 
     ghost rows = { λ dating s dated. (rows : List Row) × R.rows dating.reading s rows

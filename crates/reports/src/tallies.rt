@@ -45,7 +45,7 @@ impl Count {
 
 /// The sums of a waybill's movements on a flight.
 #[derive(Clone, Copy)]
-struct Tally {
+struct FlightSums {
     awb: Awb,
     /// The amount built for the flight.
     brought: Count,
@@ -64,12 +64,12 @@ fn amount_of(pieces: u64, tenths: u64) -> Option<Amount>
     Some(Amount { pieces, tenths })
 }
 
-impl Tally {
+impl FlightSums {
     /// Returns the sums without movements.
-    fn new(awb: Awb) -> Tally
+    fn new(awb: Awb) -> FlightSums
         ensures { result ≡ nothing_of awb }
     {
-        Tally {
+        FlightSums {
             awb,
             brought: ZERO,
             removed: ZERO,
@@ -78,13 +78,13 @@ impl Tally {
     }
 
     /// Returns the sums with another movement.
-    fn with(&self, flight: &FlightDate, movement: &Move) -> Option<Tally>
+    fn with(&self, flight: &FlightDate, movement: &Move) -> Option<FlightSums>
         ensures { IfSome result (λ tally. tally ≡ with_move flight.now movement.now self.now) }
     {
         let built = Place::Built(*flight);
         let is_from = built.is_same(&movement.from);
         let is_away = is_from && Place::Departed.is_same(&movement.to);
-        Some(Tally {
+        Some(FlightSums {
             awb: self.awb,
             brought: self.brought.with(built.is_same(&movement.to), movement)?,
             removed: self.removed.with(is_from, movement)?,
@@ -106,7 +106,7 @@ impl Tally {
 }
 
 /// Appends the row of a waybill, if it has pieces.
-fn put_row(rows: &mut Vec<ManifestRow>, tally: &Tally) -> Result<(), ActFault>
+fn put_row(rows: &mut Vec<ManifestRow>, tally: &FlightSums) -> Result<(), ActFault>
     ensures fault { IfErr result IsMemory }
     ensures rows { OnOk result (rows.new.items ≡ rows.old.items ++ listed tally.now) }
 {
@@ -126,7 +126,7 @@ fn put_row(rows: &mut Vec<ManifestRow>, tally: &Tally) -> Result<(), ActFault>
 #[derive(Drop)]
 pub(crate) struct Tallies {
     flight: FlightDate,
-    by_number: BTreeMap<u64, Tally>,
+    by_number: BTreeMap<u64, FlightSums>,
     // True if a movement didn't fit.
     is_full: bool,
 }
@@ -145,12 +145,12 @@ impl Tallies {
         }
     }
 
-    fn tally(&self, awb: Awb) -> Tally
+    fn tally(&self, awb: Awb) -> FlightSums
         ensures { result ≡ tally_in self.now awb }
     {
         match self.by_number.get(&awb.key()) {
             Some(tally) => *tally,
-            None => Tally::new(awb),
+            None => FlightSums::new(awb),
         }
     }
 

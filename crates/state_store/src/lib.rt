@@ -6,6 +6,7 @@ mod expected_lines;
 mod flight_key;
 mod flight_order;
 mod lines;
+mod maps;
 mod query;
 mod store;
 mod telling;
@@ -13,6 +14,7 @@ mod viewing;
 
 pub use expected_lines::ExpectedLines;
 pub use flight_key::FlightKey;
+pub use maps::MapState;
 pub use query::WaybillQuery;
 pub use row_sinks::StoreFault;
 pub use store::StateStore;

@@ -1,4 +1,5 @@
 mod ByList
+mod Ended
 mod Once
 mod Opened
 mod OwnFiles

@@ -1,3 +1,4 @@
+pub mod Backing
 pub mod Begun
 pub mod Beside
 pub mod ByList

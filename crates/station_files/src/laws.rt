@@ -1,5 +1,6 @@
 //! Laws about stores in files whose trees are read by a list, or only partly shown.
 ghost use Rattle.station_schema.specs.Own.{LiesInOrder};
+ghost use Rattle.station_files.specs.Backing.{own_files, whole_files, EndsLeadOn};
 ghost use Rattle.station_files.specs.ByList.{LeaveByList};
 ghost use Rattle.station_files.specs.OwnFiles.{LeaveOwn};
 
@@ -19,6 +20,17 @@ pub fn files_leave_by_list<D: Disk>()
 /// database that the store may leave in them.
 pub fn files_leave_own<D: Disk>()
     ensures { LeaveOwn D.Disk }
+{}
+
+/// The next opening finds in files what the connection before it could leave there.
+pub fn files_lead_on<D: Disk>()
+    ensures { EndsLeadOn ⟦<FileStore<D> as Store>⟧ (whole_files D.Disk) }
+{}
+
+/// The same for files of which the trees of a list are shown.
+pub fn own_files_lead_on<D: Disk>()
+    ensures { EndsLeadOn ⟦<OwnTrees<FileStore<D>> as Store>⟧
+        (own_files D.Disk ⟦<OwnTrees<FileStore<D>> as Store>⟧) }
 {}
 
 /// The rows of tables in files are in order, on every disk, if only some trees are shown.

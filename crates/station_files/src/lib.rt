@@ -14,8 +14,10 @@ mod tree_list;
 mod trees;
 
 pub use beside::open_beside;
-pub use closing::{close_beside, close_files, give_back, give_back_beside};
-pub use laws::{files_leave_by_list, files_leave_own, own_files_lie_in_order};
+pub use closing::FileBacked;
+pub use laws::{
+    files_lead_on, files_leave_by_list, files_leave_own, own_files_lead_on, own_files_lie_in_order,
+};
 pub use making::open_new;
 pub use opening::open_listed;
 pub use own_trees::OwnTrees;

@@ -52,7 +52,7 @@ use Rattle.running_totals.specs.Posted.{WereThere}
 use Rattle.stock_tables.specs.Stocked.{Stocked, restocked, using_up, Restocked}
 use Rattle.table_state.specs.Recorded.{Recorded}
 use Rattle.table_state.specs.Put.{put_over, putting_waybill}
-use Rattle.table_state.specs.declared.counted.Counted.{Counted}
+use Rattle.table_state.specs.declared.counted.KnownCounts.{KnownCounts}
 use Rattle.table_state.specs.declared.open_lines.OpenLines.{OpenLines}
 use Rattle.table_state.specs.Shown.{Knows, AreBoarded, HasOpen, HaveAsked, IsCounted, Tells, Shows}
 use Rattle.table_state.proofs.Lifting.{writes_on, reached}
@@ -68,7 +68,7 @@ putting_means t s text true w d new is fits means = waybill_written t s means te
 putting_means t s text false w d new is fits means =
     put_means t s text w d new is fits means (get_by waybill_id t.waybills new.awb) (ap (λ (r : table.Waybill). get_by waybill_id t.waybills r.awb) (sym is))
 
-module _ (old new : View) (here : List ℕ) (counted : Counted) (confirmed : ℕ) (before s : State) (was : Shows old here counted confirmed (inside before s)) (survives : row.Survives old new) where
+module _ (old new : View) (here : List ℕ) (counted : KnownCounts) (confirmed : ℕ) (before s : State) (was : Shows old here counted confirmed (inside before s)) (survives : row.Survives old new) where
   same_rest : (after : State) → s.cargo.here ≡ after.cargo.here → sizes_of s.cargo ≡ sizes_of after.cargo → s.cargo.confirmed ≡ after.cargo.confirmed
       → Knows here counted.sizes confirmed (inside before s) → Knows here counted.sizes confirmed (inside before after)
   same_rest after place counts mark k = record { here_is = k.here_is ∙ place; sizes_are = k.sizes_are ∙ counts; confirmed_is = k.confirmed_is ∙ mark }
@@ -92,7 +92,7 @@ module _ (old new : View) (here : List ℕ) (counted : Counted) (confirmed : ℕ
 
   pub expects_on : (text name : List ℕ) (day awb : ℤ) (f : FlightDate) (w : ℕ) (e : Expected) (row_is : table.Expected) → name ≡ flight_text f.flight → day ≡ pos f.day → awb ≡ pos w → row_is ≡ expected_row e
       → IsTrue (is_designator f.flight) → IsTrue (is_expected_row (expected_key f w, expected_row e))
-      → (later : Counted) → later.sizes ≡ counted.sizes → later.boarded ≡ counted.boarded → later.known ≡ counted.known → later.waybills ≡ counted.waybills
+      → (later : KnownCounts) → later.sizes ≡ counted.sizes → later.boarded ≡ counted.boarded → later.known ≡ counted.known → later.waybills ≡ counted.waybills
       → ((lines : Lines) → HasOpen counted.open_lines.kept lines → HasOpen later.open_lines.kept (with_line lines f w (Some e)))
       → (IsShowing old (row.inside old.committed old.now) → IsShowing new (row.inside old.committed (with_expected (name, (day, awb)) row_is old.now)))
       → Shows new here later confirmed (inside before (on_cargo (written text (Expect f w e)) s))
@@ -118,7 +118,7 @@ module _ (old new : View) (here : List ℕ) (counted : Counted) (confirmed : ℕ
 
   -- a list that got one more
 
-  same_counted : (later : Counted) (book : List Move) (lines : Lines) → later.boarded ≡ counted.boarded → later.known ≡ counted.known → later.waybills ≡ counted.waybills → later.open_lines ≡ counted.open_lines
+  same_counted : (later : KnownCounts) (book : List Move) (lines : Lines) → later.boarded ≡ counted.boarded → later.known ≡ counted.known → later.waybills ≡ counted.waybills → later.open_lines ≡ counted.open_lines
       → IsCounted counted book lines → IsCounted later book lines
   same_counted later book lines same_boarded same_known same_waybills same_open kept = record {
     boarded = subst (λ o. AreBoarded o book) (sym same_boarded) kept.boarded;
@@ -127,7 +127,7 @@ module _ (old new : View) (here : List ℕ) (counted : Counted) (confirmed : ℕ
     open_lines = subst (λ (o : OpenLines). HasOpen o.kept lines) (sym same_open) kept.open_lines;
   }
 
-  pub adds_line_on : (text : List ℕ) (n w : ℕ) (line : List ℕ) (row_is : table.TrailLine) → row_is ≡ line_row n w line → IsTrue (is_trail_row (line_row n w line)) → n ≡ counted.sizes.lines + 1 → (later : Counted) → later.sizes ≡ record { moves = counted.sizes.moves; lines = n; messages = counted.sizes.messages } → later.boarded ≡ counted.boarded → later.known ≡ counted.known → later.waybills ≡ counted.waybills → later.open_lines ≡ counted.open_lines
+  pub adds_line_on : (text : List ℕ) (n w : ℕ) (line : List ℕ) (row_is : table.TrailLine) → row_is ≡ line_row n w line → IsTrue (is_trail_row (line_row n w line)) → n ≡ counted.sizes.lines + 1 → (later : KnownCounts) → later.sizes ≡ record { moves = counted.sizes.moves; lines = n; messages = counted.sizes.messages } → later.boarded ≡ counted.boarded → later.known ≡ counted.known → later.waybills ≡ counted.waybills → later.open_lines ≡ counted.open_lines
       → (IsShowing old (row.inside old.committed old.now) → IsShowing new (row.inside old.committed (with_trail_line row_is old.now)))
       → Shows new here later confirmed (inside before (on_cargo (written text (Trail w line)) s))
   adds_line_on text n w line row_is is fits next later sizes_later same_boarded same_known same_waybills same_open done sound =
@@ -141,7 +141,7 @@ module _ (old new : View) (here : List ℕ) (counted : Counted) (confirmed : ℕ
         confirmed_is = k.confirmed_is;
       }) (λ kept. same_counted later s.cargo.book s.cargo.expected same_boarded same_known same_waybills same_open kept) sound
 
-  pub adds_message_on : (n : ℕ) (text : List ℕ) (row_is : table.Message) → row_is ≡ message_row n text → IsTrue (is_message_row (message_row n text)) → n ≡ counted.sizes.messages + 1 → (later : Counted) → later.sizes ≡ record { moves = counted.sizes.moves; lines = counted.sizes.lines; messages = n } → later.boarded ≡ counted.boarded → later.known ≡ counted.known → later.waybills ≡ counted.waybills → later.open_lines ≡ counted.open_lines
+  pub adds_message_on : (n : ℕ) (text : List ℕ) (row_is : table.Message) → row_is ≡ message_row n text → IsTrue (is_message_row (message_row n text)) → n ≡ counted.sizes.messages + 1 → (later : KnownCounts) → later.sizes ≡ record { moves = counted.sizes.moves; lines = counted.sizes.lines; messages = n } → later.boarded ≡ counted.boarded → later.known ≡ counted.known → later.waybills ≡ counted.waybills → later.open_lines ≡ counted.open_lines
       → (IsShowing old (row.inside old.committed old.now) → IsShowing new (row.inside old.committed (with_message row_is old.now)))
       → Shows new here later confirmed (inside before (with_messages (text ∷ []) s))
   adds_message_on n text row_is is fits next later sizes_later same_boarded same_known same_waybills same_open done sound =
@@ -234,8 +234,8 @@ module _ (t : Tables) (s : State) (m : Move) (book : List table.Move) (counts : 
     (λ i. record (meaning_of t) { cargo = record (meaning_of t).cargo { book = has.book i } }) ∙ ap (with_moves (m ∷ [])) means.1,
   )
 
-module _ (old new : View) (here : List ℕ) (counted : Counted) (confirmed : ℕ) (before s : State) (was : Shows old here counted confirmed (inside before s)) (survives : row.Survives old new) where
-  pub moves_on : (n : ℕ) (m : Move) → n ≡ counted.sizes.moves + 1 → (later : Counted) → later.sizes ≡ record { moves = n; lines = counted.sizes.lines; messages = counted.sizes.messages }
+module _ (old new : View) (here : List ℕ) (counted : KnownCounts) (confirmed : ℕ) (before s : State) (was : Shows old here counted confirmed (inside before s)) (survives : row.Survives old new) where
+  pub moves_on : (n : ℕ) (m : Move) → n ≡ counted.sizes.moves + 1 → (later : KnownCounts) → later.sizes ≡ record { moves = n; lines = counted.sizes.lines; messages = counted.sizes.messages }
       → (were : ℤ) → ((book : List Move) → AreBoarded counted.boarded book → WereThere book m were → AreBoarded later.boarded (book ++ m ∷ []))
       → ((book : List Move) → AreKnown counted.known (running book) → AreKnown later.known (running (book ++ m ∷ [])))
       → ((book : List Move) → HaveAsked counted.waybills book → HaveAsked later.waybills (book ++ m ∷ [])) → later.open_lines ≡ counted.open_lines
@@ -271,7 +271,7 @@ pub mark_fits : (upto : ℕ) → upto < 4_294_967_296 → is_count (pos upto) �
 mark_fits = count_fits
 
 -- an order that was carried out
-module _ (old new : View) (here : List ℕ) (counted : Counted) (confirmed : ℕ) (s : State) (was : Shows old here counted confirmed (at_rest s)) (survives : row.Survives old new) (up : new.IsSound → old.is_open ≡ true) where
+module _ (old new : View) (here : List ℕ) (counted : KnownCounts) (confirmed : ℕ) (s : State) (was : Shows old here counted confirmed (at_rest s)) (survives : row.Survives old new) (up : new.IsSound → old.is_open ≡ true) where
   pub at_rest_now : new.IsSound → IsShowing old (row.at_rest old.now)
   at_rest_now sound _ =
       let m = (was (survives.sound sound)).holds.stands (up sound) in
@@ -318,7 +318,7 @@ size_refused : (h : Holders) (order : Order) → is_run (run_of order) ≡ false
 size_refused h order wrong = ap (λ b. if b then refused_by (lowest_failing h (run_of order) (test_of order)) (refusal_number order) else Some (105, None)) wrong
 
 -- an order that was answered
-module _ (old new : View) (here : List ℕ) (counted : Counted) (confirmed : ℕ) (s : State) (was : Shows old here counted confirmed (at_rest s)) (survives : row.Survives old new) where
+module _ (old new : View) (here : List ℕ) (counted : KnownCounts) (confirmed : ℕ) (s : State) (was : Shows old here counted confirmed (at_rest s)) (survives : row.Survives old new) where
   pub due_on : (order : Order) (due : Option (ℕ × Option ℕ)) → (new.IsSound → old.is_open ≡ true) → (IsShowing old (row.at_rest old.now) → Stocked old.now → new.IsSound → order_refusal (holders_in old.now.stock) order ≡ due)
       → new.IsSound → order_refusal s.cargo.holders order ≡ due
   due_on order due up tells sound =

@@ -12,7 +12,7 @@ use Rattle.running_totals.specs.declared.known.KnownSums.{KnownSums}
 use Rattle.station_rows.specs.Clauses as rows
 use Rattle.station_rows.specs.Clauses.{ShowsStill, WasOpen}
 use Rattle.state_store.specs.Store.{Changes, Reads, ReadsAtRest, Seen, Storing, Survives, at_rest, inside}
-use Rattle.table_state.specs.declared.counted.Counted.{Counted}
+use Rattle.table_state.specs.declared.counted.KnownCounts.{KnownCounts}
 use Rattle.table_state.specs.declared.missed.Missed.{Missed}
 use Rattle.table_state.specs.declared.open_lines.OpenLines.{OpenLines}
 use Rattle.table_state.specs.declared.state.TableState.{TableState}
@@ -46,14 +46,14 @@ pub finds_on : (old new : View) → row.Survives old new → new.IsSound → (fo
 finds_on old new survives sound found finds = record { tables = finds.tables; left = survives.crash sound finds.tables finds.left; means = finds.means }
 
 -- what an open store gives back when its transaction is undone
-pub given_back : (old new : View) (here : List ℕ) (counted : Counted) (confirmed : ℕ) (x : Seen) → Shows old here counted confirmed x → (new.IsSound → old.IsSound)
+pub given_back : (old new : View) (here : List ℕ) (counted : KnownCounts) (confirmed : ℕ) (x : Seen) → Shows old here counted confirmed x → (new.IsSound → old.IsSound)
     → (new.IsSound → new.is_open ≡ true → row.Shows old new old.committed old.committed false) → IfGivenBack new x.committed
 given_back old new here counted confirmed x was down undone sound up =
     let d = undone sound up in
     let stands = (was (down sound)).holds.stands d.was_open in
     (d.mode, subst (λ t. Means t (Some x.committed)) (sym d.now_is) stands.committed)
 
-pub may_find_on : (old new : View) (here : List ℕ) (counted : Counted) (confirmed : ℕ) (before s : State)
+pub may_find_on : (old new : View) (here : List ℕ) (counted : KnownCounts) (confirmed : ℕ) (before s : State)
     → Shows old here counted confirmed (inside before s) → MayCommit old new → new.IsSound → (found : Option State) → Finds new found → Finds old found ⊎ (found ≡ Some s)
 may_find_on old new here counted confirmed before s was may sound found finds =
     let h = (was (may.sound sound)).holds in
@@ -63,7 +63,7 @@ may_find_on old new here counted confirmed before s was may sound found finds =
     (may.crash sound finds.tables finds.left)
 
 -- another number that is kept
-pub keeps_number : (v : View) (here : List ℕ) (counted : Counted) (confirmed : ℕ) (x : Seen) → Shows v here counted confirmed x → (later : Counted) → later.sizes ≡ counted.sizes → (v.IsSound → IsCounted later x.now.cargo.book x.now.cargo.expected) → Shows v here later confirmed x
+pub keeps_number : (v : View) (here : List ℕ) (counted : KnownCounts) (confirmed : ℕ) (x : Seen) → Shows v here counted confirmed x → (later : KnownCounts) → later.sizes ≡ counted.sizes → (v.IsSound → IsCounted later x.now.cargo.book x.now.cargo.expected) → Shows v here later confirmed x
 keeps_number v here counted confirmed x was later same number sound =
     let k = was sound in
     record {
@@ -72,7 +72,7 @@ keeps_number v here counted confirmed x was later same number sound =
       kept = number sound;
     }
 
-module _ (old new : View) (here : List ℕ) (counted : Counted) (confirmed : ℕ) where
+module _ (old new : View) (here : List ℕ) (counted : KnownCounts) (confirmed : ℕ) where
   stands_on : (x : Seen) → Stands old x → new.now ≡ old.now → new.committed ≡ old.committed → new.in_transaction ≡ old.in_transaction → Stands new x
   stands_on x m now committed mode = record {
     mode = mode ∙ m.mode;
@@ -163,7 +163,7 @@ module _ (old new : View) (here : List ℕ) (counted : Counted) (confirmed : ℕ
       }
 
   -- in a transaction the tables became others
-  pub reached : (change : Tables → Tables) (later : Counted) (confirmed_then : ℕ) (before s after : State) → Shows old here counted confirmed (inside before s) → row.Survives old new
+  pub reached : (change : Tables → Tables) (later : KnownCounts) (confirmed_then : ℕ) (before s after : State) → Shows old here counted confirmed (inside before s) → row.Survives old new
       → (new.IsSound → Displays new (row.inside old.committed (change old.now)))
       → (new.IsSound → Means old.now (Some s) → Means (change old.now) (Some after))
       → (Knows here counted.sizes confirmed (inside before s) → Knows here later.sizes confirmed_then (inside before after))
@@ -189,7 +189,7 @@ module _ (old new : View) (here : List ℕ) (counted : Counted) (confirmed : ℕ
       }
 
   -- one change of the tables
-  pub writes_on : (change : Tables → Tables) (later : Counted) (confirmed_then : ℕ) (before s after : State) → Shows old here counted confirmed (inside before s) → row.Survives old new
+  pub writes_on : (change : Tables → Tables) (later : KnownCounts) (confirmed_then : ℕ) (before s after : State) → Shows old here counted confirmed (inside before s) → row.Survives old new
       → (IsShowing old (row.inside old.committed old.now) → IsShowing new (row.inside old.committed (change old.now)))
       → (new.IsSound → Means old.now (Some s) → Means (change old.now) (Some after))
       → (Knows here counted.sizes confirmed (inside before s) → Knows here later.sizes confirmed_then (inside before after))
@@ -221,12 +221,12 @@ pub writes_so : {S E : Type 0} (view : S → View) (old new : TableState S) (r :
 writes_so view old new r change survives done = record { done = done; survives = survives_so view old new survives }
 
 -- after a read of the store, with what is kept beside it from then on
-abbrev after : {S : Type 0} → TableState S → S → Counted → Missed → TableState S
+abbrev after : {S : Type 0} → TableState S → S → KnownCounts → Missed → TableState S
 after old store counted missed = record old { store = store; counted = counted; missed = missed }
 
 module _ {S A E : Type 0} (view : S → View) (old : TableState S) (store : S) where
   -- what was read is said of the tables, which mean the state
-  pub counted_by : {X F : Type 0} {found : X} {P : Tables → X → Type 0} (later : Counted) (missed : Missed) (r : Result A E) (Is : State → A → Type 0) → later.sizes ≡ old.counted.sizes → rows.Reads {E = F} (view old.store) (view store) (Ok found) P
+  pub counted_by : {X F : Type 0} {found : X} {P : Tables → X → Type 0} (later : KnownCounts) (missed : Missed) (r : Result A E) (Is : State → A → Type 0) → later.sizes ≡ old.counted.sizes → rows.Reads {E = F} (view old.store) (view store) (Ok found) P
       → ((s : State) → Means (view old.store).now (Some s) → P (view old.store).now found → IsCounted old.counted s.cargo.book s.cargo.expected → IsCounted later s.cargo.book s.cargo.expected)
       → ((s : State) → Means (view old.store).now (Some s) → P (view old.store).now found → IfOk r (Is s))
       → Reads (in_tables view) old (after old store later missed) r Is
@@ -267,7 +267,7 @@ module _ {S A E : Type 0} (view : S → View) (old : TableState S) (store : S) w
   read_so missed (Err e) Is read value = failed (Err e) missed e Is read
 
   -- where more is known of sums, and nothing else
-  module _ (later : Counted) (missed : Missed) (r : Result A E) (Is : State → A → Type 0) (sizes : later.sizes ≡ old.counted.sizes) (boarded : later.boarded ≡ old.counted.boarded) (waybills : later.waybills ≡ old.counted.waybills) (open_lines : later.open_lines ≡ old.counted.open_lines) where
+  module _ (later : KnownCounts) (missed : Missed) (r : Result A E) (Is : State → A → Type 0) (sizes : later.sizes ≡ old.counted.sizes) (boarded : later.boarded ≡ old.counted.boarded) (waybills : later.waybills ≡ old.counted.waybills) (open_lines : later.open_lines ≡ old.counted.open_lines) where
     counts_so : (s : State) → IsCounted old.counted s.cargo.book s.cargo.expected → AreKnown later.known (running s.cargo.book) → IsCounted later s.cargo.book s.cargo.expected
     counts_so s kept known = record {
       boarded = subst (λ o. AreBoarded o s.cargo.book) (sym boarded) kept.boarded;
@@ -292,7 +292,7 @@ module _ {S A E : Type 0} (view : S → View) (old : TableState S) (store : S) w
       survives = survives_so view old (after old store later missed) read.survives;
     }
 
-  pub sums_so : {P : Tables → A → Type 0} (later : Counted) (missed : Missed) (r : Result A E) (Is : State → A → Type 0) → later.sizes ≡ old.counted.sizes → later.boarded ≡ old.counted.boarded → later.waybills ≡ old.counted.waybills → later.open_lines ≡ old.counted.open_lines
+  pub sums_so : {P : Tables → A → Type 0} (later : KnownCounts) (missed : Missed) (r : Result A E) (Is : State → A → Type 0) → later.sizes ≡ old.counted.sizes → later.boarded ≡ old.counted.boarded → later.waybills ≡ old.counted.waybills → later.open_lines ≡ old.counted.open_lines
       → rows.Reads (view old.store) (view store) r P → OnErr r (later.known ≡ old.counted.known)
       → ((s : State) → Means (view old.store).now (Some s) → (a : A) → P (view old.store).now a → Is s a × (AreKnown old.counted.known (running s.cargo.book) → AreKnown later.known (running s.cargo.book)))
       → Reads (in_tables view) old (after old store later missed) r Is

@@ -27,7 +27,7 @@ use Rattle.row_codec.specs.Replies.{kept_by}
 use Rattle.row_codec.specs.Meaning.{meaning_of, IsReadable, Means}
 use Rattle.state_store.specs.Store.{at_rest}
 use Rattle.table_state.specs.Laws.{same_meaning}
-use Rattle.table_state.specs.declared.counted.Counted.{Counted}
+use Rattle.table_state.specs.declared.counted.KnownCounts.{KnownCounts}
 use Rattle.table_state.specs.Shown.{Knows, IsCounted, HasThese, Shows}
 
 none_of : {X : Type 0} (xs : List X) → length xs ≡ 0 → xs ≡ []
@@ -111,7 +111,7 @@ pub opening_means : (here : List ℕ) → IsTrue (is_airport here) → Means (op
 opening_means here airport = (opening_readable here airport, meaning_opening here)
 
 -- a store whose tables mean a state
-pub shown : (v : View) (t : Tables) (s : State) (here : List ℕ) (counted : Counted) (confirmed : ℕ) → Means t (Some s) → Knows here counted.sizes confirmed (at_rest s) → IsCounted counted s.cargo.book s.cargo.expected → (v.IsSound → HasThese t v)
+pub shown : (v : View) (t : Tables) (s : State) (here : List ℕ) (counted : KnownCounts) (confirmed : ℕ) → Means t (Some s) → Knows here counted.sizes confirmed (at_rest s) → IsCounted counted s.cargo.book s.cargo.expected → (v.IsSound → HasThese t v)
     → ((u : Tables) → v.is_open ≡ true → v.IsSound → v.may_leave u → u ≡ v.committed) → Shows v here counted confirmed (at_rest s)
 shown v t s here counted confirmed means knows kept has settled sound =
     let these = has sound in

@@ -11,7 +11,7 @@ use Rattle.station_schema.specs.Tables.{Tables}
 use Rattle.row_codec.specs.Meaning.{Means}
 use Rattle.station_rows.specs.Clauses.{HandsIfOpen, HandsOf}
 use Rattle.state_store.specs.Store.{at_rest}
-use Rattle.table_state.specs.declared.counted.Counted.{Counted}
+use Rattle.table_state.specs.declared.counted.KnownCounts.{KnownCounts}
 use Rattle.table_state.specs.Shown.{Knows, Shows}
 use Rattle.table_state.proofs.Lifting.{seen_in}
 use Rattle.table_state.specs.Handing.{Tells}
@@ -90,7 +90,7 @@ not_both (Err e) ok err = let no : false ≡ true = ok in cc
 -- of a store that shows a state, what a reader is given of it
 module _ {K V X E F : Type 0} (takes : K → V → Bool → K → Type 0) (value : X → V) (raw : Telling K → X → Bool → Telling K → Type 0)
     (step : (old : Telling K) (x : X) (go : Bool) (new : Telling K) → raw old x go new → Tells takes (value x) old go new)
-    (old new : View) (here : List ℕ) (counted : Counted) (confirmed : ℕ) (s : State) (was : Shows old here counted confirmed (at_rest s)) (survives : row.Survives old new)
+    (old new : View) (here : List ℕ) (counted : KnownCounts) (confirmed : ℕ) (s : State) (was : Shows old here counted confirmed (at_rest s)) (survives : row.Survives old new)
     (rows : Tables → List X) (all : List V) (are : Means old.now (Some s) → Knows here counted.sizes confirmed (at_rest s) → map value (rows old.now) ≡ all) (from to : Telling K) (r : Result (Unit {0}) E)
     (hands : HandsOf old new r raw rows from to) (shut : HandsIfOpen old new r from to) where
   pub given_on : (r' : Result (Unit {0}) F) → OnOk r' (IsOk r × (to.stuck ≡ false)) → new.IsSound → Hands takes all from.sink.now to.sink.now r'

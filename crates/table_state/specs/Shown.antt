@@ -23,7 +23,7 @@ use Rattle.station_core.specs.Told.{sizes_of}
 use Rattle.station_core.specs.declared.stored.Sizes.{Sizes}
 use Rattle.table_state.specs.declared.counted.Boarded.{Boarded}
 use Rattle.table_state.specs.declared.counted.Boardings.{Boardings}
-use Rattle.table_state.specs.declared.counted.Counted.{Counted}
+use Rattle.table_state.specs.declared.counted.KnownCounts.{KnownCounts}
 use Rattle.table_state.specs.declared.state.TableState.{TableState}
 use Rattle.table_state.specs.declared.waybill_sets.WaybillSets.{WaybillSets}
 
@@ -80,19 +80,19 @@ abbrev pub HasOpen : Option ExpectedLines → Lines → Type 0
 HasOpen kept lines = IfSome kept (λ open_lines. lines_in open_lines ≡ expected_for Open lines)
 
 -- what is kept beside the tables is true of a book, and of what flights are to bring
-pub record IsCounted (counted : Counted) (book : List Move) (lines : Lines) : Type 0 where
+pub record IsCounted (counted : KnownCounts) (book : List Move) (lines : Lines) : Type 0 where
   pub boarded : AreBoarded counted.boarded book
   pub known : AreKnown counted.known (running book)
   pub waybills : HaveAsked counted.waybills book
   pub open_lines : HasOpen counted.open_lines.kept lines
 
-pub record Tells (v : View) (here : List ℕ) (counted : Counted) (confirmed : ℕ) (x : Seen) : Type 0 where
+pub record Tells (v : View) (here : List ℕ) (counted : KnownCounts) (confirmed : ℕ) (x : Seen) : Type 0 where
   pub holds : Holds v x
   pub knows : Knows here counted.sizes confirmed x
   pub kept : IsCounted counted x.now.cargo.book x.now.cargo.expected
 
 -- as long as the disk has returned what was written
-abbrev pub Shows : View → List ℕ → Counted → ℕ → Seen → Type 0
+abbrev pub Shows : View → List ℕ → KnownCounts → ℕ → Seen → Type 0
 Shows v here counted confirmed x = v.IsSound → Tells v here counted confirmed x
 
 -- some tables that a crash may leave mean this state, or none

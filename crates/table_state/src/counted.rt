@@ -29,7 +29,7 @@ pub(crate) struct Boardings {
 /// The numbers of numbered rows, which are always known; and as far as they are known: the numbers
 /// of waybills on flights, the listed waybills, the open lines of flights, and sums.
 #[derive(Drop)]
-pub(crate) struct Counted {
+pub(crate) struct KnownCounts {
     pub(crate) sizes: Sizes,
     pub(crate) boarded: Boardings,
     pub(crate) known: KnownSums,

@@ -20,7 +20,7 @@ pub(crate) fn ended(read: Result<(), StoreFault>, stuck: bool) -> Result<(), Sto
 }
 
 /// A row of a table that readers are given in another form.
-pub(crate) trait Told {
+pub(crate) trait ForReaders {
     ghost use Rattle.std.specs.Prelude.{IfSome};
 
     /// The form that readers are given.
@@ -33,7 +33,7 @@ pub(crate) trait Told {
         ensures { IfSome result (λ form. form ≡ told self) };
 }
 
-impl Told for MoveRow {
+impl ForReaders for MoveRow {
     type Form = BookRow;
 
     ghost told = { λ row. book_row_by (move_meant row) };
@@ -43,7 +43,7 @@ impl Told for MoveRow {
     }
 }
 
-impl Told for MessageRow {
+impl ForReaders for MessageRow {
     type Form = Message;
 
     ghost told = { λ row. message (natural row.number) (message_meant row).body };
@@ -53,7 +53,7 @@ impl Told for MessageRow {
     }
 }
 
-impl Told for TrailRow {
+impl ForReaders for TrailRow {
     type Form = ReaderLine;
 
     ghost told = { λ row. trail_row_by (trail_meant row) };
@@ -89,7 +89,7 @@ impl<'a, K> Telling<'a, K> {
     }
 }
 
-impl<'a, Row: Told + Drop, K: Sink<Row::Form>> Sink<Row> for Telling<'a, K> {
+impl<'a, Row: ForReaders + Drop, K: Sink<Row::Form>> Sink<Row> for Telling<'a, K> {
     ghost use Rattle.table_state.specs.Handing.{Tells};
 
     ghost takes = { λ old row go new. Tells K.takes (Row.told row) old go new };

@@ -9,7 +9,7 @@ ghost use Rattle.state_store.specs.Store.{at_rest};
 ghost use Rattle.table_state.specs.Laws.{finds_what_it_shows, all_numbered};
 ghost use Rattle.table_state.specs.Shown.{HasThese, Knows, in_tables};
 
-use crate::counted::{Boarded, Boardings, Counted};
+use crate::counted::{Boarded, Boardings, KnownCounts};
 use crate::handing::{Telling, ended};
 use crate::missed::Missed;
 use crate::noted::flights_noted;
@@ -46,7 +46,7 @@ pub struct TableState<S: TableStore> {
     pub(crate) alloc: Global,
     pub(crate) store: S,
     pub(crate) here: Airport,
-    pub(crate) counted: Counted,
+    pub(crate) counted: KnownCounts,
     pub(crate) confirmed: u32,
     pub(crate) missed: Missed,
 }
@@ -73,7 +73,7 @@ impl<S: TableStore> TableState<S> {
             alloc,
             store,
             here,
-            counted: Counted {
+            counted: KnownCounts {
                 sizes,
                 boarded: Boardings::none(),
                 known: KnownSums::none(),

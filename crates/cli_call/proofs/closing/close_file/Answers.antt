@@ -5,7 +5,6 @@ pub returns-in-Ok : goal.returns-in-Ok
 returns-in-Ok g c = record {
   stopped = search rules;
   closed = search rules;
-  copied = search rules;
-  left = search rules;
+  ended = search rules;
   failed = search rules;
 }

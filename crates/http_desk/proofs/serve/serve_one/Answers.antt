@@ -1,5 +1,5 @@
 use Rattle.std.proofs.Common.{Err, ◌≡◌, ◌∙◌, ap, sym, subst, refl, inl, false, List, ℕ, ◌++◌}
-use Rattle.http_desk.specs.declared.asking.Told.TheVariants as told
+use Rattle.http_desk.specs.declared.asking.Response.TheVariants as told
 use Rattle.http_desk.specs.StationAfter.{station_after}
 use Rattle.http_desk.specs.Serving.{added, IsUnfinished}
 use Rattle.http_desk.proofs.Answered.{served_all, unavailable_all, reopen_all, shut_all}

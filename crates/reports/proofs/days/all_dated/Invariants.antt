@@ -8,4 +8,4 @@ use Rattle.reports.proofs.days.all_dated.Given as goal
 abbrev pub invariant-loop-row : goal.invariant-loop-row
 invariant-loop-row g l =
     OnlyReads g.K.Keeper.keeping l.fn.keeper l.keeper
-    × ((s : State) → g.K.Keeper.keeping.keeps l.fn.keeper s → g.K.Keeper.keeping.is_sound l.keeper → AreDated l.lasting g.Row.OfWaybill.number s.cargo (take l.row-index l.rows) l.dated.items)
+    × ((s : State) → g.K.Keeper.keeping.keeps l.fn.keeper s → g.K.Keeper.keeping.is_sound l.keeper → AreDated l.lasting g.Row.HasAwb.number s.cargo (take l.row-index l.rows) l.dated.items)

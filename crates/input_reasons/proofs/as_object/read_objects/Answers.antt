@@ -1,0 +1,13 @@
+use Rattle.std.proofs.Common.{◌∙◌, ap, sym, [], ◌++◌}
+use Rattle.std.specs.List.{cons_option}
+use Rattle.input_reasons.specs.LookObject.{read_object}
+use Rattle.input_reasons.proofs.Texts.{filter_more}
+use Rattle.input_reasons.proofs.as_object.read_objects.Goals as goal
+
+pub loop-line-preserved : goal.loop-line-preserved
+loop-line-preserved c =
+    let line = c.line-item.result in
+    let lines = c.args.lines.now in
+    let i = c.loop-line.line-index in
+    c.in_ok-put_object.ensures ∙ (λ k. c.loop-line.invariant k ++ cons_option ((c.in_ok-read_object.ensures ∙ ap read_object c.line-item.is) k) [])
+    ∙ sym (filter_more read_object lines i line c.loop-line-test.true)

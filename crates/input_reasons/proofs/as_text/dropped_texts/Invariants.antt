@@ -1,0 +1,7 @@
+use Rattle.std.proofs.Common.{◌≡◌, take, string_bytes}
+use Rattle.std.specs.Prelude.{flat_map}
+use Rattle.input_reasons.specs.LookText.{dropped_text}
+use Rattle.input_reasons.proofs.as_text.dropped_texts.Given as goal
+
+abbrev pub invariant-loop-line : goal.invariant-loop-line
+invariant-loop-line l = string_bytes l.text ≡ flat_map dropped_text (take l.line-index l.lines)

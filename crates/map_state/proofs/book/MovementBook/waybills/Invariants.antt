@@ -1,8 +1,0 @@
-use Rattle.std.proofs.Common.{◌≡◌, ◌++◌}
-use Rattle.std.specs.List.{flat_map}
-use Rattle.map_state.specs.Listed.{asked_by}
-use Rattle.map_state.proofs.book.MovementBook.waybills.Given as goal
-
--- the waybills so far and those ahead are all that are asked for
-abbrev pub invariant-loop-key : goal.invariant-loop-key
-invariant-loop-key l = l.rows.items ++ flat_map (asked_by l.query) l.key-iterator ≡ flat_map (asked_by l.query) l.self.flows.entries

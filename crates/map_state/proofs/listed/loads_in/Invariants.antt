@@ -1,8 +1,0 @@
-use Rattle.std.proofs.Common.{◌≡◌, ◌++◌}
-use Rattle.std.specs.List.{flat_map}
-use Rattle.map_state.specs.Listed.{loaded}
-use Rattle.map_state.proofs.listed.loads_in.Given as goal
-
--- the loads so far and those ahead are all
-abbrev pub invariant-loop-key : goal.invariant-loop-key
-invariant-loop-key l = l.rows.items ++ flat_map loaded l.key-iterator ≡ flat_map loaded l.flows.entries

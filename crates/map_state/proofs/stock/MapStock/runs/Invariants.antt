@@ -1,9 +1,0 @@
-use Rattle.agent_stock.specs.Runs.{AreStockRuns}
-use Rattle.map_state.specs.Runs.{below}
-use Rattle.map_state.specs.Stock.{holders_of}
-use Rattle.map_state.proofs.Ahead.{IsAhead}
-use Rattle.map_state.proofs.stock.MapStock.runs.Given as goal
-
--- the runs below the entry are there, and the entries ahead say the rest
-abbrev pub invariant-loop-key : goal.invariant-loop-key
-invariant-loop-key l = AreStockRuns (below l.from (holders_of l.self)) l.rows.items × IsAhead (holders_of l.self) l.from l.named l.key-iterator

@@ -1,0 +1,23 @@
+-- The entries of flights as the rows of the readers.
+use Rattle.std.proofs.Common.{◌≡◌, ◌∙◌, List, map, refl, sym, ap, subst}
+use Rattle.std.specs.BTreeMap.{BTreeMap}
+use Rattle.std.specs.FinMap.{is_sorted}
+use Rattle.std.specs.List.Sorted.{IsStrictlySortedBy}
+use Rattle.std.specs.Map.{keys_of}
+use Rattle.shipment_machine.specs.Flights.{same_flight_date}
+use Rattle.shipment_machine.specs.declared.moves.Outbound.{Outbound}
+use Rattle.station_core.specs.Readers.{AreNoted, by_flight}
+use Rattle.station_core.specs.declared.rows.NotedFlight.{NotedFlight}
+use Rattle.state_store.specs.FlightKey.{by_key}
+use Rattle.state_store.specs.declared.flight_key.FlightKey.{FlightKey}
+use Rattle.state_store.proofs.InOrder.{found_in, map_map, sorted}
+use Rattle.state_store.specs.Maps.{flights_in}
+
+abbrev pub noted_of : FlightKey × Outbound → NotedFlight
+noted_of e = record { flight = e.0.flight; outbound = e.1 }
+
+pub are_noted : (m : BTreeMap FlightKey Outbound) (rows : List NotedFlight) → IsStrictlySortedBy by_key (keys_of m.entries) → rows ≡ map noted_of m.entries → AreNoted (flights_in m) rows
+are_noted m rows ordered are = subst (AreNoted (flights_in m)) (sym are) (record {
+  rising = ap (is_sorted by_flight) (map_map (λ (row : NotedFlight). (row.flight, row.outbound)) noted_of m.entries) ∙ sorted by_key by_flight (λ (k : FlightKey). k.flight) (λ a b. refl) m.entries ordered;
+  same = λ f. found_in (λ k. same_flight_date f k.flight) noted_of (λ row. same_flight_date f row.flight) (λ row. row.outbound) (λ e. refl) (λ e. refl) m.entries;
+})

@@ -1,0 +1,12 @@
+use Rattle.std.proofs.Common.{◌≡◌, ◌+◌, ◌++◌, drop, length}
+use Rattle.std.specs.List.{flat_map}
+use Rattle.station_core.specs.Readers.{numbered, trail_row}
+use Rattle.state_store.specs.Asked.{first_line, if_line}
+use Rattle.state_store.specs.Maps.{trail_in}
+use Rattle.state_store.proofs.maps.asked.lines.Given as goal
+
+-- the lines so far and those ahead are all that are asked for
+abbrev pub invariant-loop-at : goal.invariant-loop-at
+invariant-loop-at l =
+    l.rows.items ++ flat_map (if_line l.query) (numbered trail_row (l.at + 1) (drop l.at (trail_in l.trail)))
+    ≡ flat_map (if_line l.query) (numbered trail_row (first_line l.query (length l.trail) + 1) (drop (first_line l.query (length l.trail)) (trail_in l.trail)))

@@ -1,0 +1,9 @@
+use Rattle.std.proofs.Common.{◌≡◌, ◌++◌}
+use Rattle.std.specs.List.{flat_map}
+use Rattle.state_store.specs.Listed.{announced_by}
+use Rattle.state_store.specs.Summed.{IsSummed}
+use Rattle.state_store.proofs.maps.state.MapState.announced_rows.Given as goal
+
+-- the rows so far and those ahead are all
+abbrev pub invariant-loop-key : goal.invariant-loop-key
+invariant-loop-key l = IsSummed l.self.book → l.rows.items ++ flat_map (announced_by l.self.book.moves.items) l.key-iterator ≡ flat_map (announced_by l.self.book.moves.items) l.self.declared.entries

@@ -1,0 +1,21 @@
+use Rattle.std.proofs.Common.{◌≡◌, [], Some}
+use Rattle.shipment_machine.specs.Cargo.{written}
+use Rattle.shipment_machine.specs.Flights.{same_flight_date}
+use Rattle.std.specs.Bool.{if◌then◌else◌}
+use Rattle.shipment_machine.specs.declared.flight.FlightDate.{FlightDate}
+use Rattle.shipment_machine.specs.declared.plans.Change.TheVariants.{NoteFlight}
+use Rattle.state_store.specs.FlightKey.{by_key}
+use Rattle.state_store.specs.Maps.{cargo_of, flights_in}
+use Rattle.state_store.specs.Shown.{state_of}
+use Rattle.state_store.specs.declared.flight_key.FlightKey.{FlightKey}
+use Rattle.state_store.proofs.Keyed.{put_in}
+use Rattle.state_store.proofs.Tied.{by_flight_keyed}
+use Rattle.state_store.proofs.Writing.{shows_more}
+use Rattle.state_store.proofs.maps.state.MapState.note_flight.Goals as goal
+
+pub returns : goal.returns
+returns c = λ s h.
+    let old = c.args.self.now in
+    let flight = c.args.flight.now in
+    let e : (q : FlightDate) → flights_in c.insert.new.self q ≡ (if same_flight_date q flight then Some c.args.outbound else flights_in old.flights q) = λ q. put_in by_key (λ (k : FlightKey). k.flight) same_flight_date by_flight_keyed old.flights.entries c.insert.new.self.entries c.of.result c.args.outbound flight q c.of.ensures c.in_ok-insert.ensures.entries in
+    shows_more old _ s (written [] (NoteFlight flight c.args.outbound)) h (λ i. record (state_of old) { cargo = record (cargo_of old) { flights = λ q. e q i } }) h.summed h.room

@@ -1,0 +1,25 @@
+use Rattle.std.proofs.Common.{◌≡◌, ◌∙◌, Some, ap, cond, option_map}
+use Rattle.std.specs.Bool.{if◌then◌else◌}
+use Rattle.std.specs.Map.{lookup}
+use Rattle.shipment_machine.specs.Cargo.{same_part, written}
+use Rattle.shipment_machine.specs.declared.moves.Part.{Part}
+use Rattle.shipment_machine.specs.declared.plans.Change.TheVariants.{NotePart}
+use Rattle.state_store.specs.Maps.{cargo_of, part_of, parts_in}
+use Rattle.state_store.specs.Shown.{state_of}
+use Rattle.state_store.proofs.Keyed.{put_in}
+use Rattle.state_store.proofs.KeptRows.{mapped}
+use Rattle.state_store.proofs.Writing.{by_part, by_part_keyed, shows_more}
+use Rattle.state_store.proofs.maps.state.MapState.note_part.Goals as goal
+
+pub returns : goal.returns
+returns c = λ s h.
+    let old = c.args.self.now in
+    let part = c.args.part.now in
+    let text = c.args.text.now in
+    let v = c.in_ok-text.text in
+    let is : part_of (c.of-flight.result, c.letters.result, c.number.result) ≡ part = λ i. record { flight = c.of-flight.ensures i; airport = c.letters.ensures.value i; number = c.number.ensures.value i } in
+    let e : (q : Part) → parts_in c.insert.new.self q ≡ (if same_part q part then Some text else parts_in old.parts q) = λ q.
+    ap (option_map (λ t. t.items)) (put_in by_part part_of same_part by_part_keyed old.parts.entries c.insert.new.self.entries (c.of-flight.result, c.letters.result, c.number.result) v part q is c.in_ok-insert.ensures.entries)
+    ∙ mapped (λ t. t.items) (same_part q part) v (lookup (λ k. same_part q (part_of k)) old.parts.entries)
+    ∙ ap (λ t. cond (same_part q part) (Some t) (parts_in old.parts q)) c.in_ok-text.ensures.items in
+    shows_more old _ s (written text (NotePart part)) h (λ i. record (state_of old) { cargo = record (cargo_of old) { parts = λ q. e q i } }) h.summed h.room

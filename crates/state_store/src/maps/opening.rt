@@ -1,0 +1,35 @@
+//! A new station in memory.
+ghost use Rattle.station_core.specs.Step.{opening};
+ghost use Rattle.state_store.specs.Store.{at_rest};
+
+use crate::maps::book::MovementBook;
+use crate::maps::state::MapState;
+use crate::maps::stock::MapStock;
+use crate::{ExpectedLines, StateStore};
+use imp_fields::Airport;
+use std::alloc::Global;
+use std::collections::{BTreeMap, HashMap};
+
+impl MapState {
+    /// Returns the state of a new station, outside a transaction.
+    pub fn new(alloc: Global, here: Airport) -> MapState
+        ensures shows { ⟦<MapState as StateStore>⟧.storing.shows result (at_rest (opening here)) }
+        ensures sound { ⟦<MapState as StateStore>⟧.storing.is_sound result }
+    {
+        MapState {
+            alloc,
+            here,
+            stock: MapStock::new(alloc),
+            declared: BTreeMap::new(alloc),
+            book: MovementBook::new(alloc),
+            flights: BTreeMap::new(alloc),
+            expected: ExpectedLines::new(alloc),
+            parts: BTreeMap::new(alloc),
+            trail: Vec::new(alloc),
+            outbox: Vec::new(alloc),
+            confirmed: 0,
+            kept_keys: HashMap::new(alloc),
+            kept_texts: HashMap::new(alloc),
+        }
+    }
+}

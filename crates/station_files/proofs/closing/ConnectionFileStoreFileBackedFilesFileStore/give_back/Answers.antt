@@ -1,0 +1,4 @@
+use Rattle.station_files.proofs.closing.ConnectionFileStoreFileBackedFilesFileStore.give_back.Goals as goal
+
+pub returns : goal.returns
+returns g c = record { quiet = c.into_store.ensures.quiet; sound = c.into_store.ensures.sound }

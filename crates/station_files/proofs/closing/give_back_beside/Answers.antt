@@ -1,6 +1,0 @@
-use Rattle.station_files.proofs.closing.give_back_beside.Goals as goal
-
-pub returns : goal.returns
-returns g c =
-    let r = c.file_inside.ensures in
-    record { numbers = r.numbers; few = r.few; low = r.low; clean = r.clean; outcomes = r.outcomes; sound = r.sound }

@@ -1,0 +1,9 @@
+use Rattle.std.proofs.Common.{refl}
+use Rattle.sqlite_store.specs.FileStore.{view}
+use Rattle.sqlite_store.specs.Laws.{stays_at}
+use Rattle.station_files.proofs.Ended.{own_leads_on}
+use Rattle.station_files.proofs.laws.own_files_lead_on.Goals as goal
+
+pub returns : goal.returns
+returns g c = λ objects conn end ended honest listed.
+    own_leads_on g.D.Disk _ (λ it is_open. ((view it.store).committed, stays_at it.store g.met.D.Disk.seen_may_stay is_open, refl)) objects conn listed end ended honest

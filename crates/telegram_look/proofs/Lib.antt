@@ -1,4 +1,0 @@
-pub mod Front
-pub mod LookLaws
-pub mod LowerLines
-pub mod Texts

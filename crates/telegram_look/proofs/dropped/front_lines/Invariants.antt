@@ -1,9 +1,0 @@
-use Rattle.std.proofs.Common.{◌≡◌, ◌++◌, length, map}
-use Rattle.telegram_look.specs.Look.{front_lines}
-use Rattle.telegram_look.proofs.dropped.front_lines.Given as goal
-
-abbrev pub invariant-loop-line : goal.invariant-loop-line
-invariant-loop-line l = map (λ line. line.now) l.front.items ++ front_lines l.rest ≡ front_lines l.bytes
-
-abbrev pub decreases-loop-line : goal.decreases-loop-line
-decreases-loop-line l = length l.rest

@@ -1,9 +1,0 @@
-use Rattle.std.proofs.Common.{◌∙◌, ◌++◌, codes}
-use Rattle.telegram_look.proofs.Texts.{joined, told}
-use Rattle.telegram_look.proofs.object.list_text.Goals as goal
-
-pub returns : goal.returns
-returns c =
-    told c.format.result _ _
-    (λ i. codes "[" ++ ((c.in_ok-joined.ensures.ok ∙ joined (codes ",") c.args.objects.now) i ++ codes "]"))
-    c.format.ensures.ok

@@ -1,7 +1,0 @@
-use Rattle.std.proofs.Common.{◌≡◌, take, string_bytes}
-use Rattle.std.specs.Prelude.{map, filter_map}
-use Rattle.telegram_look.specs.LookObject.{passed_object}
-use Rattle.telegram_look.proofs.object.passed_objects.Given as goal
-
-abbrev pub invariant-loop-line : goal.invariant-loop-line
-invariant-loop-line l = map string_bytes l.objects.items ≡ filter_map passed_object (take l.line-index l.lines)

@@ -1,7 +1,0 @@
-use Rattle.std.proofs.Common.{◌≡◌, take, string_bytes}
-use Rattle.std.specs.Prelude.{flat_map}
-use Rattle.telegram_look.specs.LookText.{line_text}
-use Rattle.telegram_look.proofs.text.line_texts.Given as goal
-
-abbrev pub invariant-loop-line : goal.invariant-loop-line
-invariant-loop-line l = string_bytes l.text ≡ flat_map line_text (take l.line-index l.lines)

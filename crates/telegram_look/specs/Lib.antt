@@ -1,4 +1,0 @@
-pub mod Doubt
-pub mod Look
-pub mod LookText
-pub mod LookObject
