@@ -54,6 +54,8 @@ use Rattle.table_state.specs.Recorded.{Recorded}
 use Rattle.table_state.specs.Put.{put_over, putting_waybill}
 use Rattle.table_state.specs.declared.counted.KnownCounts.{KnownCounts}
 use Rattle.table_state.specs.declared.open_lines.OpenLines.{OpenLines}
+use Rattle.table_state.specs.declared.flight_spans.FlightSpans.{FlightSpans}
+use Rattle.table_state.specs.Spans.{AreCovered}
 use Rattle.table_state.specs.Shown.{Knows, AreBoarded, HasOpen, HaveAsked, IsCounted, Tells, Shows}
 use Rattle.table_state.proofs.Lifting.{writes_on, reached}
 
@@ -92,11 +94,11 @@ module _ (old new : View) (here : List ℕ) (counted : KnownCounts) (confirmed :
 
   pub expects_on : (text name : List ℕ) (day awb : ℤ) (f : FlightDate) (w : ℕ) (e : Expected) (row_is : table.Expected) → name ≡ flight_text f.flight → day ≡ pos f.day → awb ≡ pos w → row_is ≡ expected_row e
       → IsTrue (is_designator f.flight) → IsTrue (is_expected_row (expected_key f w, expected_row e))
-      → (later : KnownCounts) → later.sizes ≡ counted.sizes → later.boarded ≡ counted.boarded → later.known ≡ counted.known → later.waybills ≡ counted.waybills
+      → (later : KnownCounts) → later.sizes ≡ counted.sizes → later.boarded ≡ counted.boarded → later.known ≡ counted.known → later.waybills ≡ counted.waybills → later.spans ≡ counted.spans
       → ((lines : Lines) → HasOpen counted.open_lines.kept lines → HasOpen later.open_lines.kept (with_line lines f w (Some e)))
       → (IsShowing old (row.inside old.committed old.now) → IsShowing new (row.inside old.committed (with_expected (name, (day, awb)) row_is old.now)))
       → Shows new here later confirmed (inside before (on_cargo (written text (Expect f w e)) s))
-  expects_on text name day awb f w e row_is is_name is_day is_awb is may fits later sizes_later same_boarded same_known same_waybills posts done =
+  expects_on text name day awb f w e row_is is_name is_day is_awb is may fits later sizes_later same_boarded same_known same_waybills same_spans posts done =
       writes_on old new here counted confirmed (with_expected (name, (day, awb)) row_is) later confirmed before s (on_cargo (written text (Expect f w e)) s) was survives done
       (λ _ means. expected_written old.now s means text name day awb f w e row_is is_name is_day is_awb is may fits)
       (λ k. record { here_is = k.here_is; sizes_are = sizes_later ∙ k.sizes_are; confirmed_is = k.confirmed_is })
@@ -105,6 +107,7 @@ module _ (old new : View) (here : List ℕ) (counted : KnownCounts) (confirmed :
         known = subst (λ o. AreKnown o (running s.cargo.book)) (sym same_known) kept.known;
         waybills = subst (λ o. HaveAsked o s.cargo.book) (sym same_waybills) kept.waybills;
         open_lines = posts s.cargo.expected kept.open_lines;
+        spans = subst (λ (o : FlightSpans). AreCovered o.kept s.cargo.book) (sym same_spans) kept.spans;
       })
 
   pub notes_part_on : (text name airport body : List ℕ) (day number : ℤ) (p : Part) → name ≡ flight_text p.flight.flight → day ≡ pos p.flight.day → airport ≡ p.airport → number ≡ pos p.number → body ≡ text
@@ -118,19 +121,20 @@ module _ (old new : View) (here : List ℕ) (counted : KnownCounts) (confirmed :
 
   -- a list that got one more
 
-  same_counted : (later : KnownCounts) (book : List Move) (lines : Lines) → later.boarded ≡ counted.boarded → later.known ≡ counted.known → later.waybills ≡ counted.waybills → later.open_lines ≡ counted.open_lines
+  same_counted : (later : KnownCounts) (book : List Move) (lines : Lines) → later.boarded ≡ counted.boarded → later.known ≡ counted.known → later.waybills ≡ counted.waybills → later.open_lines ≡ counted.open_lines → later.spans ≡ counted.spans
       → IsCounted counted book lines → IsCounted later book lines
-  same_counted later book lines same_boarded same_known same_waybills same_open kept = record {
+  same_counted later book lines same_boarded same_known same_waybills same_open same_spans kept = record {
     boarded = subst (λ o. AreBoarded o book) (sym same_boarded) kept.boarded;
     known = subst (λ o. AreKnown o (running book)) (sym same_known) kept.known;
     waybills = subst (λ o. HaveAsked o book) (sym same_waybills) kept.waybills;
     open_lines = subst (λ (o : OpenLines). HasOpen o.kept lines) (sym same_open) kept.open_lines;
+    spans = subst (λ (o : FlightSpans). AreCovered o.kept book) (sym same_spans) kept.spans;
   }
 
-  pub adds_line_on : (text : List ℕ) (n w : ℕ) (line : List ℕ) (row_is : table.TrailLine) → row_is ≡ line_row n w line → IsTrue (is_trail_row (line_row n w line)) → n ≡ counted.sizes.lines + 1 → (later : KnownCounts) → later.sizes ≡ record { moves = counted.sizes.moves; lines = n; messages = counted.sizes.messages } → later.boarded ≡ counted.boarded → later.known ≡ counted.known → later.waybills ≡ counted.waybills → later.open_lines ≡ counted.open_lines
+  pub adds_line_on : (text : List ℕ) (n w : ℕ) (line : List ℕ) (row_is : table.TrailLine) → row_is ≡ line_row n w line → IsTrue (is_trail_row (line_row n w line)) → n ≡ counted.sizes.lines + 1 → (later : KnownCounts) → later.sizes ≡ record { moves = counted.sizes.moves; lines = n; messages = counted.sizes.messages } → later.boarded ≡ counted.boarded → later.known ≡ counted.known → later.waybills ≡ counted.waybills → later.open_lines ≡ counted.open_lines → later.spans ≡ counted.spans
       → (IsShowing old (row.inside old.committed old.now) → IsShowing new (row.inside old.committed (with_trail_line row_is old.now)))
       → Shows new here later confirmed (inside before (on_cargo (written text (Trail w line)) s))
-  adds_line_on text n w line row_is is fits next later sizes_later same_boarded same_known same_waybills same_open done sound =
+  adds_line_on text n w line row_is is fits next later sizes_later same_boarded same_known same_waybills same_open same_spans done sound =
       let had : counted.sizes.lines ≡ length s.cargo.trail = ap (λ (z : Sizes). z.lines) (was (survives.sound sound)).knows.sizes_are in
       let one_more : n ≡ length s.cargo.trail + 1 = next ∙ ap (λ k. k + 1) had in
       writes_on old new here counted confirmed (with_trail_line row_is) later confirmed before s (on_cargo (written text (Trail w line)) s) was survives done
@@ -139,12 +143,12 @@ module _ (old new : View) (here : List ℕ) (counted : KnownCounts) (confirmed :
         here_is = k.here_is;
         sizes_are = sizes_later ∙ (λ i. record { moves = (k.sizes_are i).moves; lines = (one_more ∙ sym (length-append s.cargo.trail ((w, line) ∷ []))) i; messages = (k.sizes_are i).messages });
         confirmed_is = k.confirmed_is;
-      }) (λ kept. same_counted later s.cargo.book s.cargo.expected same_boarded same_known same_waybills same_open kept) sound
+      }) (λ kept. same_counted later s.cargo.book s.cargo.expected same_boarded same_known same_waybills same_open same_spans kept) sound
 
-  pub adds_message_on : (n : ℕ) (text : List ℕ) (row_is : table.Message) → row_is ≡ message_row n text → IsTrue (is_message_row (message_row n text)) → n ≡ counted.sizes.messages + 1 → (later : KnownCounts) → later.sizes ≡ record { moves = counted.sizes.moves; lines = counted.sizes.lines; messages = n } → later.boarded ≡ counted.boarded → later.known ≡ counted.known → later.waybills ≡ counted.waybills → later.open_lines ≡ counted.open_lines
+  pub adds_message_on : (n : ℕ) (text : List ℕ) (row_is : table.Message) → row_is ≡ message_row n text → IsTrue (is_message_row (message_row n text)) → n ≡ counted.sizes.messages + 1 → (later : KnownCounts) → later.sizes ≡ record { moves = counted.sizes.moves; lines = counted.sizes.lines; messages = n } → later.boarded ≡ counted.boarded → later.known ≡ counted.known → later.waybills ≡ counted.waybills → later.open_lines ≡ counted.open_lines → later.spans ≡ counted.spans
       → (IsShowing old (row.inside old.committed old.now) → IsShowing new (row.inside old.committed (with_message row_is old.now)))
       → Shows new here later confirmed (inside before (with_messages (text ∷ []) s))
-  adds_message_on n text row_is is fits next later sizes_later same_boarded same_known same_waybills same_open done sound =
+  adds_message_on n text row_is is fits next later sizes_later same_boarded same_known same_waybills same_open same_spans done sound =
       let had : counted.sizes.messages ≡ length s.cargo.outbox = ap (λ (z : Sizes). z.messages) (was (survives.sound sound)).knows.sizes_are in
       let one_more : n ≡ length s.cargo.outbox + 1 = next ∙ ap (λ k. k + 1) had in
       writes_on old new here counted confirmed (with_message row_is) later confirmed before s (with_messages (text ∷ []) s) was survives done
@@ -153,7 +157,7 @@ module _ (old new : View) (here : List ℕ) (counted : KnownCounts) (confirmed :
         here_is = k.here_is;
         sizes_are = sizes_later ∙ (λ i. record { moves = (k.sizes_are i).moves; lines = (k.sizes_are i).lines; messages = (one_more ∙ sym (length-append s.cargo.outbox (text ∷ []))) i });
         confirmed_is = k.confirmed_is;
-      }) (λ kept. same_counted later s.cargo.book s.cargo.expected same_boarded same_known same_waybills same_open kept) sound
+      }) (λ kept. same_counted later s.cargo.book s.cargo.expected same_boarded same_known same_waybills same_open same_spans kept) sound
 
   pub confirms_on : (text : List ℕ) (number : ℤ) (upto : ℕ) → number ≡ pos upto → IsTrue (is_count (pos upto))
       → (IsShowing old (row.inside old.committed old.now) → IsShowing new (row.inside old.committed (confirming number old.now)))
@@ -239,10 +243,11 @@ module _ (old new : View) (here : List ℕ) (counted : KnownCounts) (confirmed :
       → (were : ℤ) → ((book : List Move) → AreBoarded counted.boarded book → WereThere book m were → AreBoarded later.boarded (book ++ m ∷ []))
       → ((book : List Move) → AreKnown counted.known (running book) → AreKnown later.known (running (book ++ m ∷ [])))
       → ((book : List Move) → HaveAsked counted.waybills book → HaveAsked later.waybills (book ++ m ∷ [])) → later.open_lines ≡ counted.open_lines
+      → ((book : List Move) → n ≡ length book + 1 → AreCovered counted.spans.kept book → AreCovered later.spans.kept (book ++ m ∷ []))
       → (IsShowing old (row.inside old.committed old.now) → (book : List Move) → AreCounts old.now.counts book → AreBuilds old.now.builds book → AreKnown counted.known (running book) → new.IsSound → WereThere book m were)
       → (IsShowing old (row.inside old.committed old.now) → (book : List Move) → AreCounts old.now.counts book → AreBuilds old.now.builds book → AreKnown counted.known (running book) → Recorded new old.committed old.now n m (book ++ m ∷ []))
       → Shows new here later confirmed (inside before (with_moves (m ∷ []) s))
-  moves_on n m next later sizes_later were after knows asked same_open there done sound =
+  moves_on n m next later sizes_later were after knows asked same_open covered there done sound =
       let k = was (survives.sound sound) in
       let up = k.holds.inside refl in
       let h = k.holds.stands up in
@@ -264,6 +269,7 @@ module _ (old new : View) (here : List ℕ) (counted : KnownCounts) (confirmed :
         known = knows s.cargo.book kept.known;
         waybills = asked s.cargo.book kept.waybills;
         open_lines = subst (λ (o : OpenLines). HasOpen o.kept s.cargo.expected) (sym same_open) kept.open_lines;
+        spans = covered s.cargo.book one_more kept.spans;
       }) sound
 
 -- a mark of 32 bits

@@ -10,4 +10,5 @@ pub mod Changes
 pub mod Asked
 pub mod Balances
 pub mod Announced
+pub mod Spans
 mod File

@@ -15,6 +15,8 @@ use Rattle.state_store.specs.Store.{Changes, Reads, ReadsAtRest, Seen, Storing, 
 use Rattle.table_state.specs.declared.counted.KnownCounts.{KnownCounts}
 use Rattle.table_state.specs.declared.missed.Missed.{Missed}
 use Rattle.table_state.specs.declared.open_lines.OpenLines.{OpenLines}
+use Rattle.table_state.specs.declared.flight_spans.FlightSpans.{FlightSpans}
+use Rattle.table_state.specs.Spans.{AreCovered}
 use Rattle.table_state.specs.declared.state.TableState.{TableState}
 use Rattle.table_state.specs.Laws.{same_meaning}
 use Rattle.table_state.specs.Shown.{Stands, Knows, AreBoarded, HasOpen, HaveAsked, IsCounted, Shows, Finds, IfGivenBack, in_tables}
@@ -267,13 +269,14 @@ module _ {S A E : Type 0} (view : S → View) (old : TableState S) (store : S) w
   read_so missed (Err e) Is read value = failed (Err e) missed e Is read
 
   -- where more is known of sums, and nothing else
-  module _ (later : KnownCounts) (missed : Missed) (r : Result A E) (Is : State → A → Type 0) (sizes : later.sizes ≡ old.counted.sizes) (boarded : later.boarded ≡ old.counted.boarded) (waybills : later.waybills ≡ old.counted.waybills) (open_lines : later.open_lines ≡ old.counted.open_lines) where
+  module _ (later : KnownCounts) (missed : Missed) (r : Result A E) (Is : State → A → Type 0) (sizes : later.sizes ≡ old.counted.sizes) (boarded : later.boarded ≡ old.counted.boarded) (waybills : later.waybills ≡ old.counted.waybills) (open_lines : later.open_lines ≡ old.counted.open_lines) (spans : later.spans ≡ old.counted.spans) where
     counts_so : (s : State) → IsCounted old.counted s.cargo.book s.cargo.expected → AreKnown later.known (running s.cargo.book) → IsCounted later s.cargo.book s.cargo.expected
     counts_so s kept known = record {
       boarded = subst (λ o. AreBoarded o s.cargo.book) (sym boarded) kept.boarded;
       known = known;
       waybills = subst (λ o. HaveAsked o s.cargo.book) (sym waybills) kept.waybills;
       open_lines = subst (λ (o : OpenLines). HasOpen o.kept s.cargo.expected) (sym open_lines) kept.open_lines;
+      spans = subst (λ (o : FlightSpans). AreCovered o.kept s.cargo.book) (sym spans) kept.spans;
     }
 
     pub sums_by : {X F : Type 0} {found : X} {P : Tables → X → Type 0} → rows.Reads {E = F} (view old.store) (view store) (Ok found) P
@@ -292,12 +295,12 @@ module _ {S A E : Type 0} (view : S → View) (old : TableState S) (store : S) w
       survives = survives_so view old (after old store later missed) read.survives;
     }
 
-  pub sums_so : {P : Tables → A → Type 0} (later : KnownCounts) (missed : Missed) (r : Result A E) (Is : State → A → Type 0) → later.sizes ≡ old.counted.sizes → later.boarded ≡ old.counted.boarded → later.waybills ≡ old.counted.waybills → later.open_lines ≡ old.counted.open_lines
+  pub sums_so : {P : Tables → A → Type 0} (later : KnownCounts) (missed : Missed) (r : Result A E) (Is : State → A → Type 0) → later.sizes ≡ old.counted.sizes → later.boarded ≡ old.counted.boarded → later.waybills ≡ old.counted.waybills → later.open_lines ≡ old.counted.open_lines → later.spans ≡ old.counted.spans
       → rows.Reads (view old.store) (view store) r P → OnErr r (later.known ≡ old.counted.known)
       → ((s : State) → Means (view old.store).now (Some s) → (a : A) → P (view old.store).now a → Is s a × (AreKnown old.counted.known (running s.cargo.book) → AreKnown later.known (running s.cargo.book)))
       → Reads (in_tables view) old (after old store later missed) r Is
-  sums_so later missed (Ok a) Is sizes boarded waybills open_lines read is value = sums_by later missed (Ok a) Is sizes boarded waybills open_lines read (λ s means. value s means a)
-  sums_so later missed (Err e) Is sizes boarded waybills open_lines read is value = sums_failed later missed (Err e) Is sizes boarded waybills open_lines e read is
+  sums_so later missed (Ok a) Is sizes boarded waybills open_lines spans read is value = sums_by later missed (Ok a) Is sizes boarded waybills open_lines spans read (λ s means. value s means a)
+  sums_so later missed (Err e) Is sizes boarded waybills open_lines spans read is value = sums_failed later missed (Err e) Is sizes boarded waybills open_lines spans e read is
 
 pub at_rest_of : {K A E : Type 0} {k : Storing K} {old new : K} {r : Result A E} {Is : State → A → Type 0} → Reads k old new r Is → ReadsAtRest k old new r Is
 at_rest_of read = record { value = λ s. read.value (at_rest s); rests = read.rests; survives = read.survives }

@@ -5,3 +5,4 @@ pub mod Laws
 pub mod Put
 pub mod Recorded
 pub mod Shown
+pub mod Spans

@@ -26,6 +26,7 @@ use Rattle.table_state.specs.declared.counted.Boardings.{Boardings}
 use Rattle.table_state.specs.declared.counted.KnownCounts.{KnownCounts}
 use Rattle.table_state.specs.declared.state.TableState.{TableState}
 use Rattle.table_state.specs.declared.waybill_sets.WaybillSets.{WaybillSets}
+use Rattle.table_state.specs.Spans.{AreCovered}
 
 -- the tables mean what is shown; between two transactions they are those of the last commit
 pub record Stands (v : View) (x : Seen) : Type 0 where
@@ -85,6 +86,7 @@ pub record IsCounted (counted : KnownCounts) (book : List Move) (lines : Lines) 
   pub known : AreKnown counted.known (running book)
   pub waybills : HaveAsked counted.waybills book
   pub open_lines : HasOpen counted.open_lines.kept lines
+  pub spans : AreCovered counted.spans.kept book
 
 pub record Tells (v : View) (here : List ℕ) (counted : KnownCounts) (confirmed : ℕ) (x : Seen) : Type 0 where
   pub holds : Holds v x

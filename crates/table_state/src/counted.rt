@@ -2,6 +2,7 @@
 ghost use Rattle.std.specs.Prelude.{◌≤◌};
 ghost use Rattle.station_core.specs.Step.{most_rows};
 
+use crate::flight_spans::FlightSpans;
 use crate::open_lines::OpenLines;
 use crate::waybill_sets::WaybillSets;
 use running_totals::KnownSums;
@@ -27,7 +28,8 @@ pub(crate) struct Boardings {
 }
 
 /// The numbers of numbered rows, which are always known; and as far as they are known: the numbers
-/// of waybills on flights, the listed waybills, the open lines of flights, and sums.
+/// of waybills on flights, the listed waybills, the open lines of flights, the spans of flights in
+/// the book, and sums.
 #[derive(Drop)]
 pub(crate) struct KnownCounts {
     pub(crate) sizes: Sizes,
@@ -35,6 +37,7 @@ pub(crate) struct KnownCounts {
     pub(crate) known: KnownSums,
     pub(crate) waybills: WaybillSets,
     pub(crate) open_lines: OpenLines,
+    pub(crate) spans: FlightSpans,
     ghost fit: { (sizes.moves ≤ most_rows) × (sizes.lines ≤ most_rows)
         × (sizes.messages ≤ most_rows) },
 }

@@ -6,6 +6,8 @@ mod boarding;
 mod changing;
 mod counted;
 mod expecting;
+mod flight_spans;
+mod flown;
 mod handing;
 mod listing;
 mod missed;

@@ -10,6 +10,7 @@ ghost use Rattle.table_state.specs.Laws.{finds_what_it_shows, all_numbered};
 ghost use Rattle.table_state.specs.Shown.{HasThese, Knows, in_tables};
 
 use crate::counted::{Boarded, Boardings, KnownCounts};
+use crate::flight_spans::FlightSpans;
 use crate::handing::{Telling, ended};
 use crate::missed::Missed;
 use crate::noted::flights_noted;
@@ -21,7 +22,7 @@ use awb_number::Awb;
 use imp_fields::Airport;
 use row_codec::{
     awb_key, count_of, day_number, expected_by, flight_text, kept_by, line_query, message_row,
-    move_query, outbound_by, waybill_by,
+    outbound_by, waybill_by,
 };
 use running_totals::KnownSums;
 use shipment_machine::{
@@ -34,7 +35,7 @@ use station_core::{
 };
 use station_rows::{
     AllFlights, ExpectedOn, FlightOn, InsertKept, InsertKeptText, InsertMessage, KeptTextCount,
-    KeptUnder, LinesFor, MessagesAfter, MovesFor, MovesOf, PartBody, TableStore, WaybillOf,
+    KeptUnder, LinesFor, MessagesAfter, MovesOf, PartBody, TableStore, WaybillOf,
 };
 use std::alloc::Global;
 
@@ -79,6 +80,7 @@ impl<S: TableStore> TableState<S> {
                 known: KnownSums::none(),
                 waybills: WaybillSets::none(),
                 open_lines: OpenLines::none(),
+                spans: FlightSpans::none(),
             },
             confirmed,
             missed: Missed::new(alloc),
@@ -264,6 +266,7 @@ impl<S: TableStore> StateStore for TableState<S> {
         self.counted.sizes.moves = number;
         self.counted.boarded.post(movement, were);
         self.counted.waybills.post(movement);
+        self.counted.spans.post(movement, number);
         Ok(())
     }
 
@@ -351,12 +354,10 @@ impl<S: TableStore> StateStore for TableState<S> {
         query: &BookQuery,
         sink: &mut K,
     ) -> Result<(), StoreFault> {
-        let asked = move_query(self.alloc, *query, self.counted.sizes.moves)?;
-        let mut telling = Telling::new(sink);
-        let read = self
-            .store
-            .hand_out(MovesFor { query: &asked }, &mut telling);
-        ended(read, telling.is_stuck())
+        match query {
+            BookQuery::On(flight) => self.hand_flight(flight, sink),
+            _ => self.hand_book(query, sink),
+        }
     }
 
     fn messages_by<K: Sink<Message>>(

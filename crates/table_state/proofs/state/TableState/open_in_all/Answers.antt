@@ -15,6 +15,7 @@ returns g c = record {
         boarded = (now sound).kept.boarded;
         known = (now sound).kept.known;
         waybills = (now sound).kept.waybills;
+        spans = (now sound).kept.spans;
         open_lines = c.of.ensures s.cargo.expected (subst (AreExpectations (expected_for Open s.cargo.expected)) (sym c.deref-2.ensures.value)
             (c.in_ok-open.ensures s.cargo.expected (subst (AreExpectations s.cargo.expected) (sym c.deref.ensures.value) (c.in_ok-all.ensures.value s shown sound))));
       });

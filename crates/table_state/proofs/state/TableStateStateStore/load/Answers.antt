@@ -4,4 +4,4 @@ use Rattle.table_state.proofs.Values.{by_builds}
 use Rattle.table_state.proofs.state.TableStateStateStore.load.Goals as goal
 
 pub returns : goal.returns
-returns g c = sums_so g.S.TableStore.view c.args.self.now _ _ _ _ _ refl refl refl refl c.load.ensures.reads c.load.ensures.known_at_err (λ s means load. by_builds _ s means _)
+returns g c = sums_so g.S.TableStore.view c.args.self.now _ _ _ _ _ refl refl refl refl refl c.load.ensures.reads c.load.ensures.known_at_err (λ s means load. by_builds _ s means _)

@@ -17,6 +17,7 @@ returns g c = record {
         waybills = c.keep.ensures s.cargo.book (now sound).kept.waybills (λ w has.
             c.in_ok-kept.ensures w (ap (λ rows. is_in w (map (λ (row : WaybillBalances). row.awb) rows)) (c.deref.ensures.value ∙ c.in_ok-rows.ensures.value s shown sound) ∙ all_listed c.args.query s.cargo.book w has));
         open_lines = (now sound).kept.open_lines;
+        spans = (now sound).kept.spans;
       });
   survives = record { clean = c.in_ok-rows.ensures.survives.clean; still = c.in_ok-rows.ensures.survives.still; sound = c.in_ok-rows.ensures.survives.sound; leaves = c.in_ok-rows.ensures.survives.leaves };
 }

@@ -11,5 +11,5 @@ returns-in-Some g c = unread (in_tables g.S.TableStore.view) c.args.self.now _ (
 pub returns : goal.returns
 returns g c =
     counted_by g.S.TableStore.view c.args.self.now _ _ _ _ _ refl c.in_ok-waybills.ensures
-    (λ s means tells kept. record { boarded = c.keep.ensures s.cargo.book kept.boarded (by_builds _ s means _ tells); known = kept.known; waybills = kept.waybills; open_lines = kept.open_lines })
+    (λ s means tells kept. record { boarded = c.keep.ensures s.cargo.book kept.boarded (by_builds _ s means _ tells); known = kept.known; waybills = kept.waybills; open_lines = kept.open_lines; spans = kept.spans })
     (λ s means. by_builds _ s means _)

@@ -9,7 +9,7 @@ use Rattle.station_rows.specs.Meant.{move_meant, moves_for}
 use Rattle.table_state.specs.Handing.{Tells}
 use Rattle.table_state.proofs.Lifting.{rests_on, survives_so}
 use Rattle.table_state.proofs.Passing.{given_on, some_told}
-use Rattle.table_state.proofs.state.TableStateStateStore.book_by.Goals as goal
+use Rattle.table_state.proofs.state.TableState.hand_book.Goals as goal
 
 pub returns : goal.returns
 returns g c =
