@@ -1,12 +1,13 @@
 -- The rows of a flight are its loads.
 use Rattle.std.proofs.Common.{◌≡◌, ℕ, suc, ◌<◌, ◌-◌, ℤ, pos, negsuc, ◌-ℤ◌, int_lt, nat_lt, ◌==◌, Bool, true, false, cond, ◌&&◌, ◌||◌, List, [], ◌∷◌, length, map, Some, None, option_map, refl, sym, ap, ap₂, subst, ◌∙◌, true≢false, arith, int_cmp, int_eq, Less}
-use Rattle.std.specs.List.{filter, list_any, AllByRecursion}
+use Rattle.std.specs.List.{All, filter, list_any, AllByRecursion}
 use Rattle.std.specs.Ordering.{eq_by_cmp, ordering_then}
 use Rattle.std.specs.Cmp.{tied_itself, int_cmp_total}
 use Rattle.std.specs.FinMap.{FinMap, entries, get, get-entries}
 use Rattle.std.specs.FinMap as map_of
 use Rattle.std.proofs.lemmas.Int.{ints}
 use Rattle.std.proofs.lemmas.List.{length-map}
+use Rattle.std.proofs.lemmas.List.Elements.{All-cons, All-nil}
 use Rattle.std.proofs.lemmas.Bool.Decides.{nat_tests}
 use Rattle.sqlite.specs.Tree.{IsAscending}
 use Rattle.sqlite_keyed.proofs.ListLemmas.{all_both, all_weaker}
@@ -264,10 +265,22 @@ module _ (builds : FinMap build_cmp Build) (book : List Move) (f : FlightDate) (
       let first : l ≡ load_on book f l.awb = λ i. record { awb = l.awb; amount = amount i } in
       ap₂ ◌∷◌ first (amounts loads all.1)
 
+  all_said : (loads : List Load) → map load_said loads ≡ said → AllByRecursion (IsBuilt book f) (map load_said loads)
+  all_said loads are_said =
+      subst (AllByRecursion (IsBuilt book f)) (sym are_said)
+      (filtered (IsBuilt book f) is_loaded (rows_of f builds)
+      (all_weaker (IsBuilt book f) (λ (s : ℤ × Running). is_loaded s ≡ true → (w : ℕ) → s.0 ≡ pos w → s.1 ≡ running book w (Built f)) (λ s is loaded. is)
+      (rows_of f builds) all_true))
+
   pub loads_are : (loads : List Load) → map load_said loads ≡ said → loads ≡ loads_on book f
   loads_are loads are_said =
-      let all = filtered (IsBuilt book f) is_loaded (rows_of f builds)
-      (all_weaker (IsBuilt book f) (λ (s : ℤ × Running). is_loaded s ≡ true → (w : ℕ) → s.0 ≡ pos w → s.1 ≡ running book w (Built f)) (λ s is loaded. is)
-      (rows_of f builds) all_true) in
       let same : map (λ (l : Load). l.awb) loads ≡ waybills_on book f = sym (map-map number_in load_said loads) ∙ ap (map number_in) are_said ∙ numbers_are in
-      amounts loads (subst (AllByRecursion (IsBuilt book f)) (sym are_said) all) ∙ ap (map (load_on book f)) same
+      amounts loads (all_said loads are_said) ∙ ap (map (load_on book f)) same
+
+  each_sum : (loads : List Load) → AllByRecursion (IsBuilt book f) (map load_said loads) → All (λ (l : Load). (load_said l).1 ≡ running book l.awb (Built f)) loads
+  each_sum [] all = All-nil _
+  each_sum (l ∷ loads) all = All-cons (λ (l : Load). (load_said l).1 ≡ running book l.awb (Built f)) l loads (all.0 l.awb refl) (each_sum loads all.1)
+
+  -- each load is the sum of its waybill
+  pub loads_sums : (loads : List Load) → map load_said loads ≡ said → All (λ (l : Load). (load_said l).1 ≡ running book l.awb (Built f)) loads
+  loads_sums loads are_said = each_sum loads (all_said loads are_said)

@@ -1,6 +1,7 @@
 -- What is known of sums after an amount more.
-use Rattle.std.proofs.Common.{◌≡◌, ℕ, ◌==◌, Bool, true, false, ◌&&◌, cond, Some, arith, refl, sym, ap, subst, ◌∙◌, true≢false}
+use Rattle.std.proofs.Common.{◌≡◌, ℕ, ◌==◌, Bool, true, false, ◌&&◌, cond, Some, None, nat_cmp, arith, refl, sym, ap, ap₂, subst, ◌∙◌, true≢false}
 use Rattle.std.specs.Prelude.{IfSome}
+use Rattle.std.specs.BTreeMap.{Updates, get, is_at}
 use Rattle.std.proofs.lemmas.Bool.Decides.{nat_tests}
 use Rattle.shipment_machine.specs.Places.{same_place}
 use Rattle.shipment_machine.specs.declared.moves.Place.{Place}
@@ -8,10 +9,12 @@ use Rattle.shipment_machine.specs.declared.moves.Place.TheVariants.{Hand, Surplu
 use Rattle.row_codec.specs.Counts.{Running}
 use Rattle.running_totals.specs.Sums.{Sums, plus, posting, is_built}
 use Rattle.running_totals.specs.Stored.{meant}
-use Rattle.running_totals.specs.Known.{sum_at, with_sum, AreSumsOf}
+use Rattle.running_totals.specs.Known.{sum_at, with_sum, sum_on, AreSumsOf, AreSumsOn}
 use Rattle.running_totals.specs.declared.tally.Tally.{Tally}
+use Rattle.running_totals.specs.declared.known.LoadSums.{LoadSums}
 use Rattle.running_totals.specs.declared.known.PlaceSums.{PlaceSums}
-use Rattle.running_totals.proofs.Tests.{and_no}
+use Rattle.station_schema.proofs.OneRow.{first_true, second_true}
+use Rattle.running_totals.proofs.Tests.{and_no, is_nat}
 use Rattle.running_totals.proofs.Codes.{same_is}
 
 -- one place has another sum, and the others what they had
@@ -108,3 +111,52 @@ module _ (kept : PlaceSums) (sums : Sums) (w : ℕ) (q : Place) (by : Running) (
           is ∙ ap (λ r. plus r by) (had ∙ ap (sums w) (sym (same_is p q e)))
           ∙ ap (λ b. cond (b && true) (plus (sums w p) by) (sums w p)) (sym (itself w))
       go false e = subst (λ b. IfSome (sum_at kept p) (λ t. meant t ≡ cond b (plus (sums w p) by) (sums w p))) (sym (and_no (w == w))) (are p)
+
+another : (a w : ℕ) → is_at (nat_cmp a) w ≡ false → (a == w) ≡ false
+another a w h = grind (arith, nat_tests, h)
+
+one : (a w : ℕ) → is_at (nat_cmp a) w ≡ true → a ≡ w
+one a w h = grind (arith, h)
+
+module _ (kept more : LoadSums) (a : ℕ) (sum : Tally) (flight : more.flight ≡ kept.flight) (updates : Updates nat_cmp kept.sums more.sums a (Some sum)) where
+  -- the sum of a waybill is right, and those of the others are
+  with_others : (sums : Sums) → ((w : ℕ) (p : Place) → is_at (nat_cmp a) w ≡ false → IfSome (sum_on kept w p) (λ t. meant t ≡ sums w p)) → meant sum ≡ sums a (Built kept.flight) → AreSumsOn more sums
+  with_others sums others is w p = on (same_place (Built more.flight) p) refl
+    where
+      on : (b : Bool) → same_place (Built more.flight) p ≡ b → IfSome (cond b (get nat_cmp more.sums w) None) (λ t. meant t ≡ sums w p)
+      on false e = tt
+      on true e = subst (λ o. IfSome o (λ t. meant t ≡ sums w p)) (sym (updates.0 w)) (at (is_at (nat_cmp a) w) refl)
+        where
+          here : Built kept.flight ≡ p
+          here = ap Built (sym flight) ∙ same_is (Built more.flight) p e
+
+          at : (b : Bool) → is_at (nat_cmp a) w ≡ b → IfSome (cond b (Some sum) (get nat_cmp kept.sums w)) (λ t. meant t ≡ sums w p)
+          at true i = is ∙ ap₂ sums (one a w i) here
+          at false i = subst (λ b. IfSome (cond b (get nat_cmp kept.sums w) None) (λ t. meant t ≡ sums w p)) (ap (λ f. same_place (Built f) p) (sym flight) ∙ e) (others w p i)
+
+  pub sum_more : (sums : Sums) → AreSumsOn kept sums → meant sum ≡ sums a (Built kept.flight) → AreSumsOn more sums
+  sum_more sums are = with_others sums (λ w p i. are w p)
+
+  -- an amount that comes to a waybill whose sum is kept
+  pub more_posted : (sums : Sums) (q : Place) (by : Running) (was : Tally) → AreSumsOn kept sums → sum_on kept a q ≡ Some was → meant sum ≡ plus (meant was) by → AreSumsOn more (posting a q by sums)
+  more_posted sums q by was are has is = with_others (posting a q by sums)
+      (λ w p i. subst (λ b. IfSome (sum_on kept w p) (λ t. meant t ≡ cond (b && same_place p q) (plus (sums w p) by) (sums w p))) (sym (another a w i)) (are w p))
+      (go (same_place (Built kept.flight) q) refl has)
+    where
+      had : meant was ≡ sums a q
+      had = subst (λ o. IfSome o (λ t. meant t ≡ sums a q)) has (are a q)
+
+      go : (b : Bool) → same_place (Built kept.flight) q ≡ b → cond b (get nat_cmp kept.sums a) None ≡ Some was → meant sum ≡ cond ((a == a) && b) (plus (sums a (Built kept.flight)) by) (sums a (Built kept.flight))
+      go true e some =
+          is ∙ ap (λ r. plus r by) (had ∙ ap (sums a) (sym (same_is (Built kept.flight) q e)))
+          ∙ ap (λ b. cond (b && true) (plus (sums a (Built kept.flight)) by) (sums a (Built kept.flight))) (sym (itself a))
+      go false e some = absurd (cc)
+
+-- an amount that comes to where no sum is kept
+pub none_posted : (kept : LoadSums) (sums : Sums) (a : ℕ) (q : Place) (by : Running) → AreSumsOn kept sums → sum_on kept a q ≡ None → AreSumsOn kept (posting a q by sums)
+none_posted kept sums a q by are none w p = go ((a == w) && same_place p q) refl
+  where
+    go : (b : Bool) → ((a == w) && same_place p q) ≡ b → IfSome (sum_on kept w p) (λ t. meant t ≡ cond b (plus (sums w p) by) (sums w p))
+    go false e = are w p
+    go true e = subst (λ o. IfSome o (λ t. meant t ≡ plus (sums w p) by))
+        (sym none ∙ ap₂ (sum_on kept) (is_nat a w (first_true (a == w) (same_place p q) e)) (sym (same_is p q (second_true (a == w) (same_place p q) e)))) tt

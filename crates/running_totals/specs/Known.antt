@@ -1,12 +1,16 @@
 -- Sums that are kept in memory beside the rows.
-use Rattle.std.specs.Prelude.{◌≡◌, Option, Some, None, IfSome}
+use Rattle.std.specs.Prelude.{◌≡◌, ℕ, if◌then◌else◌, Option, Some, None, IfSome}
+use Rattle.std.specs.BTreeMap.{get}
 use Rattle.std.specs.Option.{option_map}
+use Rattle.std.specs.Ordering.{nat_cmp}
+use Rattle.shipment_machine.specs.Places.{same_place}
 use Rattle.shipment_machine.specs.declared.moves.Place.{Place}
 use Rattle.shipment_machine.specs.declared.moves.Place.TheVariants.{Hand, Surplus, Free, Built, Departed, Delivered, Missing, Transferred}
 use Rattle.row_codec.specs.Counts.{Running, unless_nothing}
 use Rattle.running_totals.specs.Stored.{meant}
 use Rattle.running_totals.specs.Sums.{Sums}
 use Rattle.running_totals.specs.declared.tally.Tally.{Tally}
+use Rattle.running_totals.specs.declared.known.LoadSums.{LoadSums}
 use Rattle.running_totals.specs.declared.known.PlaceSums.{PlaceSums}
 use Rattle.running_totals.specs.declared.known.KnownSums.{KnownSums}
 
@@ -36,10 +40,18 @@ with_sum kept Transferred sum = record kept { transferred = sum }
 abbrev pub AreSumsOf : PlaceSums → (Place → Running) → Type 0
 AreSumsOf kept sums = (place : Place) → IfSome (sum_at kept place) (λ sum. meant sum ≡ sums place)
 
+-- what is kept of a waybill at a place, if that is on the flight
+abbrev pub sum_on : LoadSums → ℕ → Place → Option Tally
+sum_on kept w place = if same_place (Built kept.flight) place then get nat_cmp kept.sums w else None
+
+-- what is kept are sums on a flight
+abbrev pub AreSumsOn : LoadSums → Sums → Type 0
+AreSumsOn kept sums = (w : ℕ) (place : Place) → IfSome (sum_on kept w place) (λ sum. meant sum ≡ sums w place)
+
 -- all that is kept is true of these sums
 pub record AreKnown (known : KnownSums) (sums : Sums) : Type 0 where
   pub counts : IfSome known.counts (λ c. AreSumsOf c.sums (sums c.awb))
-  pub build : IfSome known.build (λ b. meant b.sum ≡ sums b.awb (Built b.flight))
+  pub builds : IfSome known.builds (λ b. AreSumsOn b sums)
 
 -- a sum is what stands in a row, or nothing where there is none
 abbrev pub IsRowOf : {V : Type 0} → (V → Running) → Option V → Tally → Type 0

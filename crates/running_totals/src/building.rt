@@ -1,6 +1,7 @@
 ghost use Rattle.std.specs.Prelude.{◌≡◌, List, Option, option_map, IfOk, IfSome, OnErr, OnOk};
 ghost use Rattle.std.specs.FinMap.{get};
 ghost use Rattle.shipment_machine.specs.Book.{built};
+ghost use Rattle.shipment_machine.specs.declared.moves.Place.TheVariants.{Built};
 ghost use Rattle.station_schema.specs.Store.{Seen, Survives, IsShowing, inside};
 ghost use Rattle.station_schema.specs.Tables.{Tables};
 ghost use Rattle.station_rows.specs.Meant.{build_meant};
@@ -10,7 +11,7 @@ ghost use Rattle.running_totals.specs.Known.{AreKnown, IsRowOf};
 ghost use Rattle.running_totals.specs.Stored.{meant, pieces_found, storing_build, posting_build};
 
 use crate::fields::{number_of, whole, written};
-use crate::known::{BuildSum, KnownSums};
+use crate::known::{KnownSums, LoadSums};
 use crate::tally::{Tally, build_tally, pieces_found};
 use awb_number::Awb;
 use shipment_machine::{Amount, FlightDate, Move};
@@ -132,6 +133,29 @@ pub(crate) fn post_build<S: TableStore>(
     Ok(pieces_found(found))
 }
 
+/// Reads the sum of a waybill on a flight.
+fn sum_on<S: TableStore>(
+    alloc: Global,
+    store: &mut S,
+    awb: &Awb,
+    flight: &FlightDate,
+) -> Result<Tally, StoreFault>
+    ensures { Reads (S.view store.old) (S.view store.new) result
+        (λ tables sum. (book : List Move) → AreBuilds tables.builds book
+        → meant sum ≡ running book awb.now (Built flight.now)) }
+{
+    let text = written(alloc, &flight.flight)?;
+    let day = whole(flight.day.number());
+    let number = number_of(awb);
+    match at_flight(store, text.as_str(), day, number)? {
+        Some(sum) => Ok(sum),
+        None => Ok(Tally {
+            pieces: 0,
+            tenths: 0,
+        }),
+    }
+}
+
 /// Reads the amount of a waybill on a flight, inside a transaction or outside; from then on it is
 /// known. A fault: the database call failed, memory ran out, or an amount is out of range. A fault
 /// outside changes nothing while the store is open.
@@ -148,32 +172,8 @@ pub fn load<S: TableStore>(
         × (AreKnown known.old (running book) → AreKnown known.new (running book))) }
     ensures known_at_err { OnErr result (known.new ≡ known.old) }
 {
-    let text = written(alloc, &flight.flight)?;
-    let day = whole(flight.day.number());
-    let number = number_of(awb);
-    match at_flight(store, text.as_str(), day, number)? {
-        Some(sum) => {
-            let load = sum.amount()?;
-            known.build = Some(BuildSum {
-                awb: *awb,
-                flight: *flight,
-                sum,
-            });
-            Ok(load)
-        }
-        None => {
-            known.build = Some(BuildSum {
-                awb: *awb,
-                flight: *flight,
-                sum: Tally {
-                    pieces: 0,
-                    tenths: 0,
-                },
-            });
-            Ok(Amount {
-                pieces: 0,
-                tenths: 0,
-            })
-        }
-    }
+    let sum = sum_on(alloc, store, awb, flight)?;
+    let load = sum.amount()?;
+    known.builds = LoadSums::new(alloc, flight).with(awb, sum);
+    Ok(load)
 }

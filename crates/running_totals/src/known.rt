@@ -1,15 +1,18 @@
 //! Sums of waybills that are known, since they were read or written a moment before.
-ghost use Rattle.std.specs.Prelude.{◌≡◌, ◌==◌, ◌&&◌, ℕ, IfSome, IfOk};
-ghost use Rattle.shipment_machine.specs.Places.{same_place};
+ghost use Rattle.std.specs.Prelude.{◌≡◌, ℕ, Some, IfSome, IfOk};
+ghost use Rattle.std.specs.BTreeMap.{Updates};
+ghost use Rattle.std.specs.Ordering.{nat_cmp};
 ghost use Rattle.shipment_machine.specs.declared.moves.Place.TheVariants.{Built};
 ghost use Rattle.row_codec.specs.Counts.{unless_nothing};
-ghost use Rattle.running_totals.specs.Known.{AreKnown, AreSumsOf, sum_at, with_sum};
+ghost use Rattle.running_totals.specs.Known.{AreKnown, AreSumsOf, AreSumsOn, sum_at, sum_on, with_sum};
 ghost use Rattle.running_totals.specs.Stored.{meant};
 ghost use Rattle.running_totals.specs.Sums.{Sums, posting};
 
 use crate::tally::Tally;
 use awb_number::Awb;
 use shipment_machine::{FlightDate, Place};
+use std::alloc::Global;
+use std::collections::BTreeMap;
 
 /// The balance of a waybill at each place but the built ones: what came, less what left.
 #[derive(Clone, Copy)]
@@ -93,30 +96,70 @@ pub(crate) struct CountSums {
     pub(crate) sums: PlaceSums,
 }
 
-/// The sum of a waybill on a flight.
-#[derive(Clone, Copy)]
-pub(crate) struct BuildSum {
-    pub(crate) awb: Awb,
+/// The sums of waybills on a flight, by the waybill's number.
+#[derive(Drop)]
+pub(crate) struct LoadSums {
     pub(crate) flight: FlightDate,
-    pub(crate) sum: Tally,
+    pub(crate) sums: BTreeMap<u64, Tally>,
 }
 
-impl BuildSum {
-    /// Returns whether it is the sum of a waybill at a place.
-    fn is_at(&self, awb: &Awb, place: &Place) -> bool
-        ensures { result ≡ ((awb.now == self.now.awb) &&
-            same_place (Built self.now.flight) place.now) }
+impl LoadSums {
+    /// Starts without sums.
+    pub(crate) fn new(alloc: Global, flight: &FlightDate) -> LoadSums
+        ensures known { (sums : Sums) → AreSumsOn result sums }
+        ensures flight { result.flight ≡ flight.now }
     {
-        *awb == self.awb && Place::Built(self.flight).is_same(place)
+        LoadSums {
+            flight: *flight,
+            sums: BTreeMap::new(alloc),
+        }
+    }
+
+    /// Returns the sum of a waybill at a place, if it is known.
+    fn at(&self, awb: &Awb, place: &Place) -> Option<Tally>
+        ensures { result ≡ sum_on self.now awb.now place.now }
+    {
+        if Place::Built(self.flight).is_same(place) {
+            self.sums.get(&awb.key()).copied()
+        } else {
+            None
+        }
+    }
+
+    /// Returns these sums with that of a waybill, or `None` if memory ran out.
+    pub(crate) fn with(self, awb: &Awb, sum: Tally) -> Option<LoadSums>
+        ensures { IfSome result (λ more. (more.flight ≡ self.flight)
+            × Updates nat_cmp self.sums more.sums awb.now (Some sum)) }
+    {
+        let LoadSums { flight, mut sums } = self;
+        match sums.insert(awb.key(), sum) {
+            Ok(_) => Some(LoadSums { flight, sums }),
+            Err(_) => None,
+        }
+    }
+
+    /// Returns these sums with an amount more at a place, or `None` if the sum is out of range or
+    /// memory ran out.
+    fn posted(self, awb: &Awb, place: &Place, by: Tally) -> Option<LoadSums>
+        ensures { (sums : Sums) → AreSumsOn self sums
+            → IfSome result (λ after. AreSumsOn after (posting awb.now place.now (meant by) sums)) }
+    {
+        let Some(sum) = self.at(awb, place) else {
+            return Some(self);
+        };
+        match sum.plus(by) {
+            Ok(sum) => self.with(awb, sum),
+            Err(_) => None,
+        }
     }
 }
 
-/// The sums that were read last: of a waybill at all places but the built ones, and of one on a
-/// flight. What is written after them is told, so that it needn't be read again.
-#[derive(Clone, Copy)]
+/// The sums that were read last: of a waybill at all places but the built ones, and of waybills on
+/// one flight. What is written after them is told, so that it needn't be read again.
+#[derive(Drop)]
 pub struct KnownSums {
     pub(crate) counts: Option<CountSums>,
-    pub(crate) build: Option<BuildSum>,
+    pub(crate) builds: Option<LoadSums>,
 }
 
 /// The sums of places after an amount more of a waybill at one, as far as they are known.
@@ -135,20 +178,12 @@ fn counts_after(counts: Option<CountSums>, awb: &Awb, place: &Place, by: Tally) 
     })
 }
 
-/// The sum on a flight after an amount more of a waybill at a place, if it is known.
-fn build_after(build: Option<BuildSum>, awb: &Awb, place: &Place, by: Tally) -> Option<BuildSum>
-    ensures { (sums : Sums) → IfSome build (λ b. meant b.sum ≡ sums b.awb (Built b.flight))
-        → IfSome result (λ b. meant b.sum
-        ≡ posting awb.now place.now (meant by) sums b.awb (Built b.flight)) }
+/// Returns the sums on a flight after an amount more of a waybill at a place, if they are known.
+fn builds_after(builds: Option<LoadSums>, awb: &Awb, place: &Place, by: Tally) -> Option<LoadSums>
+    ensures { (sums : Sums) → IfSome builds (λ b. AreSumsOn b sums)
+        → IfSome result (λ b. AreSumsOn b (posting awb.now place.now (meant by) sums)) }
 {
-    let kept = build?;
-    if !kept.is_at(awb, place) {
-        return Some(kept);
-    }
-    match kept.sum.plus(by) {
-        Ok(sum) => Some(BuildSum { sum, ..kept }),
-        Err(_) => None,
-    }
+    builds?.posted(awb, place, by)
 }
 
 impl KnownSums {
@@ -158,7 +193,7 @@ impl KnownSums {
     {
         KnownSums {
             counts: None,
-            build: None,
+            builds: None,
         }
     }
 
@@ -178,10 +213,7 @@ impl KnownSums {
         ensures { (sums : Sums) → AreKnown self.now sums
             → IfSome result (λ sum. meant sum ≡ sums awb.now place.now) }
     {
-        match self.build {
-            Some(kept) if kept.is_at(awb, place) => Some(kept.sum),
-            _ => None,
-        }
+        self.builds.as_ref()?.at(awb, place)
     }
 
     /// The sum of a waybill at a place, if it is known.
@@ -196,13 +228,11 @@ impl KnownSums {
     }
 
     /// Adds an amount of a waybill at a place.
-    pub(crate) fn posted(self, awb: &Awb, place: &Place, by: Tally) -> KnownSums
-        ensures { (sums : Sums) → AreKnown self sums
-            → AreKnown result (posting awb.now place.now (meant by) sums) }
+    pub(crate) fn post(&mut self, awb: &Awb, place: &Place, by: Tally)
+        ensures { (sums : Sums) → AreKnown self.old sums
+            → AreKnown self.new (posting awb.now place.now (meant by) sums) }
     {
-        KnownSums {
-            counts: counts_after(self.counts, awb, place, by),
-            build: build_after(self.build, awb, place, by),
-        }
+        self.counts = counts_after(self.counts, awb, place, by);
+        self.builds = builds_after(self.builds.take(), awb, place, by);
     }
 }

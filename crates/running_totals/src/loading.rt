@@ -1,13 +1,18 @@
-ghost use Rattle.std.specs.Prelude.{◌≡◌, ◌∷◌, ◌++◌, [], pos, int_lt, length, List, map, filter, IfOk, OnOk};
+ghost use Rattle.std.specs.Prelude.{◌≡◌, ◌∷◌, ◌++◌, [], pos, int_lt, length, All, List, map, filter, IfOk, IfSome, OnErr, OnOk};
 ghost use Rattle.shipment_machine.specs.Book.{waybills_on};
+ghost use Rattle.shipment_machine.specs.declared.moves.Place.TheVariants.{Built};
 ghost use Rattle.station_core.specs.Told.{loads_on};
 ghost use Rattle.station_rows.specs.Meant.{build_meant};
 ghost use Rattle.station_rows.specs.Clauses.{Reads};
-ghost use Rattle.row_codec.specs.Counts.{AreBuilds};
+ghost use Rattle.row_codec.specs.Counts.{AreBuilds, running};
+ghost use Rattle.running_totals.specs.Known.{AreKnown, AreSumsOn};
 ghost use Rattle.running_totals.specs.Loaded.{load_said, row_said, is_loaded};
+ghost use Rattle.running_totals.specs.Stored.{meant};
+ghost use Rattle.running_totals.specs.Sums.{Sums};
 
 use crate::fields::{awb_of, whole, written};
-use crate::tally::build_tally;
+use crate::known::{KnownSums, LoadSums};
+use crate::tally::{Tally, build_tally};
 use shipment_machine::{FlightDate, Move};
 use station_core::Load;
 use station_rows::{BuildRow, BuildsOn, PiecesOn, StoreFault, TableStore};
@@ -54,17 +59,44 @@ fn loads_in(alloc: Global, rows: &[BuildRow]) -> Result<Vec<Load>, StoreFault>
     Ok(loads)
 }
 
-/// The waybills of which something is built on a flight, ascending, each with its load, inside a
-/// transaction or outside. A fault: the database call failed, memory ran out, or a row is out of
-/// range. A fault outside changes nothing while the store is open.
+/// Returns the sum that a load is.
+fn sum_in(load: &Load) -> Tally
+    ensures { meant result ≡ (load_said load.now).1 }
+{
+    Tally {
+        pieces: whole(load.amount.pieces),
+        tenths: whole(load.amount.tenths),
+    }
+}
+
+/// Returns the sums of the loads of a flight, or `None` if memory ran out.
+fn sums_of(alloc: Global, flight: &FlightDate, loads: &[Load]) -> Option<LoadSums>
+    ensures { (sums : Sums)
+        → All (λ load. (load_said load).1 ≡ sums load.awb (Built flight.now)) loads.now
+        → IfSome result (λ kept. AreSumsOn kept sums) }
+{
+    let mut kept = LoadSums::new(alloc, flight);
+    for load in loads {
+        kept = kept.with(&load.awb, sum_in(load))?;
+    }
+    Some(kept)
+}
+
+/// Lists the waybills of which something is built on a flight, ascending, each with its load,
+/// inside a transaction or outside; from then on their sums are known. A fault: the database call
+/// failed, memory ran out, or a row is out of range. A fault outside changes nothing while the
+/// store is open.
 pub fn aboard<S: TableStore>(
     alloc: Global,
     store: &mut S,
+    known: &mut KnownSums,
     flight: &FlightDate,
 ) -> Result<Vec<Load>, StoreFault>
-    ensures { Reads (S.view store.old) (S.view store.new) result
+    ensures reads { Reads (S.view store.old) (S.view store.new) result
         (λ tables loads. (book : List Move) → AreBuilds tables.builds book
-        → loads.items ≡ loads_on book flight.now) }
+        → (loads.items ≡ loads_on book flight.now)
+        × (AreKnown known.old (running book) → AreKnown known.new (running book))) }
+    ensures known_at_err { OnErr result (known.new ≡ known.old) }
 {
     let text = written(alloc, &flight.flight)?;
     let day = whole(flight.day.number());
@@ -73,6 +105,7 @@ pub fn aboard<S: TableStore>(
         day,
     })?;
     let loads = loads_in(alloc, &rows)?;
+    known.builds = sums_of(alloc, flight, &loads);
     Ok(loads)
 }
 

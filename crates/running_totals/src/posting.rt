@@ -44,12 +44,12 @@ fn post<S: TableStore>(
         let text = written(alloc, &flight.flight)?;
         let day = whole(flight.day.number());
         let aboard = post_build(alloc, store, text.as_str(), day, number, by, sum)?;
-        *known = known.posted(awb, place, by);
+        known.post(awb, place, by);
         Ok(aboard)
     } else {
         let code = place_code(place);
         let there = post_count(store, number, code, by, sum)?;
-        *known = known.posted(awb, place, by);
+        known.post(awb, place, by);
         Ok(there)
     }
 }

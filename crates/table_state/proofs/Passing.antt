@@ -1,5 +1,5 @@
 -- What rows of tables do to the sink that they are handed on to.
-use Rattle.std.proofs.Common.{◌≡◌, ◌⊎◌, inl, inr, ℕ, zero, suc, Bool, true, false, List, [], ◌∷◌, map, take, length, Some, Result, Ok, Err, refl, sym, ap, subst, ◌∙◌}
+use Rattle.std.proofs.Common.{◌≡◌, ◌⊎◌, inl, inr, ℕ, zero, suc, Bool, true, false, List, [], ◌∷◌, map, take, length, Some, Result, Ok, Err, refl, sym, ap, subst, subst₂, ◌∙◌}
 use Rattle.std.specs.Prelude.{IsOk, IsErr, OnOk}
 use Rattle.std.proofs.Math.Seq.{take-length}
 use Rattle.std.proofs.lemmas.List.{take-map}
@@ -9,11 +9,14 @@ use Rattle.station_schema.specs.Store as row
 use Rattle.station_schema.specs.Store.{View}
 use Rattle.station_schema.specs.Tables.{Tables}
 use Rattle.row_codec.specs.Meaning.{Means}
+use Rattle.station_rows.specs.Clauses as rows
 use Rattle.station_rows.specs.Clauses.{HandsIfOpen, HandsOf}
-use Rattle.state_store.specs.Store.{at_rest}
+use Rattle.state_store.specs.Store.{HandsOut, at_rest}
 use Rattle.table_state.specs.declared.counted.KnownCounts.{KnownCounts}
-use Rattle.table_state.specs.Shown.{Knows, Shows}
-use Rattle.table_state.proofs.Lifting.{seen_in}
+use Rattle.table_state.specs.declared.state.TableState.{TableState}
+use Rattle.table_state.specs.Shown as shown
+use Rattle.table_state.specs.Shown.{Knows, Shows, in_tables}
+use Rattle.table_state.proofs.Lifting.{rests_on, seen_in, survives_so}
 use Rattle.table_state.specs.Handing.{Tells}
 use Rattle.table_state.specs.declared.handing.Telling.{Telling}
 
@@ -105,3 +108,21 @@ module _ {K V X E F : Type 0} (takes : K → V → Bool → K → Type 0) (value
       nothing : (r' : Result (Unit {0}) F) → OnOk r' (IsOk r × (to.stuck ≡ false)) → IsErr r × (to ≡ from) → Hands takes all from.sink.now to.sink.now r'
       nothing (Ok x) well none = absurd (not_both r well.0 none.0)
       nothing (Err f) well none = (0, ap (λ (t : Telling K). t.sink.now) none.1)
+
+-- what a reader is given of a state in tables, by rows that its store handed on
+module _ {S K V X T E F : Type 0} (view : S → View) (old : TableState S) (store : S) (takes : K → V → Bool → K → Type 0) (meant : T → X) (value : X → V) (listing : Tables → List X) (listed : State → List V)
+    (are : (s : State) → Means (view old.store).now (Some s) → shown.Tells (view old.store) old.here old.counted old.confirmed (at_rest s) → map value (listing (view old.store).now) ≡ listed s) where
+  pub handed_so : (from to : Telling K) (start end : K) {r : Result (Unit {0}) E} (r' : Result (Unit {0}) F)
+      → rows.HandsOut (view old.store) (view store) r (λ x row. meant row ≡ x) (λ o row go n. Tells takes (value (meant row)) o go n) listing from to
+      → OnOk r' (IsOk r × (to.stuck ≡ false)) → from.sink.now ≡ start → (to.sink.ghost_name ≡ from.sink.ghost_name → to.sink.now ≡ end)
+      → HandsOut (in_tables view) old (record old { store = store }) r' takes listed start end
+  handed_so from to start end {r} r' hands well starts ends =
+      let told = some_told takes (λ row. value (meant row)) _ (λ o x go n h. h) _ from to hands.took.1 in
+      record {
+        rows = λ s shown sound. subst₂ (λ a b. Hands takes (listed s) a b r') starts (ends told.0)
+            (given_on takes value _ (λ o x go n h. subst (λ l. Tells takes (value l) o go n) h.1 h.2) (view old.store) (view store) old.here old.counted old.confirmed s shown hands.survives listing (listed s)
+            (λ means knows. are s means (shown (hands.survives.sound sound))) from to r hands.hands hands.shut r' well sound);
+        took = (told.1, subst₂ (λ a b. HandedOut takes told.1 a b) starts (ends told.0) told.2);
+        rests = λ s shown. rests_on (view old.store) (view store) old.here old.counted old.confirmed s shown hands.survives hands.rests;
+        survives = survives_so view old (record old { store = store }) hands.survives;
+      }

@@ -30,7 +30,8 @@ pub(crate) struct FlightSpans {
     pub(crate) kept: Option<BTreeMap<u32, Span>>,
 }
 
-/// Returns a span with a further number in it. `None`: it is 0.
+/// Returns a span with a further number in it, or a new span if there is none. `None`: the number
+/// is 0, which no move has.
 fn with_number(span: Option<Span>, number: u32) -> Option<Span>
     ensures there { IfSome result (λ wider. LiesIn wider number) }
     ensures grows { IfSome result (λ wider. IfSome span (λ was. (n : ℕ)
@@ -108,7 +109,7 @@ fn with_move(
 }
 
 impl FlightSpans {
-    /// Nothing is known yet.
+    /// Returns spans of which nothing is known yet.
     pub(crate) fn none() -> FlightSpans
         ensures { (book : List cargo.Move) → AreCovered result.kept book }
     {
@@ -132,7 +133,7 @@ impl FlightSpans {
         }
     }
 
-    /// The spans after a move under its number.
+    /// Widens the spans of a move's flights by its number.
     pub(crate) fn post(&mut self, movement: &Move, number: u32)
         ensures { (book : List cargo.Move) → number ≡ length book + 1
             → AreCovered self.old.kept book

@@ -181,7 +181,7 @@ impl<S: TableStore> StateStore for TableState<S> {
     }
 
     fn aboard(&mut self, flight: &FlightDate) -> Result<Vec<Load>, StoreFault> {
-        running_totals::aboard(self.alloc, &mut self.store, flight)
+        running_totals::aboard(self.alloc, &mut self.store, &mut self.counted.known, flight)
     }
 
     fn waybills_on(&mut self, flight: &FlightDate) -> Result<usize, StoreFault> {

@@ -1,33 +1,21 @@
-use Rattle.std.proofs.Common.{◌≡◌, ◌∙◌, pos, sym, ap, option_map, rules, FitsSigned, w64, to_z, of_z, to_z-of_z}
-use Rattle.std.specs.FinMap.{get}
-use Rattle.station_schema.specs.Tables.{BuildKey}
-use Rattle.row_codec.specs.Counts.{running_on}
-use Rattle.imp_fields.specs.Flight.{flight_text}
+use Rattle.std.proofs.Common.{◌∙◌, sym, ap}
+use Rattle.std.proofs.lemmas.Option.{IfSome_then}
+use Rattle.shipment_machine.specs.declared.flight.FlightDate.{FlightDate}
+use Rattle.shipment_machine.specs.declared.moves.Place.TheVariants.{Built}
+use Rattle.row_codec.specs.Counts.{running}
 use Rattle.running_totals.specs.Stored.{meant}
-use Rattle.running_totals.proofs.Amounts.{built_tally, built_nothing, carried_told, carried_none}
+use Rattle.running_totals.proofs.Amounts.{held_is}
+use Rattle.running_totals.proofs.KnownLaws.{sum_more}
 use Rattle.running_totals.proofs.Stores.{made_of}
 use Rattle.running_totals.proofs.building.load.Goals as goal
 
-pub returns-in-Some-clause-reads : goal.returns-in-Some-clause-reads
-returns-in-Some-clause-reads g c =
-    let number_fits : FitsSigned w64 c.number_of-number.result = search rules in
-    let day_fits : FitsSigned w64 c.whole-day.result = search rules in
-    let key : ◌≡◌ {A = BuildKey} (c.as_str.result.now, (to_z w64 (of_z w64 c.whole-day.result), to_z w64 (of_z w64 c.number_of-number.result))) (flight_text c.args.flight.now.flight, (pos c.args.flight.now.day, pos c.args.awb.now)) =
-    λ i. ((c.as_str.ensures.value ∙ c.in_ok-text.ensures.value) i, ((to_z-of_z day_fits ∙ c.whole-day.ensures ∙ ap pos c.number.ensures.value) i, (to_z-of_z number_fits ∙ c.number_of-number.ensures) i)) in
-    made_of (g.S.TableStore.view c.args.store.now) _ _ _ c.in_ok-sum.ensures (λ x shows sound book are.
-    let read = sym (ap (option_map meant) c.in-Some.is) ∙ c.in_ok-sum.ensures.read x shows sound ∙ ap (λ (k : BuildKey). option_map running_on (get x.now.builds k)) key in (
-      built_tally x.now.builds book are c.args.awb.now c.args.flight.now c.written.ensures.designator c.in-Some.sum c.in_ok-load-in-Some.load read c.in_ok-load-in-Some.ensures.pieces c.in_ok-load-in-Some.ensures.tenths,
-      λ was. record { counts = was.counts; build = carried_told x.now.builds book are c.args.awb.now c.args.flight.now c.written.ensures.designator c.in-Some.sum read },
-    ))
-
 pub returns-clause-reads : goal.returns-clause-reads
-returns-clause-reads g c =
-    let number_fits : FitsSigned w64 c.number_of-number.result = search rules in
-    let day_fits : FitsSigned w64 c.whole-day.result = search rules in
-    let key : ◌≡◌ {A = BuildKey} (c.as_str.result.now, (to_z w64 (of_z w64 c.whole-day.result), to_z w64 (of_z w64 c.number_of-number.result))) (flight_text c.args.flight.now.flight, (pos c.args.flight.now.day, pos c.args.awb.now)) =
-    λ i. ((c.as_str.ensures.value ∙ c.in_ok-text.ensures.value) i, ((to_z-of_z day_fits ∙ c.whole-day.ensures ∙ ap pos c.number.ensures.value) i, (to_z-of_z number_fits ∙ c.number_of-number.ensures) i)) in
-    made_of (g.S.TableStore.view c.args.store.now) _ _ _ c.in_ok-sum.ensures (λ x shows sound book are.
-    let read = sym (ap (option_map meant) c.in-None.is) ∙ c.in_ok-sum.ensures.read x shows sound ∙ ap (λ (k : BuildKey). option_map running_on (get x.now.builds k)) key in (
-      built_nothing x.now.builds book are c.args.awb.now c.args.flight.now c.written.ensures.designator read,
-      λ was. record { counts = was.counts; build = carried_none x.now.builds book are c.args.awb.now c.args.flight.now c.written.ensures.designator read },
+returns-clause-reads g c = made_of (g.S.TableStore.view c.args.store.now) _ _ _ c.in_ok-sum.ensures (λ x shows sound book are.
+    let is = c.in_ok-sum.ensures.read x shows sound book are in (
+      held_is book c.args.awb.now (Built c.args.flight.now) (meant c.in_ok-sum.sum) c.in_ok-load.load is c.in_ok-load.ensures.pieces c.in_ok-load.ensures.tenths,
+      λ was. record {
+        counts = was.counts;
+        builds = IfSome_then c.with.result c.with.ensures (λ more with. sum_more c.new.result more c.args.awb.now c.in_ok-sum.sum with.0 with.1 (running book) (c.new.ensures.known (running book))
+            (is ∙ ap (λ (f : FlightDate). running book c.args.awb.now (Built f)) (sym c.new.ensures.flight)));
+      },
     ))

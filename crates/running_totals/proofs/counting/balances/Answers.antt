@@ -11,5 +11,5 @@ returns-clause-reads g c =
     made_of (g.S.TableStore.view c.args.store.now) _ _ _ c.in_ok-rows.ensures (λ x shows sound book are.
     let read = c.in_ok-rows.ensures.read x shows sound ∙ ap (λ n. filter (counts_for n) (entries x.now.counts)) (to_z-of_z fits ∙ c.number_of-number.ensures) in (
       c.in_ok-balances.ensures x.now.counts book c.args.awb.now (ap (map count_meant) c.deref.ensures.value ∙ read) are,
-      λ was. record { counts = c.sums_by.ensures x.now.counts book c.args.awb.now (ap (map count_meant) c.deref-2.ensures.value ∙ read) are; build = was.build },
+      λ was. record { counts = c.sums_by.ensures x.now.counts book c.args.awb.now (ap (map count_meant) c.deref-2.ensures.value ∙ read) are; builds = was.builds },
     ))

@@ -1,17 +1,26 @@
-use Rattle.std.proofs.Common.{◌∙◌, ℕ, ℤ, pos, List, ap, ap₂, map, rules, FitsSigned, w64, to_z-of_z}
-use Rattle.std.specs.List.{filter}
+use Rattle.std.proofs.Common.{◌≡◌, ◌∙◌, ℕ, ℤ, pos, List, sym, ap, ap₂, subst, map, rules, FitsSigned, w64, to_z-of_z}
+use Rattle.std.specs.List.{All, filter}
 use Rattle.std.specs.FinMap.{entries}
+use Rattle.shipment_machine.specs.declared.moves.Place.TheVariants.{Built}
+use Rattle.station_core.specs.declared.stored.Load.{Load}
 use Rattle.station_schema.specs.Tables.{Build, BuildKey}
 use Rattle.station_rows.specs.Meant.{build_meant, is_on}
-use Rattle.running_totals.specs.Loaded.{row_said, is_loaded}
-use Rattle.running_totals.proofs.FlightRows.{loads_are}
+use Rattle.row_codec.specs.Counts.{running}
+use Rattle.running_totals.specs.Loaded.{load_said, row_said, is_loaded}
+use Rattle.running_totals.proofs.FlightRows.{loads_are, loads_sums}
 use Rattle.running_totals.proofs.Stores.{made_of}
 use Rattle.running_totals.proofs.loading.aboard.Goals as goal
 
-pub returns : goal.returns
-returns g c = made_of (g.S.TableStore.view c.args.store.now) _ _ _ c.in_ok-rows.ensures (λ x shows sound book are.
+pub returns-clause-reads : goal.returns-clause-reads
+returns-clause-reads g c = made_of (g.S.TableStore.view c.args.store.now) _ _ _ c.in_ok-rows.ensures (λ x shows sound book are.
     let day_fits : FitsSigned w64 c.whole-day.result = search rules in
     let read = ap (map build_meant) c.deref.ensures.value ∙ c.in_ok-rows.ensures.read x shows sound
     ∙ ap₂ (λ (text : List ℕ) (day : ℤ). filter (is_on text day) (entries x.now.builds)) (c.as_str.ensures.value ∙ c.in_ok-text.ensures.value) (to_z-of_z day_fits ∙ c.whole-day.ensures ∙ ap pos c.number.ensures.value) in
-    loads_are x.now.builds book c.args.flight.now c.written.ensures.designator are c.in_ok-loads.loads.items
-    (c.in_ok-loads.ensures ∙ ap (λ (l : List (BuildKey × Build)). filter is_loaded (map row_said l)) read))
+    let said = c.in_ok-loads.ensures ∙ ap (λ (l : List (BuildKey × Build)). filter is_loaded (map row_said l)) read in (
+      loads_are x.now.builds book c.args.flight.now c.written.ensures.designator are c.in_ok-loads.loads.items said,
+      λ was. record {
+        counts = was.counts;
+        builds = c.sums_of.ensures (running book) (subst (All (λ (l : Load). (load_said l).1 ≡ running book l.awb (Built c.args.flight.now))) (sym c.deref-2.ensures.value)
+            (loads_sums x.now.builds book c.args.flight.now c.written.ensures.designator are c.in_ok-loads.loads.items said));
+      },
+    ))
