@@ -33,6 +33,11 @@ IsCommandAsked verb key bytes (asked.Input i) = (command : Command) × IsSaid ve
 IsCommandAsked verb key bytes (asked.Bad other body) = (command : Command) → ¬ (IsSaid verb bytes command)
 IsCommandAsked verb key bytes _ = ⊥
 
+-- the bytes are a body under a verb and a key, or a telegram
+abbrev pub IsAskedUnder : Option (Verb × List ℕ) → List ℕ → Asked → Type 0
+IsAskedUnder (Some head) = IsCommandAsked head.0 head.1
+IsAskedUnder None = IsTelegramAsked
+
 -- the text of the answer at a moment: that of the station's step, or a text that doesn't depend on
 -- the station
 abbrev pub asked_text : State → Asked → LocalMinute → List ℕ

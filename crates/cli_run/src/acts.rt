@@ -108,7 +108,7 @@ fn answer_lines<P: Answering<D, E>, D, R: BufRead + Drop, W: ByteOut, E: ByteOut
 ///
 /// # Errors
 ///
-/// The lines before the fault are answered. To the line itself applies what `answer_act` says.
+/// The lines before the fault are answered. To the line itself applies what [`answer_input`] says.
 ///
 /// - [`RunFault::Read`]: the reader fails.
 /// - [`RunFault::Write`]: the writer fails or writes 0 bytes.

@@ -1,6 +1,6 @@
 //! Reading the input of a command.
 ghost use Rattle.std.specs.Prelude.{IfOk};
-ghost use Rattle.cli_run.specs.Asked.{IsTelegramAsked, IsCommandAsked};
+ghost use Rattle.cli_run.specs.Asked.{IsAskedUnder, IsCommandAsked, IsTelegramAsked};
 
 use desk_commands::{BadBody, Verb, read_command};
 use imp_fields::MOST_BYTES;
@@ -58,5 +58,19 @@ pub fn command_asked<'a>(
                 Ok(Asked::Bad { verb, body })
             }
         }
+    }
+}
+
+/// Returns the request in an input: a body under a verb and a key, or a telegram.
+pub(crate) fn asked_under<'a>(
+    alloc: Global,
+    head: &Option<(Verb, Key)>,
+    bytes: &'a [u8],
+) -> Result<Asked<'a>, AllocError>
+    ensures { IfOk result (IsAskedUnder head.now bytes.entry.now) }
+{
+    match head {
+        Some((verb, key)) => command_asked(alloc, *verb, *key, bytes),
+        None => telegram_asked(alloc, bytes),
     }
 }

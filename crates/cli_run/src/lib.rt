@@ -1,7 +1,6 @@
 //! The commands of the command line, over any keeper, reader and writer.
 #![tactic(auto)]
 
-mod act;
 mod act_line;
 mod acts;
 mod answer;
@@ -9,6 +8,7 @@ mod answering;
 mod asked;
 mod feed;
 mod history;
+mod input;
 mod inputs;
 mod kept;
 mod laws;
@@ -20,17 +20,16 @@ mod rows;
 mod run;
 mod seen;
 mod sent;
-mod take;
 mod takes;
 mod telling;
 
-pub use act::answer_act;
 pub use act_line::{frame, line_asked, line_value, wired};
 pub use acts::{answer_acts, is_blank};
 pub use answer::{answer_bad, answer_bad_line, answer_refusal, named_line};
 pub use answering::{Answering, ByStation};
 pub use asked::Asked;
 pub use feed::Feed;
+pub use input::answer_input;
 pub use inputs::Inputs;
 pub use laws::{acts_law, left_law};
 pub use place::{airport_of_line, is_migration, is_opening};

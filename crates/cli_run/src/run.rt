@@ -15,10 +15,10 @@ ghost use Rattle.cli_run.specs.Place.{here_of};
 ghost use Rattle.cli_run.specs.Reasons.{HasGivenReasons};
 ghost use Rattle.cli_run.specs.Takes.{HasTakenNext};
 
-use crate::act::answer_act;
 use crate::acts::answer_acts;
 use crate::answering::ByStation;
 use crate::history::do_history;
+use crate::input::answer_input;
 use crate::inputs::Inputs;
 use crate::look::{do_holder, do_waybill};
 use crate::place::airport_of_line;
@@ -130,12 +130,11 @@ fn do_act<K: Keeper, I: ByteIn, W: ByteOut, E: ByteOut>(
         (come keeper.old (W.taken output.old) errors.old, I.given reader.old)
         (come keeper.new (W.taken output.new) errors.new, I.given reader.new) result }
 {
-    answer_act(
+    answer_input(
         &ByStation { at },
         alloc,
         keeper,
-        verb,
-        key,
+        &Some((verb, key)),
         reader,
         output,
         errors,

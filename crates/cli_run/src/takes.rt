@@ -5,8 +5,8 @@ ghost use Rattle.cli_run.specs.Takes.{HasTakenNext};
 ghost use Rattle.cli_run.specs.InTurn.{HaveBeenMade};
 
 use crate::answering::Answering;
+use crate::input::answer_input;
 use crate::inputs::Inputs;
-use crate::take::answer_take;
 use station_core::{ByteIn, ByteOut};
 use std::alloc::Global;
 use stock_list::{RunFault, Watched};
@@ -25,13 +25,13 @@ fn take_next<P: Answering<D, E>, D, I: Inputs, W: ByteOut, E: ByteOut>(
         (come desk.new (W.taken writer.new) errors.new, reader.new) result }
 {
     reader.next_input();
-    answer_take(way, alloc, desk, reader, writer, errors)
+    answer_input(way, alloc, desk, &None, reader, writer, errors)
 }
 
 /// Has the telegrams of `count` inputs answered one after another, all at one moment, and writes
 /// the line of each answer. `Ok` says whether all were accepted.
 ///
-/// A fault ends the run, as described at `answer_take`. The telegrams before it are answered, and
+/// A fault ends the run, as described at [`answer_input`]. The telegrams before it are answered, and
 /// those after it aren't read.
 pub fn answer_takes<P: Answering<D, E>, D, I: Inputs, W: ByteOut, E: ByteOut>(
     way: &P,

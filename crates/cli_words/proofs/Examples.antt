@@ -1,9 +1,8 @@
 -- Words of `report`, by the definitions.
-use Rattle.std.proofs.Common.{◌≡◌, refl, true, false, Option, Some, None, List, ℕ, codes}
+use Rattle.std.proofs.Common.{◌≡◌, refl, true, false, Some, None, codes}
 use Rattle.reports.specs.Reports.{report_called}
 use Rattle.reports.specs.declared.listing.Listing.{Listing}
 use Rattle.reports.specs.declared.listing.Listing.TheVariants as listing
-use Rattle.reports.specs.declared.report.Report.{Report}
 use Rattle.reports.specs.declared.report.Report.TheVariants as report
 use Rattle.cli_words.specs.Listed.{IsManifest, IsPart}
 

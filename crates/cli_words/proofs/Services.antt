@@ -1,5 +1,5 @@
 -- A line that asks a running service.
-use Rattle.std.proofs.Common.{◌≡◌, refl, ℕ, ◌≤◌, Bool, true, false, ◌||◌, is_some, List, Option, Some, None, IfSome, option_map}
+use Rattle.std.proofs.Common.{◌≡◌, refl, ℕ, ◌≤◌, true, false, ◌||◌, is_some, List, Option, Some, None, IfSome, option_map}
 use Rattle.cli_words.specs.Line.{IsAt, IsStation}
 
 -- its port, and what holds of it

@@ -1,5 +1,5 @@
 -- The meaning of the words of a call.
-use Rattle.std.specs.Prelude.{◌≡◌, ◌≤◌, ◌||◌, ℕ, Bool, true, false, is_some, List, map, Option, Some, None, Ok, IsSome, IfSome, IsTrue, codes, option_map, if◌then◌else◌}
+use Rattle.std.specs.Prelude.{◌≡◌, ◌≤◌, ◌||◌, ℕ, Bool, true, false, is_some, List, map, Option, Some, None, Ok, IsSome, IfSome, codes, option_map}
 use Rattle.awb_number.specs.Number.{number_of}
 use Rattle.imp_fields.specs.Airport.{airport_of}
 use Rattle.desk_commands.specs.Verb.{word}

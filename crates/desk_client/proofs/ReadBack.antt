@@ -1,5 +1,5 @@
 -- A desk reads the request of a command as what it is.
-use Rattle.std.proofs.Common.{arith, ◌≡◌, ◌∙◌, ap, sym, subst, refl, ℕ, ◌+◌, ◌-◌, ◌<◌, ◌≤◌, ◌^◌, Bool, true, Some, None, Ok, Err, List, [], ◌∷◌, ◌++◌, length, map, take, drop, reverse, codes, decimal, length-append, append_assoc}
+use Rattle.std.proofs.Common.{arith, ◌≡◌, ◌∙◌, ap, sym, subst, refl, ℕ, ◌+◌, ◌-◌, ◌<◌, ◌≤◌, ◌^◌, Bool, true, Option, Some, None, Ok, Err, List, [], ◌∷◌, ◌++◌, length, map, take, drop, reverse, codes, decimal, length-append, append_assoc}
 use Rattle.std.specs.Prelude.{◌&&◌, not, nat_le, if◌then◌else◌}
 use Rattle.std.specs.Char.{is_ascii_graphic}
 use Rattle.std.specs.List.{list_all}
@@ -26,7 +26,7 @@ use Rattle.http_desk.specs.Paths.{HasPath, IsPathOf, most_path}
 use Rattle.http_desk.proofs.Printed.{writes}
 use Rattle.http_desk.proofs.Segments.{all_weaker}
 use Rattle.http_desk.specs.Routes.{Got, gets, Posted, posts, posted_command, posted_telegram, place_of}
-use Rattle.http_desk.specs.Request.{Head, looks_up, sends, sends_body, place_asks, head_asks, key_of, length_in, within_length}
+use Rattle.http_desk.specs.Request.{Head, HeadAsks, looks_up, sends, sends_body, place_asks, head_asks, key_of, length_in, within_length}
 use Rattle.http_desk.specs.Digits.{is_number}
 use Rattle.http_desk.specs.Answer.{head_of, HasHead}
 use Rattle.desk_client.specs.Request.{command_lines, key_line, command_head, telegram_head, get_request}
@@ -95,8 +95,8 @@ headers_good : (key count : List ℕ) → is_trimmed_value key ≡ true → is_t
 unfolding are_headers is_token_byte
 headers_good key count k n = and_from _ _ k (and_from _ _ n refl)
 
-refused_if : (line headers : Bool) (hs : List Header) → line ≡ true → are_headers hs ≡ true → head_refusal line hs ≡ None
-refused_if line headers hs l h = rw (l, h) refl
+refused_if : (line : Bool) (hs : List Header) → line ≡ true → are_headers hs ≡ true → head_refusal line hs ≡ None
+refused_if line hs l h = rw (l, h) refl
 
 -- the length
 
@@ -148,6 +148,29 @@ has_head front body h reads short few =
     let cut : take 16_384 (front ++ body) ≡ front ++ take (16_384 - length front) body = ap (λ n. take n (front ++ body)) (sym room) ∙ take-append-add front body (16_384 - length front) in
     ((take (16_384 - length front) body, subst (λ b. ReadsRequest b h (take (16_384 - length front) body)) (sym cut) (reads (take (16_384 - length front) body))), few)
 
+-- a desk reads a request back, if its line and its headers may be written
+read_back : (method target front body : List ℕ) (hs : List Header) (asks : HeadAsks) (key : Option (List ℕ)) → is_request_line method target 1 ≡ true → are_headers hs ≡ true
+    → request_text method target 1 hs ≡ front → length front ≤ 16_384 → length (request_head method target 1 hs).fields ≤ 64
+    → head_asks (record { method = method; target = target; fields = hs }) ≡ asks → key_of hs ≡ key → IsRead (front ++ body) asks key body
+read_back method target front body hs asks key line headers text short few asked keyed =
+    let h : RequestHead = request_head method target 1 hs in
+    let back : (rest : List ℕ) → RequestReadsBack method target 1 hs rest = λ rest. request_reads_back method target 1 hs rest (refused_if (is_request_line method target 1) hs line headers) in
+    let fields : map name_and_value h.fields ≡ hs = (back []).fields in
+    record {
+      head = h;
+      has = has_head front body h (λ rest. subst (λ t. ReadsRequest (t ++ rest) h rest) text (back rest).reads) short few;
+      asks_is = ap (λ fs. head_asks (record { method = method; target = target; fields = fs })) fields ∙ asked;
+      key_is = ap key_of fields ∙ keyed;
+      body_is = ap (λ t. drop (length t) (front ++ body)) text ∙ drop-append_seam front body;
+    }
+
+-- the digits of a length
+count_shown : (n : ℕ) → n < 2 ^ 64 → is_trimmed_value (decimal n) ≡ true
+count_shown n wide = trimmed (decimal n) (all_weaker is_digit is_shown digit_shown (decimal n) (decimal_digits n wide))
+
+count_short : (n : ℕ) → n ≤ 65_536 → n < 2 ^ 64 → length (decimal n) ≤ 20
+count_short n le wide = length-decimal-le 20 n (omega arith) (omega (arith, le)) wide
+
 pub command_read : ((p : Posted) → HasPath (posts p)) → (v : Verb) (key body : List ℕ) → is_key key ≡ true → length body ≤ 65_536
     → IsRead (command_head (word v) key (length body) ++ body) (sends (posted_command v) (length body)) (Some key) body
 command_read path v key body is le =
@@ -155,22 +178,9 @@ command_read path v key body is le =
     let key_parts = and_parts (nat_le 1 (length key) && nat_le (length key) 40) (list_all is_key_byte key) is in
     let key_len : length key ≤ 40 = leb-true (length key) 40 (and_parts (nat_le 1 (length key)) (nat_le (length key) 40) key_parts.0).1 in
     let wide : n < 2 ^ 64 = omega (arith, le) in
-    let hs = fields_of key (decimal n) in
-    let h : RequestHead = request_head (codes "POST") (target_of (word v)) 1 hs in
-    let shown = headers_good key (decimal n) (trimmed key (all_weaker is_key_byte is_shown key_shown key key_parts.1)) (trimmed (decimal n) (all_weaker is_digit is_shown digit_shown (decimal n) (decimal_digits n wide))) in
-    let accepted : head_refusal (is_request_line (codes "POST") (target_of (word v)) 1) hs ≡ None = refused_if (is_request_line (codes "POST") (target_of (word v)) 1) true hs (line_good v) shown in
-    let back : (rest : List ℕ) → RequestReadsBack (codes "POST") (target_of (word v)) 1 hs rest = λ rest. request_reads_back (codes "POST") (target_of (word v)) 1 hs rest accepted in
-    let text : request_text (codes "POST") (target_of (word v)) 1 hs ≡ command_head (word v) key n = text_is (word v) key n in
-    let count_len : length (decimal n) ≤ 20 = length-decimal-le 20 n (omega arith) (omega (arith, le)) wide in
-    let fields : map name_and_value h.fields ≡ hs = (back []).fields in
-    let head_is : head_of h ≡ head_with (word v) key (decimal n) = ap (λ fs. record { method = codes "POST"; target = target_of (word v); fields = fs }) fields in
-    record {
-      head = h;
-      has = has_head (command_head (word v) key n) body h (λ rest. subst (λ t. ReadsRequest (t ++ rest) h rest) text (back rest).reads) (head_short (word v) key (decimal n) (name_short v) key_len count_len) (omega arith);
-      asks_is = ap head_asks head_is ∙ asked v key n le (path (posted_command v)).leads;
-      key_is = ap key_of fields ∙ keyed key (decimal n) is;
-      body_is = ap (λ t. drop (length t) (command_head (word v) key n ++ body)) text ∙ drop-append_seam (command_head (word v) key n) body;
-    }
+    read_back (codes "POST") (target_of (word v)) (command_head (word v) key n) body (fields_of key (decimal n)) (sends (posted_command v) n) (Some key) (line_good v)
+    (headers_good key (decimal n) (trimmed key (all_weaker is_key_byte is_shown key_shown key key_parts.1)) (count_shown n wide)) (text_is (word v) key n)
+    (head_short (word v) key (decimal n) (name_short v) key_len (count_short n le wide)) (omega arith) (asked v key n le (path (posted_command v)).leads) (keyed key (decimal n) is)
 
 -- The same of a telegram.
 
@@ -211,22 +221,9 @@ pub telegram_read : ((p : Posted) → HasPath (posts p)) → (body : List ℕ) �
 telegram_read path body le =
     let n = length body in
     let wide : n < 2 ^ 64 = omega (arith, le) in
-    let hs = telegram_fields (decimal n) in
-    let h : RequestHead = request_head (codes "POST") (codes "/v1/telegrams") 1 hs in
-    let shown = telegram_headers (decimal n) (trimmed (decimal n) (all_weaker is_digit is_shown digit_shown (decimal n) (decimal_digits n wide))) in
-    let accepted : head_refusal (is_request_line (codes "POST") (codes "/v1/telegrams") 1) hs ≡ None = refused_if (is_request_line (codes "POST") (codes "/v1/telegrams") 1) true hs telegram_line_good shown in
-    let back : (rest : List ℕ) → RequestReadsBack (codes "POST") (codes "/v1/telegrams") 1 hs rest = λ rest. request_reads_back (codes "POST") (codes "/v1/telegrams") 1 hs rest accepted in
-    let text : request_text (codes "POST") (codes "/v1/telegrams") 1 hs ≡ telegram_head n = telegram_text n in
-    let count_len : length (decimal n) ≤ 20 = length-decimal-le 20 n (omega arith) (omega (arith, le)) wide in
-    let fields : map name_and_value h.fields ≡ hs = (back []).fields in
-    let head_is : head_of h ≡ telegram_with (decimal n) = ap (λ fs. record { method = codes "POST"; target = codes "/v1/telegrams"; fields = fs }) fields in
-    record {
-      head = h;
-      has = has_head (telegram_head n) body h (λ rest. subst (λ t. ReadsRequest (t ++ rest) h rest) text (back rest).reads) (telegram_short (decimal n) count_len) (omega arith);
-      asks_is = ap head_asks head_is ∙ telegram_asked n le (path posted_telegram).leads;
-      key_is = ap key_of fields;
-      body_is = ap (λ t. drop (length t) (telegram_head n ++ body)) text ∙ drop-append_seam (telegram_head n) body;
-    }
+    read_back (codes "POST") (codes "/v1/telegrams") (telegram_head n) body (telegram_fields (decimal n)) (sends posted_telegram n) None telegram_line_good
+    (telegram_headers (decimal n) (count_shown n wide)) (telegram_text n) (telegram_short (decimal n) (count_short n le wide)) (omega arith)
+    (telegram_asked n le (path posted_telegram).leads) refl
 
 -- The same of what is got.
 
@@ -249,29 +246,11 @@ getting path = record { method = codes "GET"; target = path; fields = get_fields
 get_short : (path : List ℕ) → length path ≤ most_path → length (codes "GET " ++ (path ++ codes " HTTP/1.1\r\nHost: 127.0.0.1\r\nConnection: close\r\n\r\n")) ≤ 16_384
 get_short path few = omega (arith, few, length-append path (codes " HTTP/1.1\r\nHost: 127.0.0.1\r\nConnection: close\r\n\r\n"))
 
-nothing_behind : (xs : List ℕ) → drop (length xs) (xs ++ []) ≡ []
-nothing_behind xs = drop-append_seam xs []
-
-get_read : (path : List ℕ) (got : Got) → is_request_line (codes "GET") path 1 ≡ true → length path ≤ most_path → place_of path ≡ Some (gets got)
-    → IsRead (get_request path ++ []) (looks_up got) None []
-get_read path got line few place =
-    let h : RequestHead = request_head (codes "GET") path 1 get_fields in
-    let accepted : head_refusal (is_request_line (codes "GET") path 1) get_fields ≡ None = refused_if (is_request_line (codes "GET") path 1) true get_fields line get_headers in
-    let back : (rest : List ℕ) → RequestReadsBack (codes "GET") path 1 get_fields rest = λ rest. request_reads_back (codes "GET") path 1 get_fields rest accepted in
-    let text : request_text (codes "GET") path 1 get_fields ≡ get_request path = get_text path in
-    let fields : map name_and_value h.fields ≡ get_fields = (back []).fields in
-    let head_is : head_of h ≡ getting path = ap (λ fs. record { method = codes "GET"; target = path; fields = fs }) fields in
-    record {
-      head = h;
-      has = has_head (get_request path) [] h (λ rest. subst (λ t. ReadsRequest (t ++ rest) h rest) text (back rest).reads) (get_short path few) (omega arith);
-      asks_is = ap head_asks head_is ∙ ap (place_asks (getting path)) place;
-      key_is = ap key_of fields;
-      body_is = ap (λ t. drop (length t) (get_request path ++ [])) text ∙ nothing_behind (get_request path);
-    }
-
 get_line : (path : List ℕ) → list_all is_ascii_graphic path ≡ true → 0 < length path → is_request_line (codes "GET") path 1 ≡ true
 unfolding is_token_byte
 get_line path all some = and_from _ _ (and_from _ _ (lt-ltb 0 (length path) some) all) refl
 
 pub got_read : (path : List ℕ) (got : Got) → IsPathOf path (gets got) → IsRead (get_request path ++ []) (looks_up got) None []
-got_read path got is = get_read path got (get_line path is.graphic is.some) is.few is.leads
+got_read path got is =
+    read_back (codes "GET") path (get_request path) [] get_fields (looks_up got) None (get_line path is.graphic is.some) get_headers (get_text path)
+    (get_short path is.few) (omega arith) (ap (place_asks (getting path)) is.leads) refl

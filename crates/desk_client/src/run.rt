@@ -6,7 +6,7 @@ use crate::answering::ByService;
 use crate::ask::Ask;
 use crate::looks::{ask_history, ask_number};
 use crate::question::Question;
-use cli_run::{Inputs, answer_act, answer_acts, answer_list, answer_takes};
+use cli_run::{Inputs, answer_acts, answer_input, answer_list, answer_takes};
 use cli_words::LineCommand;
 use reports::{Listing, Report};
 use station_core::ByteOut;
@@ -45,7 +45,8 @@ pub fn ask_command<S: Ask, I: Inputs + Read, W: ByteOut, E: ByteOut>(
             answer_takes(&way, alloc, service, paths.len(), reader, output, errors)
         }
         LineCommand::Act { verb, key } => {
-            answer_act(&way, alloc, service, *verb, *key, reader, output, errors)
+            let head = Some((*verb, *key));
+            answer_input(&way, alloc, service, &head, reader, output, errors)
         }
         LineCommand::Acts => answer_acts(&way, alloc, service, reader, output, errors),
         LineCommand::Outbox(form) => {

@@ -15,5 +15,5 @@ pub returns-in-Act : goal.returns-in-Act
 returns-in-Act g c =
     subst (λ (k : LineCommand). HasDone k g.S.Ask.talk g.I.ByteIn.given g.I.Inputs.turned g.E.ByteOut.taken (g.I.Read.remaining c.args.reader.now)
     (come c.args.service.now (g.W.ByteOut.taken c.args.output.now) c.args.errors.now, c.args.reader.now)
-    (come c.answer_act.new.desk (g.W.ByteOut.taken c.answer_act.new.writer) c.answer_act.new.errors, c.answer_act.new.reader)
-    c.answer_act.result) (sym c.in-Act.is) c.answer_act.ensures
+    (come c.answer_input.new.desk (g.W.ByteOut.taken c.answer_input.new.writer) c.answer_input.new.errors, c.answer_input.new.reader)
+    c.answer_input.result) (sym c.in-Act.is) c.answer_input.ensures

@@ -1,7 +1,7 @@
 use Rattle.std.proofs.Common.{rules, inl, inr}
 use Rattle.stock_list.specs.Come.{come}
 use Rattle.cli_run.proofs.Ran.{each_heard, not_received, passed_on}
-use Rattle.cli_run.proofs.take.answer_take.Goals as goal
+use Rattle.cli_run.proofs.input.answer_input.Goals as goal
 
 pub returns-in-Ok : goal.returns-in-Ok
 returns-in-Ok g c = record {
