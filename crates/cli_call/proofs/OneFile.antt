@@ -1,8 +1,8 @@
 -- Calls of the program over one file: from one to the next, and all of them.
 use Rattle.std.proofs.Common.{◌<◌, ◌≤◌, length, ◌≡◌, ◌⊎◌, ℕ, zero, suc, ◌+◌, Bool, true, false, IsTrue, inl, inr, Option, Some, None, Result, Ok, Err, List, [], ◌∷◌, ◌++◌, take, All, refl, sym, ap, subst, ◌∙◌, arith}
-use Rattle.std.specs.Prelude.{OnOk}
+use Rattle.std.specs.Prelude.{IfErr, OnOk}
 use Rattle.std.proofs.Math.Logic.{∥∥₁_elim, ∥∥₁_map}
-use Rattle.std.proofs.lemmas.Bool.{cases_Bool}
+use Rattle.std.proofs.lemmas.Bool.{cases_Bool, cases_lt}
 use Rattle.shipment_machine.proofs.Conserved.{is_conserved}
 use Rattle.shipment_machine.proofs.Shown.{are_balances}
 use Rattle.sqlite.specs.Effect.{Database}
@@ -16,9 +16,10 @@ use Rattle.station_core.specs.declared.answer.Answer.{Answer}
 use Rattle.station_core.specs.declared.answer.ActFault.TheVariants as fault
 use Rattle.station_core.specs.declared.input.Input.{Input}
 use Rattle.station_core.specs.Keeping.{Keeping, KeepsSound}
-use Rattle.station_core.specs.Retries.{RetryEvent, World, after_events, world_after, ActsOnce, committed}
+use Rattle.station_core.specs.Retries.{RetryEvent, World, after_events, world_after, ActsOnce}
 use Rattle.station_core.specs.Step.{State, IsLawfulState, step, after_all}
-use Rattle.station_files.specs.Backing.{Backing, HasEnded, LeadsOn}
+use Rattle.station_files.specs.Backing.{Backing, HasEnded, LeadsOn, LeavesKnown}
+use Rattle.station_schema.specs.Own.{IsOwn}
 use Rattle.station_tables.specs.Attached.{connection_in}
 use Rattle.station_schema.specs.Connection.{connection_view}
 use Rattle.station_tables.specs.Called.{GoesOn, HasFound, HasMade, HasReleased}
@@ -39,10 +40,10 @@ use Rattle.cli_call.specs.declared.closing.FileEnd.{FileEnd}
 use Rattle.cli_call.specs.declared.ended.DeskFault.{DeskFault}
 use Rattle.cli_call.specs.declared.ended.DeskFault.TheVariants as told
 use Rattle.cli_call.specs.Service.{HasEndedService, HasServedStation}
-use Rattle.cli_call.specs.Ended.{run_ended, status_of, HasNoStation}
+use Rattle.cli_call.specs.Ended.{attach_status, run_ended, status_of, HasNoStation}
 use Rattle.line_opening.specs.Opened.{HasOpened}
 use Rattle.cli_call.specs.Ran.{HasEndedCall, HasRunLine}
-use Rattle.cli_call.specs.OneFile.{makes_station, life_events, opened_by, opened_in, ran_in, AreCallsOn, AreEventsOf, AreInputsOf, AreLivesOf, AreVain, by_command, by_service, CallOn, DidOver, HaveLed, IsAfterCalls, IsLifeOf, last_of, NextOn, NoneLost, RunOn, VainOn}
+use Rattle.cli_call.specs.OneFile.{makes_station, life_events, opened_by, opened_in, ran_in, WasTrue, AreCallsOn, AreEventsOf, AreInputsOf, AreLivesOf, AreVain, by_command, by_service, CallOn, DidOver, HaveLed, IsAfterCalls, IsLifeOf, last_of, NextOn, NoneLost, RunOn, VainOn}
 
 abbrev Inputs : Type 0
 Inputs = List (Input × LocalMinute)
@@ -220,9 +221,10 @@ kept_served k (one ∷ all) old new (mid, before, goes, has) = sound_twice k old
 -- one call, and the next
 module _ {S F L I W E : Type 0} {g : Ghosts S} (b : Backing (Held S) F L) (trees : List Object) (k : Keeping (Station S g)) (e : Ends I W E)
     (settles : (it : S) (db : Trees) → IsTrue (g.view it).is_open → g.recovers it db → db ≡ (g.view it).committed)
-    (closes : (ran : Held S) (end : Result F L) → HasEnded b ran end → b.was_true end → b.listed trees ran → LeadsOn g b trees ran end)
+    (closes : (ran : Held S) (end : Result F L) → HasEnded b ran end → b.was_true end → IfErr end b.numbered → LeadsOn g b trees ran end)
     (clean_is : (it : Station S g) → conn.HasCleanDisk (state g (connection_in it)) → k.is_clean it)
     (clean_was : (it : Station S g) → k.is_clean it → conn.HasCleanDisk (state g (connection_in it)))
+    (own : (last : Station S g) (ran : Held S) → k.is_sound last → HasReleased k last ran → conn.HasCleanDisk (state g ran) → (db : Trees) → (state g ran).may_leave db → IsOwn db)
     (lawful : (it : Station S g) (s : State) → k.is_sound it → k.may_find it (Some s) → IsLawfulState s)
     (left_of : (c : LineCommand) (here : List ℕ) (at : LocalMinute) (s : State) (old new : Station S g × Reached I W E) (r : Result Bool RunFault)
     → k.keeps old.0 s → k.is_broken old.0 ≡ false → k.is_sound new.0 → HasDone c here k e at old new r → HasLeft (AsksAt c at) s (k.may_find new.0) r)
@@ -244,26 +246,33 @@ module _ {S F L I W E : Type 0} {g : Ghosts S} (b : Backing (Held S) F L) (trees
     pub released : HasReleased k last (ran_in did).1
     pub lived : (s : State) → k.keeps station s → k.is_broken station ≡ false → k.is_sound last → Lived did s last
 
+  -- a store that was given back was opened by a list in the order of its trees
+  listed : (status : ℕ) (files : Result F L) → (1 < status → IfErr files (λ it. b.was_true (Err it) → b.numbered it)) → (status ≤ 1 → IfErr files b.numbered) → b.was_true files → IfErr files b.numbered
+  listed status (Ok files) given known honest = tt
+  listed status (Err it) given known honest = elim (cases_lt 1 status) [ inl more ↦ given more honest | inr few ↦ known few ]
+
   module _ (line : Line) (conn : Held S) (end : FileEnd F L) where
     opens_in : (did : DidOver b k e line conn end) (o : Result (Station S g) (Held S × AttachFault)) → opened_in did ≡ o → HasOpened g k (is_new line.db line.command) conn (here_of line.station) o
     opens_in (by_command ran) o is = subst (λ o. HasOpened g k (is_new line.db line.command) conn (here_of line.station) o) is (ran.has.called.called ran.runs).opens
     opens_in (by_service served) o is = subst (λ o. HasOpened g k (is_new line.db line.command) conn (here_of line.station) o) is served.has.called.opens
 
-    closed_in : (did : DidOver b k e line conn end) → b.was_true end.files → b.listed trees (ran_in did).1 → LeadsOn g b trees (ran_in did).1 end.files
-    closed_in (by_command ran) honest listed = closes ran.has.ran.1 end.files ran.has.closed.ended honest listed
-    closed_in (by_service served) honest listed = closes served.has.ran.1 end.files served.has.closed.ended honest listed
+    closed_in : (did : DidOver b k e line conn end) → b.was_true end.files → ((ran_in did).0 ≤ 1 → IfErr end.files b.numbered) → LeadsOn g b trees (ran_in did).1 end.files
+    closed_in (by_command ran) honest numbered =
+        closes ran.has.ran.1 end.files ran.has.closed.ended honest (listed ran.has.ran.0 end.files ran.has.closed.numbered numbered honest)
+    closed_in (by_service served) honest numbered =
+        closes served.has.ran.1 end.files served.has.closed.ended honest (listed served.has.ran.0 end.files served.has.closed.numbered numbered honest)
 
     -- a call that found no station returns the connection of its fault
-    vain_in : (did : DidOver b k e line conn end) (none : Held S × AttachFault) → opened_in did ≡ Err none → (ran_in did).1 ≡ none.0
+    vain_in : (did : DidOver b k e line conn end) (none : Held S × AttachFault) → opened_in did ≡ Err none → ((ran_in did).1 ≡ none.0) × ((ran_in did).0 ≡ attach_status none.1)
     vain_in (by_command ran) none is =
         let has = ran.has.called.called ran.runs in
         let ended : HasNoStation e.told none ran.from ran.has.behind ran.has.ran = subst (λ o. HasEndedCall line k e ran.at o ran.from ran.has.behind ran.has.ran) is has.ended in
-        ended.conn
+        (ended.conn, ended.status)
     vain_in (by_service served) none is =
         let has = served.has.called in
         let ended : HasEndedService k (e.printed, e.told) served.count has.all has.is_declared (Err none) (served.from, served.has.behind) served.has.ran =
         subst (λ o. HasEndedService k (e.printed, e.told) served.count has.all has.is_declared o (served.from, served.has.behind) served.has.ran) is has.ended in
-        ended.1.conn
+        (ended.1.conn, ended.1.status)
 
     ends_in : (did : DidOver b k e line conn end) (station : Station S g) → opened_in did ≡ Ok station → Ran did station
     ends_in (by_command ran) station is =
@@ -307,29 +316,33 @@ module _ {S F L I W E : Type 0} {g : Ghosts S} (b : Backing (Held S) F L) (trees
         }
 
   -- what the opening of a call found or made, and what it came to
-  opens_as : (c : CallOn b trees k e) (o : Result (Station S g) (Held S × AttachFault)) → opened_by c ≡ o → HasOpened g k (makes_station c) c.conn (here_of c.line.station) o
+  opens_as : (c : CallOn b k e) (o : Result (Station S g) (Held S × AttachFault)) → opened_by c ≡ o → HasOpened g k (makes_station c) c.conn (here_of c.line.station) o
   opens_as c o is = opens_in c.line c.conn c.end c.did o is
 
-  found_as : (c : CallOn b trees k e) (o : Result (Station S g) (Held S × AttachFault)) → opened_by c ≡ o → makes_station c ≡ false → HasFound g k c.conn o
+  found_as : (c : CallOn b k e) (o : Result (Station S g) (Held S × AttachFault)) → opened_by c ≡ o → makes_station c ≡ false → HasFound g k c.conn o
   found_as c o is old = subst (λ new. HasOpened g k new c.conn (here_of c.line.station) o) old (opens_as c o is)
 
-  works_by : (c : RunOn b trees k e) → k.is_broken c.station ≡ false
+  works_by : (c : RunOn b k e) → k.is_broken c.station ≡ false
   works_by c = go (makes_station c.call) (opens_as c.call (Ok c.station) c.found)
     where
       go : (new : Bool) → HasOpened g k new c.call.conn (here_of c.call.line.station) (Ok c.station) → k.is_broken c.station ≡ false
       go true made = made.works
       go false found = found.works
 
-  ends_by : (c : RunOn b trees k e) → Ran c.call.did c.station
+  ends_by : (c : RunOn b k e) → Ran c.call.did c.station
   ends_by c = ends_in c.call.line c.call.conn c.call.end c.call.did c.station c.found
 
-  closed_by : (c : CallOn b trees k e) → b.was_true c.end.files → LeadsOn g b trees (ran_in c.did).1 c.end.files
-  closed_by c honest = closed_in c.line c.conn c.end c.did honest c.listed
+  closed_by : (c : CallOn b k e) → WasTrue c → LeadsOn g b trees (ran_in c.did).1 c.end.files
+  closed_by c honest = closed_in c.line c.conn c.end c.did honest.0 honest.1
 
-  last_clean : (c : RunOn b trees k e) → b.was_true c.call.end.files → k.is_clean (ends_by c).last
+  -- what a run leaves is a station's
+  leaves_own : (c : RunOn b k e) → WasTrue c.call → k.is_sound (ends_by c).last → LeavesKnown g b trees (ran_in c.call.did).1
+  leaves_own c honest sound db may = inl (own (ends_by c).last (ran_in c.call.did).1 sound (ends_by c).released (closed_by c.call honest).clean db may)
+
+  last_clean : (c : RunOn b k e) → WasTrue c.call → k.is_clean (ends_by c).last
   last_clean c honest = clean_is _ ((ends_by c).released.clean (closed_by c.call honest).clean)
 
-  station_clean : (c : RunOn b trees k e) → b.was_true c.call.end.files → conn.HasCleanDisk (state g (connection_in c.station))
+  station_clean : (c : RunOn b k e) → WasTrue c.call → conn.HasCleanDisk (state g (connection_in c.station))
   station_clean c honest = clean_was _ ((ends_by c).premise.clean (last_clean c honest))
 
   -- in these files an opening finds only what a connection could leave
@@ -343,11 +356,16 @@ module _ {S F L I W E : Type 0} {g : Ghosts S} (b : Backing (Held S) F L) (trees
     | inr outside ↦ ap (λ r. (fault_or none r).0) (made.occupied outside (made.taken occupied))
   ]
 
+  vain_true : (v : VainOn b trees k e) → b.was_true v.call.end.files → WasTrue v.call
+  vain_true v honest =
+      let status = (vain_in v.call.line v.call.conn v.call.end v.call.did v.none v.found).1 in
+      (honest, λ low. absurd (omega (arith, low, status, fault_status (told.Attach v.none.1))))
+
   -- a vain call leaves what it found
   vain_leaves : (v : VainOn b trees k e) → b.was_true v.call.end.files → (db : Trees) → (state g (ran_in v.call.did).1).may_leave db → db ≡ (state g v.call.conn).committed.trees
   vain_leaves v honest db may =
-      let same = vain_in v.call.line v.call.conn v.call.end v.call.did v.none v.found in
-      let clean = subst (λ (c : Held S). conn.HasCleanDisk (state g c)) same (closed_by v.call honest).clean in
+      let same = (vain_in v.call.line v.call.conn v.call.end v.call.did v.none v.found).0 in
+      let clean = subst (λ (c : Held S). conn.HasCleanDisk (state g c)) same (closed_by v.call (vain_true v honest)).clean in
       let there = subst (λ (c : Held S). (state g c).may_leave db) same may in
       settles v.call.conn.store db v.reopens.opens.is_open (elim (cases_Bool (makes_station v.call)) [
         | inl new ↦
@@ -356,14 +374,18 @@ module _ {S F L I W E : Type 0} {g : Ghosts S} (b : Backing (Held S) F L) (trees
         | inr old ↦ either ((found_as v.call (Err v.none) v.found old).unwritten_at_err.crash clean db there)
       ])
 
+  -- what an opening found
+  vain_known : (v : VainOn b trees k e) → b.was_true v.call.end.files → LeavesKnown g b trees (ran_in v.call.did).1
+  vain_known v honest db may = inr (v.reopens.files, v.call.conn, v.reopens.finds, vain_leaves v honest db may)
+
   through : (ran : Held S) (from : Result F L) (vs : List (VainOn b trees k e)) (files : F) → ((f : F) → b.may_hold from f → Has ran f) → AreVain from vs files → Has ran files
   through ran from [] files base may = base files may
   through ran from (v ∷ vs) files base (may, honest, rest) =
       through ran v.call.end.files vs files (λ f may_f other finds.
-      ∥∥₁_elim ((closed_by v.call honest).next f may_f other finds) squash₁ (λ left.
+      ∥∥₁_elim ((closed_by v.call (vain_true v honest)).next (vain_known v honest) f may_f other finds) squash₁ (λ left.
       subst (λ (db : Trees). ∥ (state g ran).may_leave db ∥₁) (sym (vain_leaves v honest _ left)) (base v.reopens.files may v.call.conn v.reopens.finds))) rest
 
-  record Next (s : State) (c d : RunOn b trees k e) : Type 0 where
+  record Next (s : State) (c d : RunOn b k e) : Type 0 where
     pub mid : State
     pub kept : k.keeps d.station mid
     pub sound : k.is_sound d.station
@@ -372,7 +394,7 @@ module _ {S F L I W E : Type 0} {g : Ghosts S} (b : Backing (Held S) F L) (trees
     pub of : IsLifeOf c life
     pub is : IsAfterLife s life mid
 
-  next : (s : State) (c : RunOn b trees k e) (n : NextOn b trees k e) → k.keeps c.station s → k.is_sound c.station → b.was_true c.call.end.files → AreVain c.call.end.files n.vain n.reopens.files → b.was_true n.run.call.end.files → ∥ Next s c n.run ∥₁
+  next : (s : State) (c : RunOn b k e) (n : NextOn b trees k e) → k.keeps c.station s → k.is_sound c.station → WasTrue c.call → AreVain c.call.end.files n.vain n.reopens.files → WasTrue n.run.call → ∥ Next s c n.run ∥₁
   next s c n kept sound honest may honest_d =
       let d = n.run in
       let run = ends_by c in
@@ -380,7 +402,7 @@ module _ {S F L I W E : Type 0} {g : Ghosts S} (b : Backing (Held S) F L) (trees
       let last_sound = run.premise.still sound (last_clean c honest) in
       let lived = run.lived s kept (works_by c) last_sound in
       let closed = closed_by c.call honest in
-      ∥∥₁_map (through ran.1 c.call.end.files n.vain n.reopens.files closed.next may d.call.conn n.reopens.finds) (λ may_leave.
+      ∥∥₁_map (through ran.1 c.call.end.files n.vain n.reopens.files (closed.next (leaves_own c honest last_sound)) may d.call.conn n.reopens.finds) (λ may_leave.
       let shown = subst (λ (db : Database). (state g ran.1).may_leave db.trees) (sym n.reopens.opens.clean) may_leave in
       let on = goes_on run.last ran.1 d.call.conn (Ok d.station) last_sound run.released closed.clean shown (found_as d.call (Ok d.station) d.found n.old) in
       let clean = station_clean d honest_d in
@@ -395,7 +417,7 @@ module _ {S F L I W E : Type 0} {g : Ghosts S} (b : Backing (Held S) F L) (trees
         is = lived.is it.0 it.1;
       })
 
-  record Chain (s : State) (c : RunOn b trees k e) (ds : List (NextOn b trees k e)) : Type 0 where
+  record Chain (s : State) (c : RunOn b k e) (ds : List (NextOn b trees k e)) : Type 0 where
     pub last : State
     pub kept : k.keeps (last_of c ds).station last
     pub law : IsLawfulState last
@@ -403,11 +425,11 @@ module _ {S F L I W E : Type 0} {g : Ghosts S} (b : Backing (Held S) F L) (trees
     pub each : AreLivesOf c ds lives
     pub are : AreLives s lives last
 
-  first_true : (d : RunOn b trees k e) (ds : List (NextOn b trees k e)) → AreCallsOn d ds → b.was_true d.call.end.files
+  first_true : (d : RunOn b k e) (ds : List (NextOn b trees k e)) → AreCallsOn d ds → WasTrue d.call
   first_true d [] are = are
   first_true d (more ∷ ds) are = are.0
 
-  chain : (s : State) (c : RunOn b trees k e) (ds : List (NextOn b trees k e)) → k.keeps c.station s → k.is_sound c.station → IsLawfulState s → AreCallsOn c ds → ∥ Chain s c ds ∥₁
+  chain : (s : State) (c : RunOn b k e) (ds : List (NextOn b trees k e)) → k.keeps c.station s → k.is_sound c.station → IsLawfulState s → AreCallsOn c ds → ∥ Chain s c ds ∥₁
   chain s c [] kept sound law are = ∣ record { last = s; kept = kept; law = law; lives = []; each = tt; are = refl } ∣₁
   chain s c (d ∷ ds) kept sound law (honest, may, are) =
       ∥∥₁_elim (next s c d kept sound honest may (first_true d.run ds are)) squash₁ (λ one.
@@ -420,7 +442,7 @@ module _ {S F L I W E : Type 0} {g : Ghosts S} (b : Backing (Held S) F L) (trees
         are = (one.mid, one.is, rest.are);
       }))
 
-  pub have_led : ((start : State) (events : List RetryEvent) → ActsOnce start events) → (first : State) (c : RunOn b trees k e) (ds : List (NextOn b trees k e)) → IsLawfulState first → k.keeps c.station first → k.is_sound c.station → AreCallsOn c ds → ∥ HaveLed first c ds ∥₁
+  pub have_led : ((start : State) (events : List RetryEvent) → ActsOnce start events) → (first : State) (c : RunOn b k e) (ds : List (NextOn b trees k e)) → IsLawfulState first → k.keeps c.station first → k.is_sound c.station → AreCallsOn c ds → ∥ HaveLed first c ds ∥₁
   have_led once first c ds law kept sound are = ∥∥₁_map (chain first c ds kept sound law are) (λ all. record {
     last = all.last;
     kept = all.kept;

@@ -1,5 +1,5 @@
 -- The end of a call over a file.
-use Rattle.std.specs.Prelude.{◌≡◌, ◌<◌, ◌≤◌, ◌↔◌, ℕ, IsTrue, Result, IfOk, OnErr, OnOk}
+use Rattle.std.specs.Prelude.{◌≡◌, ◌<◌, ◌≤◌, ◌↔◌, ℕ, IsTrue, Result, Err, IfOk, IfErr, OnErr, OnOk}
 use Rattle.sqlite.specs.Held.{state, Held}
 use Rattle.sqlite_trees.specs.declared.store.Store.{Ghosts}
 use Rattle.station_schema.specs.Schema.{station_schema}
@@ -23,6 +23,7 @@ use Rattle.cli_call.specs.Ran.{HasCalled}
 pub record HasClosed {C F L E : Type 0} (b : Backing C F L) (conn : C) (told : E → Given) (old new : ℕ × E)
     (files : Result F L) : Type 0 where
   pub stopped : 1 < old.0 → (new ≡ old) × OnOk files ⊥
+  pub numbered : 1 < old.0 → IfErr files (λ it. b.was_true (Err it) → b.numbered it)
   pub closed : old.0 ≤ 1 → IfOk files (λ _. new ≡ old)
   pub ended : HasEnded b conn files
   pub failed : old.0 ≤ 1 → OnErr files

@@ -1,5 +1,5 @@
 -- Calls of the program over one file, one after another.
-use Rattle.std.specs.Prelude.{◌≤◌, ◌≡◌, ℕ, zero, suc, Bool, true, false, Result, Ok, Err, Option, Some, None, length, List, [], ◌∷◌, ◌++◌, All}
+use Rattle.std.specs.Prelude.{◌≤◌, ◌≡◌, ℕ, zero, suc, Bool, true, false, Result, Ok, Err, IfErr, Option, Some, None, length, List, [], ◌∷◌, ◌++◌, All}
 use Rattle.std.specs.List.{AllByRecursion}
 use Rattle.sqlite.specs.Held.{state, Held}
 use Rattle.sqlite.specs.State.{Opens}
@@ -70,8 +70,7 @@ module _ {S F L I W E : Type 0} {g : Ghosts S} {b : Backing (Held S) F L} {k : K
   NoneLost (by_command ran) = Unit {0}
   NoneLost (by_service served) = All WasWritten served.has.called.all
 
-module _ {S F L I W E : Type 0} {g : Ghosts S} (b : Backing (Held S) F L) (trees : List Object) (k : Keeping (Station S g))
-    (e : Ends I W E) where
+module _ {S F L I W E : Type 0} {g : Ghosts S} (b : Backing (Held S) F L) (k : Keeping (Station S g)) (e : Ends I W E) where
   -- A call of the program: it ran a command line over a connection to a file or served, and closed
   -- the file. Any fault may have ended it.
   pub record CallOn : Type 0 where
@@ -79,29 +78,40 @@ module _ {S F L I W E : Type 0} {g : Ghosts S} (b : Backing (Held S) F L) (trees
     pub line : Line
     pub end : FileEnd F L
     pub did : DidOver b k e line conn end
-    -- the premise that its run left these trees and no other
-    pub listed : b.listed trees (ran_in did).1
 
-module _ {S F L I W E : Type 0} {g : Ghosts S} {b : Backing (Held S) F L} {trees : List Object} {k : Keeping (Station S g)}
-    {e : Ends I W E} where
+module _ {S F L I W E : Type 0} {g : Ghosts S} {b : Backing (Held S) F L} {k : Keeping (Station S g)} {e : Ends I W E} where
   -- the result of its opening
-  abbrev pub opened_by : CallOn b trees k e → Result (Station S g) (Held S × AttachFault)
+  abbrev pub opened_by : CallOn b k e → Result (Station S g) (Held S × AttachFault)
   opened_by call = opened_in call.did
 
   -- the call makes a station, as `init` does
-  abbrev pub makes_station : CallOn b trees k e → Bool
+  abbrev pub makes_station : CallOn b k e → Bool
   makes_station call = is_new call.line.db call.line.command
 
-module _ {S F L I W E : Type 0} {g : Ghosts S} (b : Backing (Held S) F L) (trees : List Object) (k : Keeping (Station S g))
-    (e : Ends I W E) where
+  -- The disk returned what was written. If the log couldn't be copied, the store was opened by a list
+  -- in the order of its trees.
+  abbrev pub WasTrue : CallOn b k e → Type 0
+  WasTrue call = b.was_true call.end.files × ((ran_in call.did).0 ≤ 1 → IfErr call.end.files b.numbered)
+
+module _ {S F L I W E : Type 0} {g : Ghosts S} (b : Backing (Held S) F L) (k : Keeping (Station S g)) (e : Ends I W E) where
   -- a call that found a station or made it, and ran its command or served there
   pub record RunOn : Type 0 where
-    pub call : CallOn b trees k e
+    pub call : CallOn b k e
     pub station : Station S g
     pub found : opened_by call ≡ Ok station
 
+-- The inputs of a life are those of its call. A call that succeeded answered all of them; a service
+-- did if no write of an answer failed.
+pub record IsLifeOf {S F L I W E : Type 0} {g : Ghosts S} {b : Backing (Held S) F L} {k : Keeping (Station S g)} {e : Ends I W E}
+    (c : RunOn b k e) (life : Life) : Type 0 where
+  pub asked : AreInputsOf c.call.did life.inputs
+  pub whole : c.call.end.status ≤ 1 → NoneLost c.call.did
+      → (life.answered ≡ length life.inputs) × (life.ended ≡ None)
+
+module _ {S F L I W E : Type 0} {g : Ghosts S} (b : Backing (Held S) F L) (trees : List Object) (k : Keeping (Station S g))
+    (e : Ends I W E) where
   -- the call opened these two files by the list of their trees
-  pub record Reopens (call : CallOn b trees k e) : Type 0 where
+  pub record Reopens (call : CallOn b k e) : Type 0 where
     pub files : F
     pub opens : Opens (state g call.conn)
     pub finds : b.finds trees files call.conn
@@ -109,7 +119,7 @@ module _ {S F L I W E : Type 0} {g : Ghosts S} (b : Backing (Held S) F L) (trees
   -- A vain call: it found no station, or a fault stopped its opening; or it would have made a
   -- station where there is one.
   pub record VainOn : Type 0 where
-    pub call : CallOn b trees k e
+    pub call : CallOn b k e
     pub reopens : Reopens call
     pub none : Held S × AttachFault
     pub found : opened_by call ≡ Err none
@@ -118,7 +128,7 @@ module _ {S F L I W E : Type 0} {g : Ghosts S} (b : Backing (Held S) F L) (trees
   -- a run that found a station, after some vain calls
   pub record NextOn : Type 0 where
     pub vain : List VainOn
-    pub run : RunOn
+    pub run : RunOn b k e
     pub reopens : Reopens run.call
     pub old : makes_station run.call ≡ false
 
@@ -133,23 +143,16 @@ module _ {S F L I W E : Type 0} {g : Ghosts S} {b : Backing (Held S) F L} {trees
 
   -- Calls over one file, each after some vain ones. Each finds in the files what the one before
   -- it may have left there: nobody else wrote to them.
-  abbrev pub AreCallsOn : RunOn b trees k e → List (NextOn b trees k e) → Type 0
-  AreCallsOn c [] = b.was_true c.call.end.files
-  AreCallsOn c (d ∷ ds) = b.was_true c.call.end.files × AreVain c.call.end.files d.vain d.reopens.files × AreCallsOn d.run ds
+  abbrev pub AreCallsOn : RunOn b k e → List (NextOn b trees k e) → Type 0
+  AreCallsOn c [] = WasTrue c.call
+  AreCallsOn c (d ∷ ds) = WasTrue c.call × AreVain c.call.end.files d.vain d.reopens.files × AreCallsOn d.run ds
 
-  abbrev pub last_of : RunOn b trees k e → List (NextOn b trees k e) → RunOn b trees k e
+  abbrev pub last_of : RunOn b k e → List (NextOn b trees k e) → RunOn b k e
   last_of c [] = c
   last_of c (d ∷ ds) = last_of d.run ds
 
-  -- The inputs of a life are those of its call. A call that succeeded answered all of them; a
-  -- service did if no write of an answer failed.
-  pub record IsLifeOf (c : RunOn b trees k e) (life : Life) : Type 0 where
-    pub asked : AreInputsOf c.call.did life.inputs
-    pub whole : c.call.end.status ≤ 1 → NoneLost c.call.did
-        → (life.answered ≡ length life.inputs) × (life.ended ≡ None)
-
   -- the lives of the calls except the last one
-  abbrev pub AreLivesOf : RunOn b trees k e → List (NextOn b trees k e) → List Life → Type 0
+  abbrev pub AreLivesOf : RunOn b k e → List (NextOn b trees k e) → List Life → Type 0
   AreLivesOf c (d ∷ ds) (life ∷ lives) = IsLifeOf c life × AreLivesOf d.run ds lives
   AreLivesOf c [] [] = Unit {0}
   AreLivesOf _ _ _ = ⊥
@@ -182,7 +185,7 @@ pub record IsAfterCalls (first : State) (lives : List Life) (last : State) : Typ
 
 -- the state of the last call's station, and the lives before it
 pub record HaveLed {S F L I W E : Type 0} {g : Ghosts S} {b : Backing (Held S) F L} {trees : List Object} {k : Keeping (Station S g)}
-    {e : Ends I W E} (first : State) (c : RunOn b trees k e) (calls : List (NextOn b trees k e)) : Type 0 where
+    {e : Ends I W E} (first : State) (c : RunOn b k e) (calls : List (NextOn b trees k e)) : Type 0 where
   pub last : State
   pub kept : k.keeps (last_of c calls).station last
   pub lives : List Life
@@ -194,6 +197,6 @@ pub record HaveLed {S F L I W E : Type 0} {g : Ghosts S} {b : Backing (Held S) F
 abbrev pub CallsLead : {S F L I W E : Type 0} {g : Ghosts S} → Backing (Held S) F L → Keeping (Station S g) → Ends I W E
     → Type 0
 CallsLead b k e =
-    (trees : List Object) (first : State) (run : RunOn b trees k e) (runs : List (NextOn b trees k e))
+    (trees : List Object) → b.lists trees → (first : State) (run : RunOn b k e) (runs : List (NextOn b trees k e))
     → IsLawfulState first → k.keeps run.station first → k.is_sound run.station → AreCallsOn run runs
     → ∥ HaveLed first run runs ∥₁

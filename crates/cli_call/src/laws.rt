@@ -59,7 +59,8 @@ pub fn calls_over_file_law<D: Disk + Drop, I: Inputs + Read, W: ByteOut, E: Byte
     files_lead_on::<D>();
 }
 
-/// The same over a file of which the trees of a list are shown, if each call leaves these trees.
+/// The same over a file of which the trees of a list are shown, if the list names the trees of a
+/// station.
 pub fn calls_beside_law<D: Disk + Drop, I: Inputs + Read, W: ByteOut, E: ByteOut>()
     ensures { CallsLead (own_files D.Disk ⟦<OwnTrees<FileStore<D>> as Store>⟧)
         ⟦<Station<OwnTrees<FileStore<D>>> as Keeper>⟧.keeping

@@ -1,5 +1,6 @@
 mod ByList
 mod Ended
+mod EntryNames
 mod Once
 mod Opened
 mod OwnFiles
@@ -7,4 +8,6 @@ mod OwnListing
 mod OwnReading
 mod Owning
 mod SameReading
+mod StationRows
+mod StationTrees
 mod Unstarted

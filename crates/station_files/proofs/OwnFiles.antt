@@ -1,5 +1,9 @@
 -- What files hold of the trees of a list: found at an opening, and left by a crash and by a close.
-use Rattle.std.proofs.Common.{◌≡◌, ◌≢◌, ◌<◌, ◌%◌, ℕ, List, length, map, get_or, take, refl, sym, ap, subst, ◌∙◌}
+use Rattle.std.proofs.Common.{◌≡◌, ◌≢◌, ◌<◌, ◌%◌, ℕ, List, length, map, get_or, take, refl, sym, ap, subst, subst₂, ◌∙◌}
+use Rattle.std.specs.Coded.{coded_list}
+use base.Stored.{Coded-set}
+use Rattle.sqlite_value.specs.contracts.row.Row as row
+use Rattle.sqlite_catalog.specs.Listing.{Lists}
 use Rattle.sqlite_disk.specs.declared.Disk.{Ghosts}
 use Rattle.sqlite_disk.specs.declared.Files.{Files}
 use Rattle.std.proofs.Math.Logic.{∥∥₁_elim, ∥∥₁_map}
@@ -15,6 +19,7 @@ use Rattle.sqlite_trees.specs.Objects.{catalog_tree}
 use Rattle.sqlite_trees.specs.Tree.{Trees}
 use Rattle.sqlite_trees.specs.declared.schema.Object.{Object}
 use Rattle.sqlite_store.specs.Catalog.{wanted_of}
+use Rattle.sqlite_store.specs.Db.{IsFile}
 use Rattle.sqlite_store.specs.FileStore.{log_frames, reading, schema_in, state, view}
 use Rattle.sqlite_store.specs.Laws.{stays_at}
 use Rattle.sqlite_store.specs.Saved.{kept_schema}
@@ -25,6 +30,8 @@ use Rattle.sqlite_store.specs.Listing.{file_trees, listed_from, read_by}
 use Rattle.sqlite_store.specs.declared.store.FileStore.{FileStore}
 use Rattle.sqlite.specs.Files.{image_of}
 use Rattle.sqlite.specs.State.{State}
+use Rattle.station_schema.specs.Own.{IsOwn}
+use Rattle.station_schema.specs.Schema.{station_schema}
 use Rattle.station_files.specs.Beside.{AreBeside}
 use Rattle.station_files.specs.ByList.{HoldsByList, HoldsOwn, HoldsPages, IsListedBy}
 use Rattle.station_files.specs.Own.{own_trees, rows_from}
@@ -32,6 +39,8 @@ use Rattle.station_files.specs.OwnFiles.{may_leave_own, FindsOwn, HoldsOwnAlone,
 use Rattle.station_files.proofs.ByList.{in_any_order}
 use Rattle.station_files.proofs.OwnReading.{own_reading}
 use Rattle.station_files.proofs.SameReading.{same_reading}
+use Rattle.station_files.proofs.StationTrees.{same_rows}
+use Rattle.station_files.specs.StationTrees.{ListsStation}
 
 -- what files with these pages hold by this list, all of it or some of its trees, is what the pages read as by it
 module _ (image : Image) (objects : List Object) (size : ℕ) (pages : PageMap) (plain : size % 16 ≢ 8) (found : Recovers size image pages)
@@ -64,10 +73,24 @@ module _ {D : Type 0} {g : Ghosts D} (files : Files D) (objects : List Object) (
   pub reads_own : own_trees numbers (view it).trees ≡ read_by r.size (take made objects) (state it).committed
   reads_own = ap (own_trees numbers) r.reads ∙ own_reading r.size numbers few low r.wanted (map wanted_of (take made objects)) (state it).committed in_file.lists
 
+  -- a database of a station has the trees of a list that names these
+  station_listed : ListsStation (take made objects) → (db : Trees) (held : HoldsOwn (image_of g files) db) → IsOwn db → IsListedBy (take made objects) db
+  station_listed names db held own =
+      let size = r.size in
+      let same = r.sized held.size (record { valid = held.valid; pages = held.pages; found = held.found; sound = held.ours.file.sound }) in
+      let pages : held.pages ≡ (state it).committed =
+      recovers_once size (image_of g files) held.pages (state it).committed (plain_adopts size (image_of g files) held.pages r.plain (subst (λ n. Adopts n (image_of g files) held.pages) same held.found)) r.found in
+      let theirs : IsFile size held.wanted (state it).committed = subst₂ (λ n p. IsFile n held.wanted p) same pages held.ours.file in
+      let listing : db catalog_tree ≡ rows_from 0 held.numbers (listed_from 0 held.wanted) =
+      ap (λ (t : Trees). t catalog_tree) held.reads ∙ ap (rows_from 0 held.numbers) (catalog_rows held.size held.wanted _) in
+      let sound = subst (λ rows. Lists rows station_schema) listing (subst (Lists (db catalog_tree)) (own.only held.schema held.sound) held.sound.lists) in
+      ∥∥₁_elim r.ours (Coded-set (coded_list row.the_row.coded) _ _) (λ ours. listing ∙ same_rows size (state it).committed r.wanted held.wanted ours.file theirs (take made objects) names numbers held.numbers low held.low in_file.lists sound)
+
   pub finds_own : (s : State) → s.committed.trees ≡ own_trees numbers (view it).trees → FindsOwn g files objects made s
   finds_own s shown =
       let reads = shown ∙ reads_own in
       let own = take made objects in
+      let by_list = λ (db : Trees) (held : HoldsOwn (image_of g files) db) (listed : IsListedBy own db). reads ∙ held_own (image_of g files) own r.size (state it).committed r.plain r.found r.sized db held listed in
       record {
         honest = r.honest;
         size = r.size;
@@ -79,7 +102,8 @@ module _ {D : Type 0} {g : Ghosts D} (files : Files D) (objects : List Object) (
         ours = r.ours;
         reads = reads;
         holds = λ db held listed. reads ∙ held_by_list (image_of g files) own r.size (state it).committed r.plain r.found r.sized db held listed;
-        holds_own = λ db held listed. reads ∙ held_own (image_of g files) own r.size (state it).committed r.plain r.found r.sized db held listed;
+        holds_own = by_list;
+        holds_station = λ names db held is. by_list db held (station_listed names db held is);
       }
 
 module _ {D : Type 0} {g : Ghosts D} (it : FileStore D g) (numbers : List ℕ) (few : length numbers < 65536) (low : (t : ℕ) → t < length numbers → get_or numbers t 0 < 65536)

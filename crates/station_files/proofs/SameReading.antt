@@ -33,7 +33,7 @@ same_root w present [] = refl
 same_root w present (entry ∷ entries) = rw (present, same_root w present entries)
 
 module _ (entries : List Row) where
-  root_at : (from : ℕ) (schema : List Wanted) (at t : ℕ) → t ≡ from + at → is_present (shape_at schema at) ≡ true → get_or (map (root_in entries) schema) at 0 ≡ root_of_row entries (row_for (listed_from from schema) t)
+  pub root_at : (from : ℕ) (schema : List Wanted) (at t : ℕ) → t ≡ from + at → is_present (shape_at schema at) ≡ true → get_or (map (root_in entries) schema) at 0 ≡ root_of_row entries (row_for (listed_from from schema) t)
   root_at from [] at t is present = absurd (cc)
   root_at from (w ∷ schema) zero t is present = let same : t ≡ from = omega arith in rw same (go w.shape present (same_root w present entries))
     where

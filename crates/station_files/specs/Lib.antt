@@ -9,3 +9,4 @@ pub mod OwnFiles
 pub mod OwnLaws
 pub mod OwnRows
 pub mod Spared
+pub mod StationTrees

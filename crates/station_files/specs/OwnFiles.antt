@@ -20,10 +20,12 @@ use Rattle.sqlite.specs.State.{State, HasCleanDisk}
 use Rattle.sqlite.specs.Steps.{IsFresh}
 use Rattle.sqlite.specs.declared.file.Leftover.{Leftover}
 use Rattle.sqlite.specs.declared.file.Leftover.TheVariants as left
+use Rattle.station_schema.specs.Own.{IsOwn}
 use Rattle.station_files.specs.Beside.{AreBeside}
 use Rattle.station_files.specs.ByList.{HoldsByList, HoldsOwn, HoldsPages, IsListedBy}
 use Rattle.station_files.specs.Own.{as_numbered, own_trees}
 use Rattle.station_files.specs.Spared.{SparesFiles}
+use Rattle.station_files.specs.StationTrees.{ListsStation}
 
 -- both files together hold the database in this way, and so does the database file without a log
 pub record HoldsOwnAlone (image : Image) (db : Trees) : Type 0 where
@@ -32,7 +34,7 @@ pub record HoldsOwnAlone (image : Image) (db : Trees) : Type 0 where
 
 -- The files recover to the pages of a sound file of the first trees of a list and of others, which
 -- belong to other tables. The last commit is what the pages mean, read only for the trees of this
--- list.
+-- list; it is the only database that these list, or of a station, if they name its trees.
 pub record FindsOwn {D : Type 0} (g : Ghosts D) (files : Files D) (objects : List Object) (made : ℕ) (s : State) : Type 0 where
   pub honest : AreClean g files.log files.db
   pub size : ℕ
@@ -45,6 +47,7 @@ pub record FindsOwn {D : Type 0} (g : Ghosts D) (files : Files D) (objects : Lis
   pub reads : s.committed.trees ≡ read_by size (take made objects) pages
   pub holds : (db : Trees) → HoldsByList (image_of g files) db → IsListedBy (take made objects) db → s.committed.trees ≡ db
   pub holds_own : (db : Trees) → HoldsOwn (image_of g files) db → IsListedBy (take made objects) db → s.committed.trees ≡ db
+  pub holds_station : ListsStation (take made objects) → (db : Trees) → HoldsOwn (image_of g files) db → IsOwn db → s.committed.trees ≡ db
 
 -- the last commit is in the database file, read by its list for the trees that are shown, now and
 -- after a crash

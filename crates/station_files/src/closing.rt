@@ -10,7 +10,7 @@ use sqlite_trees::store::Store;
 
 /// A connection over files. They are closed as `F`, or left behind in a store `L`.
 pub trait FileBacked<F, L> {
-    ghost use Rattle.station_files.specs.Backing.{Backing, HasEnded};
+    ghost use Rattle.station_files.specs.Backing.{Backing, HasEnded, IsGivenBack};
 
     /// The files as contracts see them: whether their disk returned what was written, what they
     /// hold once closed, and what a store that is left may leave.
@@ -26,7 +26,7 @@ pub trait FileBacked<F, L> {
     /// Rolls back and returns the store, without copying the log. Its crash states are among those
     /// of the connection.
     fn give_back(self) -> L
-        ensures { backing.left self result };
+        ensures { IsGivenBack backing self result };
 }
 
 impl<D: Disk + Drop> FileBacked<Files<D>, FileStore<D>> for Connection<FileStore<D>> {

@@ -1,5 +1,8 @@
 //! The trees of a station's file: the tables and the indexes that `init` makes, in order.
 
+ghost use Rattle.std.specs.Prelude.{◌≡◌};
+ghost use Rattle.station_files.specs.StationTrees.{name_of, ListsStation};
+
 use sqlite_trees::schema::Object;
 use sqlite_trees::store::Shape;
 use sqlite_value::keys::Order;
@@ -11,7 +14,9 @@ use station_schema::declarations::{
 /// The number of trees in a file of version 1: the first ones.
 pub const OLD_TREES: usize = 22;
 
-fn table(name: &'static str, sql: &'static str) -> Object<'static> {
+fn table(name: &'static str, sql: &'static str) -> Object<'static>
+    ensures { name_of result ≡ (name.now, 1, 0) }
+{
     Object {
         shape: Shape::Table,
         kind: "table",
@@ -23,7 +28,9 @@ fn table(name: &'static str, sql: &'static str) -> Object<'static> {
 }
 
 /// Returns an index of a table, with its text, or without one for the index of a key.
-fn index(name: &'static str, table: &'static str, sql: Option<&'static str>) -> Object<'static> {
+fn index(name: &'static str, table: &'static str, sql: Option<&'static str>) -> Object<'static>
+    ensures { name_of result ≡ (name.now, 2, 0) }
+{
     Object {
         shape: Shape::Index(Order::PLAIN),
         kind: "index",
@@ -35,7 +42,9 @@ fn index(name: &'static str, table: &'static str, sql: Option<&'static str>) -> 
 }
 
 /// Returns the trees, each with the text by which `init` declares it.
-pub fn station_trees() -> [Object<'static>; 23] {
+pub fn station_trees() -> [Object<'static>; 23]
+    ensures { ListsStation result }
+{
     [
         table("station", STATION),
         table("waybill", WAYBILL),

@@ -4,6 +4,7 @@ use Rattle.cli_call.proofs.closing.close_file.Goals as goal
 pub returns-in-Ok : goal.returns-in-Ok
 returns-in-Ok g c = record {
   stopped = search rules;
+  numbered = search rules;
   closed = search rules;
   ended = search rules;
   failed = search rules;
