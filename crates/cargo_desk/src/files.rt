@@ -1,6 +1,7 @@
 //! The file of a station.
 
 use cli_call::DeskFault;
+use cli_run::RunFault;
 use sqlite::{Connection, Error, ErrorCode, File, FileStore, Options, Unknown};
 use sqlite_wal::PageSize;
 use station_files::{OLD_TREES, OwnTrees, open_beside, open_listed, open_new, station_trees};
@@ -8,7 +9,6 @@ use station_tables::AttachFault;
 use std::hash::{BuildHasher, RandomState};
 use std::io::{ErrorKind, Read};
 use std::{fs, io};
-use stock_list::RunFault;
 
 /// The page size of a new file in bytes. The library's default is 4,096, but a commit logs each
 /// changed page in full.

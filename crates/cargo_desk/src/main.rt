@@ -7,7 +7,7 @@ mod task;
 mod telegram_files;
 
 use cli_call::{DeskFault, Service, version_line};
-use cli_run::run_read;
+use cli_run::{RunFault, run_read};
 use cli_words::{Line, LineCommand, WordsFault, parse_words, usage_fault};
 use client::ask_port;
 use desk_server::{Setting, Zone, listen, moment_now};
@@ -18,7 +18,6 @@ use std::fs::File;
 use std::io::{ErrorKind, Stdin};
 use std::process::ExitCode;
 use std::{env, io};
-use stock_list::RunFault;
 use task::{Task, end_call, faulted, run_over};
 use telegram_files::{Telegrams, owned_paths, tell_unread};
 

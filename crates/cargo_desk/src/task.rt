@@ -5,7 +5,7 @@ use cli_call::{
     DeskFault, FileEnd, Service, end, run_file, run_gathered, serve_file, serve_kept,
     tell_undeclared,
 };
-use cli_run::{Feed, airport_of_line, is_migration, is_opening};
+use cli_run::{Feed, RunFault, airport_of_line, is_migration, is_opening};
 use cli_words::Line;
 use sqlite::{Alter, Connection};
 use state_store::MapState;
@@ -13,7 +13,6 @@ use station_core::{ByteOut, Counted, InputReader, Keeper};
 use station_days::Moment;
 use station_engine::StoredStation;
 use station_files::FileBacked;
-use stock_list::RunFault;
 
 /// The task of a command line.
 #[derive(Drop)]

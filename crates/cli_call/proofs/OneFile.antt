@@ -27,7 +27,7 @@ use Rattle.station_tables.specs.Lives.{Life, AreCounted, AreLives, Counts, in_or
 use Rattle.station_tables.specs.declared.fault.AttachFault.{AttachFault}
 use Rattle.station_tables.specs.declared.fault.AttachFault.TheVariants as attach
 use Rattle.station_tables.specs.declared.station.Station.{Station}
-use Rattle.stock_list.specs.declared.answer.RunFault.{RunFault}
+use Rattle.cli_run.specs.declared.fault.RunFault.{RunFault}
 use Rattle.cli_words.specs.declared.line.LineCommand.{LineCommand}
 use Rattle.cli_run.specs.Done.{HasDone}
 use Rattle.cli_run.specs.Ends.{reached, Ends, Reached}

@@ -8,7 +8,7 @@ use Rattle.station_core.specs.Keeping.{Keeping}
 use Rattle.station_days.specs.Date.{LocalMinute}
 use Rattle.station_files.specs.Backing.{Backing, HasEnded}
 use Rattle.station_tables.specs.declared.station.Station.{Station}
-use Rattle.stock_list.specs.declared.answer.RunFault.TheVariants as run
+use Rattle.cli_run.specs.declared.fault.RunFault.TheVariants as run
 use Rattle.cli_words.specs.declared.line.Line.{Line}
 use Rattle.cli_run.specs.Ends.{Ends, Reached}
 use Rattle.cli_call.specs.declared.closing.FileEnd.{FileEnd}

@@ -3,8 +3,8 @@ use Rattle.std.specs.Prelude.{◌≡◌, ℕ, Bool, true, false, List, ◌++◌,
 use Rattle.std.specs.Fmt.{signed_decimal}
 use Rattle.table_audits.specs.Names.{name_text}
 use Rattle.station_core.specs.Given.{Given}
-use Rattle.stock_list.specs.declared.answer.RunFault.{RunFault}
-use Rattle.stock_list.specs.declared.answer.RunFault.TheVariants as run
+use Rattle.cli_run.specs.declared.fault.RunFault.{RunFault}
+use Rattle.cli_run.specs.declared.fault.RunFault.TheVariants as run
 use Rattle.station_tables.specs.declared.fault.AttachFault.{AttachFault}
 use Rattle.station_tables.specs.declared.fault.AttachFault.TheVariants as attach
 use Rattle.station_core.specs.Ends.{SendsLine}

@@ -3,7 +3,7 @@ use Rattle.std.specs.Prelude.{◌≡◌, ℕ, Bool, false, Result, List}
 use Rattle.station_days.specs.Date.{LocalMinute}
 use Rattle.station_core.specs.Keeping.{Keeping}
 use Rattle.station_core.specs.Step.{State}
-use Rattle.stock_list.specs.declared.answer.RunFault.{RunFault}
+use Rattle.cli_run.specs.declared.fault.RunFault.{RunFault}
 use Rattle.cli_words.specs.declared.line.LineCommand.{LineCommand}
 use Rattle.cli_run.specs.Done.{HasDone}
 use Rattle.cli_run.specs.Ends.{Ends, Reached}

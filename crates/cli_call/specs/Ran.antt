@@ -6,8 +6,8 @@ use Rattle.station_days.specs.Date.{LocalMinute}
 use Rattle.station_tables.specs.declared.fault.AttachFault.{AttachFault}
 use Rattle.station_tables.specs.declared.station.Station.{Station}
 use Rattle.station_tables.specs.Called.{HasReleased}
-use Rattle.stock_list.specs.declared.answer.RunFault.{RunFault}
-use Rattle.stock_list.specs.declared.answer.RunFault.TheVariants as fault
+use Rattle.cli_run.specs.declared.fault.RunFault.{RunFault}
+use Rattle.cli_run.specs.declared.fault.RunFault.TheVariants as fault
 use Rattle.cli_words.specs.declared.line.Line.{Line}
 use Rattle.cli_run.specs.Done.{HasDone}
 use Rattle.station_core.specs.Ends.{NoneFailed, OneFailed}

@@ -10,7 +10,7 @@ use Rattle.station_files.specs.Backing.{Backing}
 use Rattle.station_tables.specs.declared.fault.AttachFault.{AttachFault}
 use Rattle.station_tables.specs.declared.station.Station.{Station}
 use Rattle.station_tables.specs.Called.{HasReleased}
-use Rattle.stock_list.specs.declared.answer.RunFault.TheVariants as run
+use Rattle.cli_run.specs.declared.fault.RunFault.TheVariants as run
 use Rattle.cli_words.specs.declared.line.Line.{Line}
 use Rattle.cli_run.specs.Ends.{reached, Reached}
 use Rattle.cli_run.specs.Place.{here_of, is_new}

@@ -4,7 +4,7 @@ ghost use Rattle.cli_run.specs.Ends.{ends, reached};
 
 use crate::ended::{DeskFault, end};
 use crate::run::run_line;
-use cli_run::Inputs;
+use cli_run::{Inputs, RunFault};
 use cli_words::Line;
 use sqlite::{Alter, Connection};
 use station_core::{ByteOut, Keeper};
@@ -14,7 +14,6 @@ use station_schema::has_station;
 use station_tables::Station;
 use std::alloc::Global;
 use std::io::Read;
-use stock_list::RunFault;
 
 /// The end of a call over a file.
 #[derive(Drop)]

@@ -4,13 +4,12 @@ ghost use Rattle.cli_call.specs.Ended.{attach_status, run_ended, run_line, statu
 ghost use Rattle.cli_run.specs.Ends.{reached};
 ghost use Rattle.cli_call.specs.Service.{HasWarned};
 
-use cli_run::{tell_line, tell_word};
+use cli_run::{RunFault, tell_line, tell_word};
 use cli_words::Line;
 use itoa::Buffer;
 use sqlite::{Alter, Connection};
 use station_core::ByteOut;
 use station_tables::AttachFault;
-use stock_list::RunFault;
 
 /// The warning about a file whose tables aren't declared as `init` declares them.
 const UNDECLARED: &str =

@@ -3,12 +3,11 @@ ghost use Rattle.cli_run.specs.Ends.{reached};
 ghost use Rattle.cli_call.specs.Migrated.{HasEndedMigration, HasMigrated, HasToldMoved, HasToldVersion};
 
 use crate::ended::{end_run, refuse_line};
-use cli_run::send_part;
+use cli_run::{RunFault, send_part};
 use sqlite::{Alter, Connection};
 use station_core::ByteOut;
 use station_tables::{AttachFault, migrate};
 use std::alloc::Global;
-use stock_list::RunFault;
 
 /// Writes the line of a file that is of version 2 now.
 fn tell_version<W: ByteOut>(output: &mut W) -> Result<bool, RunFault>

@@ -5,7 +5,7 @@ ghost use Rattle.cli_call.specs.Ran.{HasCalled, HasCalledStation, HasEndedCall, 
 
 use crate::ended::{end_run, refuse_line};
 use crate::migrating::run_migrate;
-use cli_run::{Inputs, is_migration, run_over};
+use cli_run::{Inputs, RunFault, Watched, is_migration, run_over};
 use cli_words::Line;
 use line_opening::open_station;
 use sqlite::{Alter, Connection};
@@ -14,7 +14,6 @@ use station_days::Moment;
 use station_tables::{AttachFault, Station};
 use std::alloc::Global;
 use std::io::Read;
-use stock_list::{RunFault, Watched};
 
 /// Runs the command of a command line over a keeper, at a moment: every command except `migrate`
 /// and `serve`. Returns the exit status.

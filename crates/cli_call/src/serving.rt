@@ -6,7 +6,7 @@ ghost use Rattle.cli_call.specs.Service.{server_fault, HasEndedService, HasListe
 use crate::closing::{FileEnd, close_file};
 use crate::ended::{DeskFault, end, refuse_line, tell_undeclared};
 use crate::filling::fill_lists;
-use cli_run::send_part;
+use cli_run::{RunFault, send_part};
 use cli_words::Line;
 use desk_server::{ServerFault, Setting, serve};
 use line_opening::open_station;
@@ -17,7 +17,6 @@ use station_schema::has_station;
 use station_tables::{AttachFault, Station};
 use std::net::{Net, TcpListener};
 use std::time::Clock;
-use stock_list::RunFault;
 
 /// A service: all or `count` of the connections of a listening socket, in a setting.
 #[derive(Drop)]

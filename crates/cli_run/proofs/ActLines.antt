@@ -3,7 +3,7 @@ use Rattle.std.proofs.Common.{◌≡◌, ◌∙◌, ℕ, suc, List, [], ◌∷�
 use Rattle.std.specs.Prelude.{option_map}
 use Rattle.std.specs.Option.{option_and_then}
 use Rattle.std.specs.declared.alloc.Global.{Global}
-use Rattle.serde_json.specs.Data.{Data, null, boolean, number, string, array, object}
+use Rattle.serde_json.specs.Data.{Data, string}
 use Rattle.serde_json.specs.Find.{as_object, as_str}
 use Rattle.serde_json.specs.View.{members_view}
 use Rattle.serde_json.specs.declared.value.Value.{Value}
@@ -17,20 +17,10 @@ pub counted : (ms : List (String Global × Value)) (d : Data) (k : ℕ) → Some
 counted ms d k e len = ap (option_map members_len) (sym e) ∙ ap (λ (n : ℕ). Some n) (len_of ms ∙ sym len)
 
 str_of : (d : Data) (text : List ℕ) → as_str d ≡ Some text → d ≡ string text
-str_of null text is = cc
-str_of (boolean b) text is = cc
-str_of (number n) text is = cc
 str_of (string s) text is = let same : s ≡ text = cc in ap string same
-str_of (array ds) text is = cc
-str_of (object ms) text is = cc
+str_of _ text is = cc
 
 -- a member that is a text
 pub text_of : (o : Option Data) (text : List ℕ) → Some text ≡ option_and_then as_str o → o ≡ Some (string text)
 text_of None text is = cc
 text_of (Some d) text is = ap (λ (x : Data). Some x) (str_of d text (sym is))
-
-pub text_is : (o : Option Data) (got text : List ℕ) → Some got ≡ option_and_then as_str o → o ≡ Some (string text) → got ≡ text
-text_is o got text got_is is = let both : Some got ≡ Some text = got_is ∙ ap (option_and_then as_str) is in cc
-
-pub no_text : (o : Option Data) (text : List ℕ) → None ≡ option_and_then as_str o → o ≡ Some (string text) → ⊥
-no_text o text none is = let both : ◌≡◌ {A = Option (List ℕ)} None (Some text) = none ∙ ap (option_and_then as_str) is in cc

@@ -4,29 +4,29 @@ use Rattle.std.proofs.lemmas.List.{append-nil, append_assoc}
 use Rattle.station_days.specs.Date.{LocalMinute}
 use Rattle.station_core.specs.Given.{Given}
 use Rattle.station_core.specs.Step.{State}
-use Rattle.stock_list.specs.declared.answer.RunFault.{RunFault}
+use Rattle.cli_run.specs.declared.fault.RunFault.{RunFault}
 use Rattle.cli_run.specs.Acts.{HasAnsweredLine}
 use Rattle.cli_run.specs.ActsLaw.{acts_lines, AreAsked, HasRunActs}
-use Rattle.cli_run.specs.Asked.{asked_after}
+use Rattle.cli_run.specs.Requests.{asked_after}
 use Rattle.station_core.specs.Keeping.{Keeping}
-use Rattle.stock_list.specs.Come.{Come}
-use Rattle.stock_list.specs.InTurn.{AreAnswered}
+use Rattle.cli_run.specs.Ends.{Call}
+use Rattle.cli_run.specs.InTurn.{AreAnswered}
 use Rattle.cli_run.proofs.Ran.{lines_serve}
 
 module _ {K E : Type 0} (k : Keeping K) (at : LocalMinute) (taken : E → Given) where
-  abbrev Line : ℕ → List ℕ → Come K E → Come K E → Result Bool RunFault → Type 0
+  abbrev Line : ℕ → List ℕ → Call K E → Call K E → Result Bool RunFault → Type 0
   Line = HasAnsweredLine k at taken
 
-  sound_before : (n : ℕ) (lines : List (List ℕ)) (old new : Come K E) (good : Bool) → AreAnswered Line n lines old new good → k.is_sound new.keeper → k.is_sound old.keeper
+  sound_before : (n : ℕ) (lines : List (List ℕ)) (old new : Call K E) (good : Bool) → AreAnswered Line n lines old new good → k.is_sound new.keeper → k.is_sound old.keeper
   sound_before n lines old new good are h = let service = lines_serve k at taken n lines old new good (Ok good) are in service.premise.sound h
 
-  pub run_of_lines : (n : ℕ) (lines : List (List ℕ)) (old new : Come K E) (good : Bool) → AreAnswered Line n lines old new good
+  pub run_of_lines : (n : ℕ) (lines : List (List ℕ)) (old new : Call K E) (good : Bool) → AreAnswered Line n lines old new good
       → (s : State) → k.keeps old.keeper s → k.is_broken old.keeper ≡ false → k.is_sound new.keeper → HasRunActs n s at lines old.sent.bytes new.sent.bytes (k.keeps new.keeper) good
   run_of_lines n [] old new good (same, all) s kept works sound = record {
     asked = [];
     are = refl;
-    written = ap (λ (c : Come K E). c.sent.bytes) same ∙ sym (append-nil old.sent.bytes);
-    state = subst (λ (c : Come K E). k.keeps c.keeper s) (sym same) kept;
+    written = ap (λ (c : Call K E). c.sent.bytes) same ∙ sym (append-nil old.sent.bytes);
+    state = subst (λ (c : Call K E). k.keeps c.keeper s) (sym same) kept;
     good_is = all;
   }
   run_of_lines n (line ∷ lines) old new good (mid, (one, rest, step, more, all)) s kept works sound =
@@ -35,12 +35,12 @@ module _ {K E : Type 0} (k : Keeping K) (at : LocalMinute) (taken : E → Given)
       go : Line n line old mid (Ok one) → ((t : State) → k.keeps mid.keeper t → k.is_broken mid.keeper ≡ false → HasRunActs (n + 1) t at lines mid.sent.bytes new.sent.bytes (k.keeps new.keeper) rest) → k.is_sound mid.keeper
           → HasRunActs n s at (line ∷ lines) old.sent.bytes new.sent.bytes (k.keeps new.keeper) good
       go (inl skipped) later mid_sound =
-          let r = later s (subst (λ (c : Come K E). k.keeps c.keeper s) (sym skipped.same) kept) (ap (λ (c : Come K E). k.is_broken c.keeper) skipped.same ∙ works) in
+          let r = later s (subst (λ (c : Call K E). k.keeps c.keeper s) (sym skipped.same) kept) (ap (λ (c : Call K E). k.is_broken c.keeper) skipped.same ∙ works) in
           let is : one ≡ true = let e = skipped.good in cc in
           record {
             asked = r.asked;
             are = inl (skipped.blank, r.are);
-            written = r.written ∙ ap (λ (c : Come K E). c.sent.bytes ++ acts_lines s r.asked at) skipped.same;
+            written = r.written ∙ ap (λ (c : Call K E). c.sent.bytes ++ acts_lines s r.asked at) skipped.same;
             state = r.state;
             good_is = all ∙ ap (λ b. b && rest) is ∙ r.good_is;
           }

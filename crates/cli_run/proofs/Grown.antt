@@ -22,11 +22,11 @@ grown_more a b d xs ys first more =
       idle = at_most a.idle b.idle d.idle first.idle more.idle;
     }
 
-pub has_come : (a d : Given) (ys : List ℕ) → HasGrown a d [] ys → (a.idle < d.idle) ⊎ (most_bytes < length ys) → HasCome a d ys
-has_come a d ys grown whole = record {
+pub has_come : (most : ℕ) (a d : Given) (ys : List ℕ) → HasGrown a d [] ys → (a.idle < d.idle) ⊎ (most < length ys) → HasCome most a d ys
+has_come most a d ys grown ended = record {
   given = grown.given ∙ ap (λ l. a.bytes ++ l) (sym grown.bytes);
   failures = grown.failures;
-  whole = whole;
+  ended = ended;
 }
 
 -- one read brings no more than it has room for

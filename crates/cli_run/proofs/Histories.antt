@@ -3,8 +3,8 @@ use Rattle.std.proofs.Common.{◌≡◌, ◌∙◌, refl, subst, sym, ℕ, Bool,
 use Rattle.station_core.specs.Given.{Given}
 use Rattle.station_core.specs.Step.{State}
 use Rattle.station_core.specs.declared.rows.Waybill.{Waybill}
-use Rattle.stock_list.specs.declared.answer.RunFault.{RunFault}
-use Rattle.stock_list.specs.declared.answer.RunFault.TheVariants as fault
+use Rattle.cli_run.specs.declared.fault.RunFault.{RunFault}
+use Rattle.cli_run.specs.declared.fault.RunFault.TheVariants as fault
 use Rattle.cli_run.specs.History.{HasToldHistory}
 use Rattle.cli_run.specs.Looked.{HasToldFound}
 

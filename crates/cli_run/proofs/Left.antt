@@ -1,6 +1,5 @@
 -- What each command leaves is the state after some of what it asks.
 use Rattle.std.proofs.Common.{◌≡◌, ◌⊎◌, ℕ, zero, suc, ◌+◌, Bool, false, inl, inr, Ok, Err, Result, Option, Some, None, List, [], ◌∷◌, ◌++◌, length, refl, sym, ap, subst, ◌∙◌, arith, ⊎_elim}
-use Rattle.std.specs.Prelude.{OnOk}
 use Rattle.std.specs.List.{AllByRecursion}
 use Rattle.std.proofs.Math.Seq.{take-append_seam, take-append-add, take-length}
 use Rattle.std.proofs.lemmas.List.{length-append}
@@ -10,32 +9,30 @@ use Rattle.station_core.specs.Given.{Given}
 use Rattle.station_core.specs.declared.input.Input.{Input}
 use Rattle.station_core.specs.Keeping.{Keeping, OnlyReads}
 use Rattle.station_core.specs.Step.{State, step, after_all}
-use Rattle.stock_list.specs.declared.answer.RunFault.{RunFault}
-use Rattle.stock_list.specs.declared.answer.RunFault.TheVariants as fault
-use Rattle.stock_list.specs.Ended as rows
-use Rattle.stock_list.specs.Law.{asked_inputs, inputs_of}
-use Rattle.stock_list.specs.Lines.{input_of, Row, rows_after, row_after}
-use Rattle.stock_list.specs.Lines as lines
-use Rattle.stock_list.specs.Row.{row_asks}
+use Rattle.cli_run.specs.declared.fault.RunFault.{RunFault}
+use Rattle.cli_run.specs.declared.fault.RunFault.TheVariants as fault
+use Rattle.cli_run.specs.ListLaw.{asked_inputs, inputs_of}
+use Rattle.cli_run.specs.Rows.{input_of, lines_from, row_line, Row, rows_after, row_after}
+use Rattle.cli_run.specs.Rows as lines
+use Rattle.cli_run.specs.Row.{row_asks}
 use Rattle.cli_words.specs.declared.line.LineCommand.{LineCommand}
 use Rattle.cli_words.specs.declared.line.LineCommand.TheVariants as command
-use Rattle.cli_run.specs.declared.asked.Asked.{Asked}
-use Rattle.cli_run.specs.declared.asked.Asked.TheVariants as asked
+use Rattle.cli_run.specs.declared.request.Request.{Request}
+use Rattle.cli_run.specs.declared.request.Request.TheVariants as asked
 use Rattle.cli_run.specs.Acts.{HasAnsweredLine}
 use Rattle.cli_run.specs.ActLine.{IsActAsked}
-use Rattle.cli_run.specs.Asked.{asked_after, IsTelegramAsked, IsCommandAsked}
+use Rattle.cli_run.specs.Requests.{asked_after, IsTelegramAsked, IsCommandAsked}
 use Rattle.cli_run.specs.Answered.{HasAnswered, HasAnsweredAsked, HasNotReceived, HasReceived}
 use Rattle.cli_run.specs.Done.{HasDone}
-use Rattle.stock_list.specs.Answered.{HasAnsweredRows}
+use Rattle.cli_run.specs.RowsAnswered.{HasAnsweredRows, HasStopped}
 use Rattle.cli_run.specs.Ended.{IsStopped}
-use Rattle.stock_list.specs.Ended.{kept_by}
-use Rattle.cli_run.specs.Ends.{come_to, Ends, Reached}
-use Rattle.stock_list.specs.Come.{Come}
-use Rattle.stock_list.specs.InTurn.{AreAnswered, HasEndedAt, HaveBeenAnswered}
-use Rattle.cli_run.specs.InTurn.{kept_lines, AreMade, HaveBeenMade}
+use Rattle.cli_run.specs.Faults.{kept_by}
+use Rattle.cli_run.specs.Ends.{call_to, Ends, Reached, Call}
+use Rattle.cli_run.specs.InTurn.{AreAnswered, HasEndedAt, HaveBeenAnswered, kept_lines, AreMade, HaveBeenMade}
 use Rattle.cli_run.specs.Takes.{HasTakenNext}
 use Rattle.cli_run.specs.Left.{AsksAt, station_fault, HasLeft}
-use Rattle.cli_run.proofs.Ran.{line_service, lines_serve, take_serves}
+use Rattle.cli_run.proofs.ListLaw.{state_of}
+use Rattle.cli_run.proofs.Ran.{always, line_service, lines_serve, take_serves}
 
 abbrev Inputs : Type 0
 Inputs = List (Input × LocalMinute)
@@ -48,40 +45,22 @@ all_append : (P : Input × LocalMinute → Type 0) (xs ys : Inputs) → AllByRec
 all_append P [] ys left right = right
 all_append P (x ∷ xs) ys left right = (left.0, all_append P xs ys left.1 right)
 
-always : {A : Type 0} (r : Result Bool RunFault) → A → OnOk r A
-always (Ok good) a = a
-always (Err e) a = tt
-
-state_by : (s : State) (order : Option (List ℕ × Order)) (at : LocalMinute) (more : Inputs) → after_all s (asked_inputs order at ++ more) ≡ after_all (lines.asked_after s order at) more
-state_by s None at more = refl
-state_by s (Some order) at more = refl
-
-state_of : (s : State) (rs : List Row) (at : LocalMinute) → rows_after s rs at ≡ after_all s (inputs_of rs at)
-state_of s [] at = refl
-state_of s (row ∷ rs) at = state_of (row_after s row at) rs at ∙ sym (state_by s (row_asks row) at (inputs_of rs at))
-
 -- the input, if there is one
 abbrev listed : Option (Input × LocalMinute) → Inputs
 listed None = []
 listed (Some one) = one ∷ []
 
-abbrev one_of : Asked → LocalMinute → Option (Input × LocalMinute)
+abbrev one_of : Request → LocalMinute → Option (Input × LocalMinute)
 one_of (asked.Input i) at = Some (i, at)
-one_of (asked.Refused refusal) at = None
-one_of (asked.Bad verb body) at = None
-one_of (asked.BadLine line) at = None
+one_of _ at = None
 
-after_asked : (s : State) (asks : Asked) (at : LocalMinute) → asked_after s asks at ≡ after_all s (listed (one_of asks at))
+after_asked : (s : State) (asks : Request) (at : LocalMinute) → asked_after s asks at ≡ after_all s (listed (one_of asks at))
 after_asked s (asked.Input i) at = refl
-after_asked s (asked.Refused refusal) at = refl
-after_asked s (asked.Bad verb body) at = refl
-after_asked s (asked.BadLine line) at = refl
+after_asked s _ at = refl
 
-are_asked : (P : Input × LocalMinute → Type 0) (asks : Asked) (at : LocalMinute) → ((i : Input) → asks ≡ asked.Input i → P (i, at)) → AllByRecursion P (listed (one_of asks at))
+are_asked : (P : Input × LocalMinute → Type 0) (asks : Request) (at : LocalMinute) → ((i : Input) → asks ≡ asked.Input i → P (i, at)) → AllByRecursion P (listed (one_of asks at))
 are_asked P (asked.Input i) at each = (each i refl, tt)
-are_asked P (asked.Refused refusal) at each = tt
-are_asked P (asked.Bad verb body) at each = tt
-are_asked P (asked.BadLine line) at each = tt
+are_asked P _ at each = tt
 
 abbrev row_of : Option (List ℕ × Order) → LocalMinute → Option (Input × LocalMinute)
 row_of None at = None
@@ -162,41 +141,39 @@ module _ {K : Type 0} (k : Keeping K) (settled : (it : K) (s : State) → k.keep
       left = λ found finds. inl (settled old s kept sound found (back found finds));
     }
 
-  -- a stop of one input, behind others
-  module _ (P : Input × LocalMinute → Type 0) (s : State) (at : LocalMinute) where
-    stopped : (xs : Inputs) → AllByRecursion P xs → (number : Option ℕ) (asks : Asked) → ((i : Input) → asks ≡ asked.Input i → P (i, at)) → (e : RunFault) (before after : List ℕ) (it : K) → k.is_sound it
-        → IsStopped number (after_all s xs) asks at e before after (kept_by k it) → Left P s it (Err e)
-    stopped xs all number asks each e before after it sound (inl acted) =
-        done P s xs all (one_of asks at) (are_asked P asks at each) it (subst (k.keeps it) (after_asked (after_all s xs) asks at) acted.state) sound (Err e)
-    stopped xs all number asks each e before after it sound (inr idle) =
-        stop P s xs all (one_of asks at) (are_asked P asks at each) it e (λ found finds. elim (idle.states found finds) [
-          | inl is ↦ inl is
-          | inr is ↦ inr (is.0, is.1 ∙ ap Some (after_asked (after_all s xs) asks at))
-        ])
+  -- a stop at one request or row, behind others
+  module _ (P : Input × LocalMinute → Type 0) (s : State) where
+    stopped : (xs : Inputs) → AllByRecursion P xs → (one : Option (Input × LocalMinute)) → AllByRecursion P (listed one) → (text : List ℕ) (next : State) → next ≡ after_all (after_all s xs) (listed one)
+        → (e : RunFault) (before after : List ℕ) (it : K) → k.is_sound it → IsStopped text (after_all s xs) next e before after (kept_by k it) → Left P s it (Err e)
+    stopped xs all one more text next is e before after it sound (inl acted) = done P s xs all one more it (subst (k.keeps it) is acted.state) sound (Err e)
+    stopped xs all one more text next is e before after it sound (inr idle) =
+        stop P s xs all one more it e (λ found finds. ⊎_elim (λ same. inl same) (λ store. inr (store.0, store.1 ∙ ap Some is)) (idle.states found finds))
 
+  module _ (P : Input × LocalMinute → Type 0) (s : State) (at : LocalMinute) where
     -- an input that was asked of bytes
-    module _ (IsAsked : List ℕ → Asked → Type 0) (asks_it : (bytes : List ℕ) (i : Input) → IsAsked bytes (asked.Input i) → P (i, at)) where
-      each_of : (bytes : List ℕ) (asks : Asked) → IsAsked bytes asks → (i : Input) → asks ≡ asked.Input i → P (i, at)
+    module _ (IsAsked : List ℕ → Request → Type 0) (asks_it : (bytes : List ℕ) (i : Input) → IsAsked bytes (asked.Input i) → P (i, at)) where
+      each_of : (bytes : List ℕ) (asks : Request) → IsAsked bytes asks → (i : Input) → asks ≡ asked.Input i → P (i, at)
       each_of bytes asks is i same = asks_it bytes i (subst (IsAsked bytes) same is)
 
       module _ {E : Type 0} (taken : E → Given) where
-        asked_last : (from to : Come K E × Given) → Runs P s from.0.keeper → (e : RunFault) → k.is_sound to.0.keeper
+        asked_last : (from to : Call K E × Given) → Runs P s from.0.keeper → (e : RunFault) → k.is_sound to.0.keeper
             → HasAnsweredAsked IsAsked k at taken from to (Err e) → Left P s to.0.keeper (Err e)
         asked_last from to run e sound ran =
             ⊎_elim (λ (got : HasReceived IsAsked (λ bytes. HasAnswered k at taken None) from.1 to.1 from.0 to.0 (Err e)).
-            stopped run.inputs run.asked None got.asks (each_of got.bytes got.asks got.asked) e from.0.sent.bytes to.0.sent.bytes to.0.keeper sound
+            stopped P s run.inputs run.asked (one_of got.asks at) (are_asked P got.asks at (each_of got.bytes got.asks got.asked)) _ _ (after_asked (after_all s run.inputs) got.asks at)
+            e from.0.sent.bytes to.0.sent.bytes to.0.keeper sound
             (got.answer.stopped (after_all s run.inputs) run.kept run.works sound))
             (λ (none : HasNotReceived from.0 to.0 (Err e)). settle P s run.inputs run.asked to.0.keeper
-            (subst (λ (c : Come K E). k.keeps c.keeper (after_all s run.inputs)) (sym none.same) run.kept) sound (Err e)) ran.answered
+            (subst (λ (c : Call K E). k.keeps c.keeper (after_all s run.inputs)) (sym none.same) run.kept) sound (Err e)) ran.answered
 
-        asked_on : (from to : Come K E × Given) → Runs P s from.0.keeper → (good : Bool) → k.is_sound to.0.keeper
+        asked_on : (from to : Call K E × Given) → Runs P s from.0.keeper → (good : Bool) → k.is_sound to.0.keeper
             → HasAnsweredAsked IsAsked k at taken from to (Ok good) → Runs P s to.0.keeper
         asked_on from to run good sound ran =
             ⊎_elim (λ (got : HasReceived IsAsked (λ bytes. HasAnswered k at taken None) from.1 to.1 from.0 to.0 (Ok good)).
             let answer = got.answer.answered (after_all s run.inputs) run.kept run.works sound in
             grow P s run (one_of got.asks at) (are_asked P got.asks at (each_of got.bytes got.asks got.asked))
             (subst (k.keeps to.0.keeper) (after_asked (after_all s run.inputs) got.asks at) answer.state) (got.answer.service.works run.works))
-            (λ (none : HasNotReceived from.0 to.0 (Ok good)). subst (λ (c : Come K E). Runs P s c.keeper) (sym none.same) run) ran.answered
+            (λ (none : HasNotReceived from.0 to.0 (Ok good)). subst (λ (c : Call K E). Runs P s c.keeper) (sym none.same) run) ran.answered
 
   none_yet : (P : Input × LocalMinute → Type 0) (s : State) (it : K) → k.keeps it s → k.is_broken it ≡ false → Runs P s it
   none_yet P s it kept works = record { inputs = []; asked = tt; kept = kept; works = works }
@@ -205,9 +182,9 @@ module _ {K : Type 0} (k : Keeping K) (settled : (it : K) (s : State) → k.keep
   ended P s it run sound r = settle P s run.inputs run.asked it run.kept sound r
 
   -- one body, or one telegram
-  module _ {E : Type 0} (IsAsked : List ℕ → Asked → Type 0) (P : Input × LocalMinute → Type 0) (at : LocalMinute) (taken : E → Given)
+  module _ {E : Type 0} (IsAsked : List ℕ → Request → Type 0) (P : Input × LocalMinute → Type 0) (at : LocalMinute) (taken : E → Given)
       (asks_it : (bytes : List ℕ) (i : Input) → IsAsked bytes (asked.Input i) → P (i, at)) where
-    pub act_left : (s : State) (old new : Come K E × Given) (r : Result Bool RunFault) → k.keeps old.0.keeper s → k.is_broken old.0.keeper ≡ false → k.is_sound new.0.keeper
+    pub act_left : (s : State) (old new : Call K E × Given) (r : Result Bool RunFault) → k.keeps old.0.keeper s → k.is_broken old.0.keeper ≡ false → k.is_sound new.0.keeper
         → HasAnsweredAsked IsAsked k at taken old new r → Left P s new.0.keeper r
     act_left s old new (Ok good) kept works sound has =
         ended P s new.0.keeper (asked_on P s at IsAsked asks_it taken old new (none_yet P s old.0.keeper kept works) good sound has) sound (Ok good)
@@ -217,20 +194,20 @@ module _ {K : Type 0} (k : Keeping K) (settled : (it : K) (s : State) → k.keep
   -- telegrams, one after another
   module _ {I E : Type 0} (P : Input × LocalMinute → Type 0) (at : LocalMinute) (given : I → Given) (turned : I → I → Type 0) (taken : E → Given)
       (asks_it : (bytes : List ℕ) (i : Input) → IsTelegramAsked bytes (asked.Input i) → P (i, at)) where
-    abbrev Step : Come K E × I → Come K E × I → Result Bool RunFault → Type 0
+    abbrev Step : Call K E × I → Call K E × I → Result Bool RunFault → Type 0
     Step = HasTakenNext (λ bytes. HasAnswered k at taken None) given turned
 
-    sound_of : (old new : Come K E × I) (r : Result Bool RunFault) → Step old new r → k.is_sound new.0.keeper → k.is_sound old.0.keeper
+    sound_of : (old new : Call K E × I) (r : Result Bool RunFault) → Step old new r → k.is_sound new.0.keeper → k.is_sound old.0.keeper
     sound_of old new r step h = let service = take_serves k at taken given turned old new r step in service.premise.sound h
 
-    made : (n : ℕ) (s : State) (old new : Come K E × I) (good : Bool) → AreMade Step n old new good → k.keeps old.0.keeper s → k.is_broken old.0.keeper ≡ false → k.is_sound new.0.keeper → Runs P s new.0.keeper
+    made : (n : ℕ) (s : State) (old new : Call K E × I) (good : Bool) → AreMade Step n old new good → k.keeps old.0.keeper s → k.is_broken old.0.keeper ≡ false → k.is_sound new.0.keeper → Runs P s new.0.keeper
     made zero s old new good (same, all) kept works sound =
-        none_yet P s new.0.keeper (subst (λ (c : Come K E × I). k.keeps c.0.keeper s) (sym same) kept) (ap (λ (c : Come K E × I). k.is_broken c.0.keeper) same ∙ works)
+        none_yet P s new.0.keeper (subst (λ (c : Call K E × I). k.keeps c.0.keeper s) (sym same) kept) (ap (λ (c : Call K E × I). k.is_broken c.0.keeper) same ∙ works)
     made (suc n) s old new good (mid, (before, one, first, step, all)) kept works sound =
         let run = made n s old mid before first kept works (sound_of mid new (Ok one) step sound) in
         asked_on P s at IsTelegramAsked asks_it taken (mid.0, given step.next) (new.0, given new.1) run one sound step.run
 
-    pub take_left : (count : ℕ) (s : State) (old new : Come K E × I) (r : Result Bool RunFault) → k.keeps old.0.keeper s → k.is_broken old.0.keeper ≡ false → k.is_sound new.0.keeper
+    pub take_left : (count : ℕ) (s : State) (old new : Call K E × I) (r : Result Bool RunFault) → k.keeps old.0.keeper s → k.is_broken old.0.keeper ≡ false → k.is_sound new.0.keeper
         → HaveBeenMade Step count old new r → Left P s new.0.keeper r
     take_left count s old new (Ok good) kept works sound all = ended P s new.0.keeper (made count s old new good all kept works sound) sound (Ok good)
     take_left count s old new (Err e) kept works sound (n, less, (mid, (before, first, step))) =
@@ -240,48 +217,49 @@ module _ {K : Type 0} (k : Keeping K) (settled : (it : K) (s : State) → k.keep
   -- lines, one after another
   module _ {E : Type 0} (P : Input × LocalMinute → Type 0) (at : LocalMinute) (taken : E → Given)
       (asks_it : (line : List ℕ) (i : Input) → IsActAsked line (asked.Input i) → P (i, at)) where
-    abbrev Line : ℕ → List ℕ → Come K E → Come K E → Result Bool RunFault → Type 0
+    abbrev Line : ℕ → List ℕ → Call K E → Call K E → Result Bool RunFault → Type 0
     Line = HasAnsweredLine k at taken
 
-    sound_then : (n : ℕ) (line : List ℕ) (old new : Come K E) (r : Result Bool RunFault) → Line n line old new r → k.is_sound new.keeper → k.is_sound old.keeper
+    sound_then : (n : ℕ) (line : List ℕ) (old new : Call K E) (r : Result Bool RunFault) → Line n line old new r → k.is_sound new.keeper → k.is_sound old.keeper
     sound_then n line old new r step h = let service = line_service k at taken n line old new r step in service.premise.sound h
 
-    sound_all : (n : ℕ) (ls : List (List ℕ)) (old new : Come K E) (good : Bool) → AreAnswered Line n ls old new good → k.is_sound new.keeper → k.is_sound old.keeper
+    sound_all : (n : ℕ) (ls : List (List ℕ)) (old new : Call K E) (good : Bool) → AreAnswered Line n ls old new good → k.is_sound new.keeper → k.is_sound old.keeper
     sound_all n ls old new good are h = let service = lines_serve k at taken n ls old new good (Ok good) are in service.premise.sound h
 
-    moved : (s : State) (old new : Come K E) → new ≡ old → Runs P s old.keeper → Runs P s new.keeper
-    moved s old new same run = subst (λ (c : Come K E). Runs P s c.keeper) (sym same) run
+    moved : (s : State) (old new : Call K E) → new ≡ old → Runs P s old.keeper → Runs P s new.keeper
+    moved s old new same run = subst (λ (c : Call K E). Runs P s c.keeper) (sym same) run
 
-    each_line : (line : List ℕ) (asks : Asked) → IsActAsked line asks → (i : Input) → asks ≡ asked.Input i → P (i, at)
+    each_line : (line : List ℕ) (asks : Request) → IsActAsked line asks → (i : Input) → asks ≡ asked.Input i → P (i, at)
     each_line line asks is i same = asks_it line i (subst (IsActAsked line) same is)
 
-    line_on : (n : ℕ) (line : List ℕ) (s : State) (old new : Come K E) (good : Bool) → Runs P s old.keeper → k.is_sound new.keeper → Line n line old new (Ok good) → Runs P s new.keeper
+    line_on : (n : ℕ) (line : List ℕ) (s : State) (old new : Call K E) (good : Bool) → Runs P s old.keeper → k.is_sound new.keeper → Line n line old new (Ok good) → Runs P s new.keeper
     line_on n line s old new good run sound (inl skipped) = moved s old new skipped.same run
     line_on n line s old new good run sound (inr (inl unheard)) = moved s old new unheard.same run
     line_on n line s old new good run sound (inr (inr heard)) =
         let answer = heard.answer.answered (after_all s run.inputs) run.kept run.works sound in
         grow P s run (one_of heard.asks at) (are_asked P heard.asks at (each_line line heard.asks heard.asked)) (subst (k.keeps new.keeper) (after_asked (after_all s run.inputs) heard.asks at) answer.state) (heard.answer.service.works run.works)
 
-    lines_on : (n : ℕ) (ls : List (List ℕ)) (s : State) (old new : Come K E) (good : Bool) → Runs P s old.keeper → k.is_sound new.keeper → AreAnswered Line n ls old new good → Runs P s new.keeper
+    lines_on : (n : ℕ) (ls : List (List ℕ)) (s : State) (old new : Call K E) (good : Bool) → Runs P s old.keeper → k.is_sound new.keeper → AreAnswered Line n ls old new good → Runs P s new.keeper
     lines_on n [] s old new good run sound (same, all) = moved s old new same run
     lines_on n (line ∷ ls) s old new good run sound (mid, (one, rest, step, more, all)) =
         lines_on (n + 1) ls s mid new rest (line_on n line s old mid one run (sound_all (n + 1) ls mid new rest more sound) step) sound more
 
-    line_last : (n : ℕ) (line : List ℕ) (s : State) (old new : Come K E) (e : RunFault) → Runs P s old.keeper → k.is_sound new.keeper → Line n line old new (Err e) → Left P s new.keeper (Err e)
+    line_last : (n : ℕ) (line : List ℕ) (s : State) (old new : Call K E) (e : RunFault) → Runs P s old.keeper → k.is_sound new.keeper → Line n line old new (Err e) → Left P s new.keeper (Err e)
     line_last n line s old new e run sound (inl skipped) = ended P s new.keeper (moved s old new skipped.same run) sound (Err e)
     line_last n line s old new e run sound (inr (inl unheard)) = ended P s new.keeper (moved s old new unheard.same run) sound (Err e)
     line_last n line s old new e run sound (inr (inr heard)) =
-        stopped P s at run.inputs run.asked (Some n) heard.asks (each_line line heard.asks heard.asked) e old.sent.bytes new.sent.bytes new.keeper sound
+        stopped P s run.inputs run.asked (one_of heard.asks at) (are_asked P heard.asks at (each_line line heard.asks heard.asked)) _ _ (after_asked (after_all s run.inputs) heard.asks at)
+        e old.sent.bytes new.sent.bytes new.keeper sound
         (heard.answer.stopped (after_all s run.inputs) run.kept run.works sound)
 
-    acts_end : (ls : List (List ℕ)) (next : Option (List ℕ)) (s : State) (old new : Come K E) (e : RunFault) → k.keeps old.keeper s → k.is_broken old.keeper ≡ false → k.is_sound new.keeper
+    acts_end : (ls : List (List ℕ)) (next : Option (List ℕ)) (s : State) (old new : Call K E) (e : RunFault) → k.keeps old.keeper s → k.is_broken old.keeper ≡ false → k.is_sound new.keeper
         → HasEndedAt Line ls next old new e → Left P s new.keeper (Err e)
     acts_end ls None s old new e kept works sound (why, (good, are)) =
         ended P s new.keeper (lines_on 1 ls s old new good (none_yet P s old.keeper kept works) sound are) sound (Err e)
     acts_end ls (Some line) s old new e kept works sound (other, (mid, (good, are, step))) =
         line_last (length ls + 1) line s mid new e (lines_on 1 ls s old mid good (none_yet P s old.keeper kept works) (sound_then (length ls + 1) line mid new (Err e) step sound) are) sound step
 
-    pub acts_left : (left : Option (List ℕ)) (s : State) (old new : Come K E) (r : Result Bool RunFault) → k.keeps old.keeper s → k.is_broken old.keeper ≡ false → k.is_sound new.keeper
+    pub acts_left : (left : Option (List ℕ)) (s : State) (old new : Call K E) (r : Result Bool RunFault) → k.keeps old.keeper s → k.is_broken old.keeper ≡ false → k.is_sound new.keeper
         → HaveBeenAnswered kept_lines Line left old new r → Left P s new.keeper r
     acts_left left s old new (Ok good) kept works sound (ls, first, are) =
         ended P s new.keeper (lines_on 1 ls s old new good (none_yet P s old.keeper kept works) sound are) sound (Ok good)
@@ -301,18 +279,14 @@ module _ {K : Type 0} (k : Keeping K) (settled : (it : K) (s : State) → k.keep
     all_rows [] = tt
     all_rows (row ∷ rs) = all_append P (asked_inputs (row_asks row) at) (inputs_of rs at) (subst (AllByRecursion P) (same_inputs (row_asks row)) (one_row row (row_asks row) refl)) (all_rows rs)
 
-    row_end : (rs : List Row) (next : Option Row) (s : State) (e : RunFault) (before after : List ℕ) (it : K) → k.is_sound it → rows.HasStopped s rs next at e before after (kept_by k it) → Left P s it (Err e)
+    row_end : (rs : List Row) (next : Option Row) (s : State) (e : RunFault) (before after : List ℕ) (it : K) → k.is_sound it → HasStopped s rs next at e before after (kept_by k it) → Left P s it (Err e)
     row_end rs None s e before after it sound (why, written, kept) = settle P s (inputs_of rs at) (all_rows rs) it (subst (k.keeps it) (state_of s rs at) kept) sound (Err e)
-    row_end rs (Some row) s e before after it sound (inl acted) =
-        done P s (inputs_of rs at) (all_rows rs) (row_of (row_asks row) at) (one_row row (row_asks row) refl) it
-        (subst (k.keeps it) (after_row (rows_after s rs at) (row_asks row) at ∙ ap (λ t. after_all t (listed (row_of (row_asks row) at))) (state_of s rs at)) acted.state) sound (Err e)
-    row_end rs (Some row) s e before after it sound (inr idle) =
-        stop P s (inputs_of rs at) (all_rows rs) (row_of (row_asks row) at) (one_row row (row_asks row) refl) it e (λ found finds. elim (idle.states found finds) [
-          | inl is ↦ inl (is ∙ ap Some (state_of s rs at))
-          | inr is ↦ inr (is.0, is.1 ∙ ap Some (after_row (rows_after s rs at) (row_asks row) at ∙ ap (λ t. after_all t (listed (row_of (row_asks row) at))) (state_of s rs at)))
-        ])
+    row_end rs (Some row) s e before after it sound end =
+        let text = row_line (length rs + 1) (rows_after s rs at) row at in
+        stopped P s (inputs_of rs at) (all_rows rs) (row_of (row_asks row) at) (one_row row (row_asks row) refl) text _ (after_row (after_all s (inputs_of rs at)) (row_asks row) at)
+        e (before ++ lines_from 1 s rs at) after it sound (subst (λ (last : State). IsStopped text last (row_after last row at) e (before ++ lines_from 1 s rs at) after (kept_by k it)) (state_of s rs at) end)
 
-    pub stock_left : {E : Type 0} (taken : E → Given) (left : Option (List ℕ)) (s : State) (old new : Come K E) (r : Result Bool RunFault) → k.keeps old.keeper s → k.is_broken old.keeper ≡ false → k.is_sound new.keeper
+    pub stock_left : {E : Type 0} (taken : E → Given) (left : Option (List ℕ)) (s : State) (old new : Call K E) (r : Result Bool RunFault) → k.keeps old.keeper s → k.is_broken old.keeper ≡ false → k.is_sound new.keeper
         → HasAnsweredRows k at taken left old new r → Left P s new.keeper r
     stock_left taken left s old new (Ok good) kept works sound has =
         let ran = has.ran s kept works sound in
@@ -340,10 +314,10 @@ module _ {K : Type 0} (k : Keeping K) (settled : (it : K) (s : State) → k.keep
     pub done_left : (c : LineCommand) → HasDone c here k e at old new r → HasLeft (AsksAt c at) s (k.may_find new.0) r
     done_left command.Init has = quiet_left (AsksAt command.Init at) s old.0 new.0 r kept sound (of_same old.0 new.0 has.same)
     done_left command.Migrate has = quiet_left (AsksAt command.Migrate at) s old.0 new.0 r kept sound (of_same old.0 new.0 has.same)
-    done_left command.Stock has = stock_left (AsksAt command.Stock at) at (λ row order is. (refl, (row, (order, is, refl)))) e.told (e.remaining old.1.reader) s (come_to e old) (come_to e new) r kept works sound has.0
-    done_left (command.Take paths) has = take_left (AsksAt (command.Take paths) at) at e.given e.turned e.told (λ bytes i is. (refl, (bytes, is))) (length paths.items) s (come_to e old, old.1.reader) (come_to e new, new.1.reader) r kept works sound has
-    done_left (command.Act verb key) has = act_left (IsCommandAsked verb key) (AsksAt (command.Act verb key) at) at e.told (λ bytes i is. (refl, (bytes, is))) s (come_to e old, e.given old.1.reader) (come_to e new, e.given new.1.reader) r kept works sound has
-    done_left command.Acts has = acts_left (AsksAt command.Acts at) at e.told (λ line i is. (refl, (line, is))) (e.remaining old.1.reader) s (come_to e old) (come_to e new) r kept works sound has.0
+    done_left command.Stock has = stock_left (AsksAt command.Stock at) at (λ row order is. (refl, (row, (order, is, refl)))) e.told (e.remaining old.1.reader) s (call_to e old) (call_to e new) r kept works sound has.0
+    done_left (command.Take paths) has = take_left (AsksAt (command.Take paths) at) at e.given e.turned e.told (λ bytes i is. (refl, (bytes, is))) (length paths.items) s (call_to e old, old.1.reader) (call_to e new, new.1.reader) r kept works sound has
+    done_left (command.Act verb key) has = act_left (IsCommandAsked verb key) (AsksAt (command.Act verb key) at) at e.told (λ bytes i is. (refl, (bytes, is))) s (call_to e old, e.given old.1.reader) (call_to e new, e.given new.1.reader) r kept works sound has
+    done_left command.Acts has = acts_left (AsksAt command.Acts at) at e.told (λ line i is. (refl, (line, is))) (e.remaining old.1.reader) s (call_to e old) (call_to e new) r kept works sound has.0
     done_left (command.Outbox f) has = quiet_left (AsksAt (command.Outbox f) at) s old.0 new.0 r kept sound (of_reads old.0 new.0 has.told.reads)
     done_left (command.Report l f) has = quiet_left (AsksAt (command.Report l f) at) s old.0 new.0 r kept sound (of_reads old.0 new.0 has.told.reads)
     done_left (command.Waybill w) has = quiet_left (AsksAt (command.Waybill w) at) s old.0 new.0 r kept sound (of_reads old.0 new.0 has.reads)

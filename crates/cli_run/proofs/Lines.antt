@@ -1,10 +1,10 @@
 -- The lines of a text, read one after another.
 use Rattle.std.proofs.Common.{arith, ◌≡◌, ◌∙◌, sym, refl, ap, subst, ℕ, ◌+◌, ◌<◌, ◌==◌, Bool, true, false, cond, List, [], ◌∷◌, ◌++◌, map, length, length-take, append_assoc, Option, Some, None, IfSome}
 use Rattle.std.specs.Io.BufRead.{take_through, drop_through}
+use Rattle.std.proofs.lemmas.List.{append-nil}
 use Rattle.std.proofs.BufReadLemmas.{take_through-nil}
-use Rattle.stock_list.specs.InTurn.{AreFirst}
+use Rattle.cli_run.specs.InTurn.{AreFirst, in_front, kept_lines, lines_of}
 use Rattle.cli_run.specs.ActLine.{kept, most_line}
-use Rattle.cli_run.specs.InTurn.{in_front, kept_lines, lines_of}
 
 -- the first line of a text, and the lines behind it
 abbrev Cut : List ℕ → Type 0
@@ -26,10 +26,6 @@ Known now lines bytes = (left : List ℕ) × (now ≡ Some left) × (kept_lines 
 pub known_start : (known : Option (List ℕ)) → IfSome known (Known known [])
 known_start None = tt
 known_start (Some bytes) = (bytes, refl, refl)
-
-append_none : (lines : List (List ℕ)) → lines ++ [] ≡ lines
-append_none [] = refl
-append_none (line ∷ lines) = ap (λ more. line ∷ more) (append_none lines)
 
 -- the reader gave the first line of what was left, as far as it is kept
 abbrev pub Read : Option (List ℕ) → Option (List ℕ) → List ℕ → Type 0
@@ -60,7 +56,7 @@ known_end None a b lines line known read empty = tt
 known_end (Some bytes) a b lines line (left, is, same) read empty =
     let front = (subst (λ (o : Option (List ℕ)). Read o b line) is read).0 in
     let none : left ≡ [] = take_through-nil 10 left (omega (arith, empty, ap length front, length-take (most_line + 1) (take_through 10 left))) in
-    sym (same ∙ ap (λ more. lines ++ kept_lines more) none ∙ append_none lines)
+    sym (same ∙ ap (λ more. lines ++ kept_lines more) none ∙ append-nil lines)
 
 pub known_first : (known a : Option (List ℕ)) (lines : List (List ℕ)) → IfSome known (Known a lines) → IfSome known (AreFirst kept_lines lines)
 known_first None a lines known = tt

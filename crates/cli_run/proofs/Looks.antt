@@ -2,8 +2,9 @@
 use Rattle.std.proofs.Common.{◌≡◌, sym, subst, inr, ℕ, Bool, None, Result, Ok, Err, List, ◌++◌}
 use Rattle.std.specs.Prelude.{IfOk, IfErr, OnOk}
 use Rattle.station_core.specs.Given.{Given}
-use Rattle.stock_list.specs.declared.answer.RunFault.{RunFault}
-use Rattle.stock_list.specs.declared.answer.RunFault.TheVariants as fault
+use Rattle.cli_run.specs.declared.fault.RunFault.{RunFault}
+use Rattle.cli_run.specs.declared.fault.RunFault.TheVariants as fault
+use Rattle.imp_fields.specs.TextSize.{most_bytes}
 use Rattle.cli_run.specs.Came.{HasCome}
 use Rattle.cli_run.specs.Ended.{HasToldPart}
 use Rattle.cli_run.specs.Explained.{telegram_head, HasToldWhy}
@@ -14,7 +15,7 @@ ok_more (Ok x) P Q more p = more x p
 ok_more (Err e) P Q more p = tt
 
 pub all_seen : {E : Type 0} (read_old read_new sent_old sent_new : Given) (taken : E → Given) (e0 e1 : E) (bytes text : List ℕ) (good unread : Bool) (r : Result Bool RunFault)
-    → HasCome read_old read_new bytes → IsSeen bytes text good unread → IfOk r (λ g. g ≡ good) → OnOk r (sent_new.bytes ≡ sent_old.bytes ++ text)
+    → HasCome most_bytes read_old read_new bytes → IsSeen bytes text good unread → IfOk r (λ g. g ≡ good) → OnOk r (sent_new.bytes ≡ sent_old.bytes ++ text)
     → OnOk r (HasToldWhy taken unread (telegram_head None) e0 e1) → IfOk r (HasSeen read_old read_new sent_old sent_new taken e0 e1)
 all_seen read_old read_new sent_old sent_new taken e0 e1 bytes text good unread (Ok g) come seen is written reason = record {
   bytes = bytes;
@@ -29,7 +30,7 @@ all_seen read_old read_new sent_old sent_new taken e0 e1 bytes text good unread 
 
 -- a look that the writer stopped
 pub part_seen : (read_old read_new sent_old sent_new : Given) (bytes text : List ℕ) (good unread : Bool) (r : Result Bool RunFault)
-    → HasCome read_old read_new bytes → IsSeen bytes text good unread → IfErr r (λ e. e ≡ fault.Write) → IfErr r (HasToldPart text sent_old sent_new)
+    → HasCome most_bytes read_old read_new bytes → IsSeen bytes text good unread → IfErr r (λ e. e ≡ fault.Write) → IfErr r (HasToldPart text sent_old sent_new)
     → IfErr r (HasStoppedLook read_old read_new sent_old sent_new)
 part_seen read_old read_new sent_old sent_new bytes text good unread (Ok g) come seen why part = tt
 part_seen read_old read_new sent_old sent_new bytes text good unread (Err e) come seen why part =

@@ -4,7 +4,7 @@ use Rattle.std.proofs.Math.Seq.{take-append-add}
 use Rattle.std.proofs.lemmas.List.{take-append-le}
 use Rattle.station_core.specs.Given.{Given}
 use Rattle.station_core.specs.Ends.{HasCause, HasSent}
-use Rattle.stock_list.specs.Ended.{IsUntroubled}
+use Rattle.cli_run.specs.Faults.{IsUntroubled}
 
 -- a beginning of its first part
 pub first_part : (a b : List ℕ) (old new : Given) → HasSent a old new → HasSent (a ++ b) old new
@@ -21,6 +21,9 @@ next_part a b old mid new first sent = (
         ∙ ap (λ part. old.bytes ++ part) (sym (take-append-add a b sent.0)),
   ),
 )
+
+pub untroubled_more : (old mid new : Given) → IsUntroubled old mid → IsUntroubled mid new → IsUntroubled old new
+untroubled_more old mid new first more = record { failures = more.failures ∙ first.failures; idle = more.idle ∙ first.idle }
 
 -- the cause lies behind what went out untroubled
 pub cause_behind : (old mid new : Given) → IsUntroubled old mid → HasCause mid new → HasCause old new

@@ -5,15 +5,14 @@ use Rattle.station_days.specs.Date.{LocalMinute}
 use Rattle.station_core.proofs.Premise.{kept_at, kept_on}
 use Rattle.station_core.specs.Given.{Given}
 use Rattle.station_core.specs.Keeping.{Keeping, StaysInService}
-use Rattle.stock_list.specs.declared.answer.RunFault.{RunFault}
-use Rattle.stock_list.specs.Come.{Come}
-use Rattle.stock_list.specs.Ended.{IsReadersFault}
-use Rattle.cli_run.specs.declared.asked.Asked.{Asked}
+use Rattle.cli_run.specs.declared.fault.RunFault.{RunFault}
+use Rattle.cli_run.specs.Ends.{Call}
+use Rattle.cli_run.specs.Faults.{IsReadersFault}
+use Rattle.cli_run.specs.declared.request.Request.{Request}
 use Rattle.cli_run.specs.Acts.{HasAnsweredLine}
-use Rattle.stock_list.specs.InTurn.{AreAnswered, HasEndedAt, HaveBeenAnswered}
+use Rattle.cli_run.specs.InTurn.{AreAnswered, HasEndedAt, HaveBeenAnswered, kept_lines, AreMade, HaveBeenMade}
 use Rattle.cli_run.specs.Answered.{HasAnswered, HasAnsweredAsked, HasNotReceived}
-use Rattle.cli_run.specs.Asked.{IsTelegramAsked}
-use Rattle.cli_run.specs.InTurn.{kept_lines, AreMade, HaveBeenMade}
+use Rattle.cli_run.specs.Requests.{IsTelegramAsked}
 use Rattle.cli_run.specs.Takes.{HasTakenNext}
 
 pub always : {A : Type 0} (r : Result Bool RunFault) → A → OnOk r A
@@ -21,16 +20,16 @@ always (Ok good) a = a
 always (Err e) a = tt
 
 -- nothing was done
-still : {K E : Type 0} (k : Keeping K) (old new : Come K E) (r : Result Bool RunFault) → new ≡ old → StaysInService k old.keeper new.keeper r
+still : {K E : Type 0} (k : Keeping K) (old new : Call K E) (r : Result Bool RunFault) → new ≡ old → StaysInService k old.keeper new.keeper r
 still {K} {E} k old new r same =
-    subst (λ (c : Come K E). StaysInService k old.keeper c.keeper r) (sym same) (record { premise = kept_at old.keeper; works = λ works. always r works })
+    subst (λ (c : Call K E). StaysInService k old.keeper c.keeper r) (sym same) (record { premise = kept_at old.keeper; works = λ works. always r works })
 
-pub input_service : {K E : Type 0} (IsAsked : List ℕ → Asked → Type 0) (k : Keeping K) (at : LocalMinute) (taken : E → Given) (old new : Come K E × Given) (r : Result Bool RunFault)
+pub input_service : {K E : Type 0} (IsAsked : List ℕ → Request → Type 0) (k : Keeping K) (at : LocalMinute) (taken : E → Given) (old new : Call K E × Given) (r : Result Bool RunFault)
     → HasAnsweredAsked IsAsked k at taken old new r → StaysInService k old.0.keeper new.0.keeper r
 input_service IsAsked k at taken old new r ran =
     ⊎_elim (λ got. got.answer.service) (λ (none : HasNotReceived old.0 new.0 r). still k old.0 new.0 r none.same) ran.answered
 
-pub line_service : {K E : Type 0} (k : Keeping K) (at : LocalMinute) (taken : E → Given) (n : ℕ) (line : List ℕ) (old new : Come K E) (r : Result Bool RunFault)
+pub line_service : {K E : Type 0} (k : Keeping K) (at : LocalMinute) (taken : E → Given) (n : ℕ) (line : List ℕ) (old new : Call K E) (r : Result Bool RunFault)
     → HasAnsweredLine k at taken n line old new r → StaysInService k old.keeper new.keeper r
 line_service k at taken n line old new r (inl skipped) = still k old new r skipped.same
 line_service k at taken n line old new r (inr (inl unheard)) = still k old new r unheard.same
@@ -41,37 +40,37 @@ then_serves : {K : Type 0} (k : Keeping K) (a b c : K) (x : Bool) (r : Result Bo
 then_serves k a b c x r first next = record { premise = kept_on first.premise next.premise; works = λ works. next.works (first.works works) }
 
 module _ {K E : Type 0} (k : Keeping K) (at : LocalMinute) (taken : E → Given) where
-  abbrev Line : ℕ → List ℕ → Come K E → Come K E → Result Bool RunFault → Type 0
+  abbrev Line : ℕ → List ℕ → Call K E → Call K E → Result Bool RunFault → Type 0
   Line = HasAnsweredLine k at taken
 
-  pub lines_serve : (n : ℕ) (lines : List (List ℕ)) (old new : Come K E) (good : Bool) (r : Result Bool RunFault) → AreAnswered Line n lines old new good → StaysInService k old.keeper new.keeper r
+  pub lines_serve : (n : ℕ) (lines : List (List ℕ)) (old new : Call K E) (good : Bool) (r : Result Bool RunFault) → AreAnswered Line n lines old new good → StaysInService k old.keeper new.keeper r
   lines_serve n [] old new good r (same, all) = still k old new r same
   lines_serve n (line ∷ lines) old new good r (mid, (one, rest, step, more, all)) =
       then_serves k old.keeper mid.keeper new.keeper one r (line_service k at taken n line old mid (Ok one) step) (lines_serve (n + 1) lines mid new rest r more)
 
-  end_serves : (lines : List (List ℕ)) (next : Option (List ℕ)) (old new : Come K E) (e : RunFault) → HasEndedAt Line lines next old new e → StaysInService {A = Bool} {E = RunFault} k old.keeper new.keeper (Err e)
+  end_serves : (lines : List (List ℕ)) (next : Option (List ℕ)) (old new : Call K E) (e : RunFault) → HasEndedAt Line lines next old new e → StaysInService {A = Bool} {E = RunFault} k old.keeper new.keeper (Err e)
   end_serves lines None old new e (why, (good, are)) = lines_serve 1 lines old new good (Err e) are
   end_serves lines (Some line) old new e (other, (mid, (good, are, step))) =
       then_serves k old.keeper mid.keeper new.keeper good (Err e) (lines_serve 1 lines old mid good (Ok good) are) (line_service k at taken (length lines + 1) line mid new (Err e) step)
 
-  pub acts_serve : (left : Option (List ℕ)) (old new : Come K E) (r : Result Bool RunFault) → HaveBeenAnswered kept_lines Line left old new r → StaysInService k old.keeper new.keeper r
+  pub acts_serve : (left : Option (List ℕ)) (old new : Call K E) (r : Result Bool RunFault) → HaveBeenAnswered kept_lines Line left old new r → StaysInService k old.keeper new.keeper r
   acts_serve left old new (Ok good) (lines, all, are) = lines_serve 1 lines old new good (Ok good) are
   acts_serve left old new (Err e) (lines, (next, first, end)) = end_serves lines next old new e end
 
   module _ {I : Type 0} (given : I → Given) (turned : I → I → Type 0) where
-    abbrev Take : Come K E × I → Come K E × I → Result Bool RunFault → Type 0
+    abbrev Take : Call K E × I → Call K E × I → Result Bool RunFault → Type 0
     Take = HasTakenNext (λ bytes. HasAnswered k at taken None) given turned
 
-    pub take_serves : (old new : Come K E × I) (r : Result Bool RunFault) → Take old new r → StaysInService k old.0.keeper new.0.keeper r
+    pub take_serves : (old new : Call K E × I) (r : Result Bool RunFault) → Take old new r → StaysInService k old.0.keeper new.0.keeper r
     take_serves old new r step = input_service IsTelegramAsked k at taken (old.0, given step.next) (new.0, given new.1) r step.run
 
-    made_serve : (n : ℕ) (old new : Come K E × I) (good : Bool) → AreMade Take n old new good → StaysInService {A = Bool} {E = RunFault} k old.0.keeper new.0.keeper (Ok good)
-    made_serve zero old new good (same, all) = still k old.0 new.0 (Ok good) (ap (λ (c : Come K E × I). c.0) same)
+    made_serve : (n : ℕ) (old new : Call K E × I) (good : Bool) → AreMade Take n old new good → StaysInService {A = Bool} {E = RunFault} k old.0.keeper new.0.keeper (Ok good)
+    made_serve zero old new good (same, all) = still k old.0 new.0 (Ok good) (ap (λ (c : Call K E × I). c.0) same)
     made_serve (suc n) old new good (mid, (before, one, first, step, all)) =
         let next = take_serves mid new (Ok one) step in
         then_serves k old.0.keeper mid.0.keeper new.0.keeper before (Ok good) (made_serve n old mid before first) (record { premise = next.premise; works = next.works })
 
-    pub takes_serve : (count : ℕ) (old new : Come K E × I) (r : Result Bool RunFault) → HaveBeenMade Take count old new r → StaysInService k old.0.keeper new.0.keeper r
+    pub takes_serve : (count : ℕ) (old new : Call K E × I) (r : Result Bool RunFault) → HaveBeenMade Take count old new r → StaysInService k old.0.keeper new.0.keeper r
     takes_serve count old new (Ok good) made = made_serve count old new good made
     takes_serve count old new (Err e) (n, less, (mid, (before, first, step))) =
         then_serves k old.0.keeper mid.0.keeper new.0.keeper before (Err e) (made_serve n old mid before first) (take_serves mid new (Err e) step)

@@ -5,11 +5,11 @@ use Rattle.station_days.specs.Date.{LocalMinute}
 use Rattle.station_core.specs.Given.{Given}
 use Rattle.station_core.specs.Step.{State}
 use Rattle.input_reasons.specs.Reason.{HasReason}
-use Rattle.stock_list.specs.declared.answer.RunFault.{RunFault}
-use Rattle.cli_run.specs.declared.asked.Asked.{Asked}
+use Rattle.cli_run.specs.declared.fault.RunFault.{RunFault}
+use Rattle.cli_run.specs.declared.request.Request.{Request}
 use Rattle.station_core.specs.Keeping.{Keeping}
 use Rattle.cli_run.specs.Explained.{asked_unread, reason_head, HasToldWhy, HasGivenReason, HasExplained}
-use Rattle.stock_list.specs.Come.{Come}
+use Rattle.cli_run.specs.Ends.{Call}
 
 pub told_if : {E : Type 0} (taken : E → Given) (unread : Bool) (head : List ℕ) (old new : E) → unread ≡ true
     → HasReason head (taken old).bytes (taken new).bytes → HasToldWhy taken unread head old new
@@ -24,7 +24,7 @@ quiet_given taken unread head old new (Ok false) given is = cc
 quiet_given taken unread head old new (Err e) given is = cc
 
 -- a command that stopped
-pub explained_stop : {K E : Type 0} (number : Option ℕ) (k : Keeping K) (asks : Asked) (at : LocalMinute) (taken : E → Given) (old new : Come K E) (r : Result Bool RunFault) (f : RunFault)
+pub explained_stop : {K E : Type 0} (number : Option ℕ) (k : Keeping K) (asks : Request) (at : LocalMinute) (taken : E → Given) (old new : Call K E) (r : Result Bool RunFault) (f : RunFault)
     → new.errors ≡ old.errors → IsErrAnd r (λ x. x ≡ f) → HasExplained number k asks at taken old new r
 explained_stop number k asks at taken old new (Ok x) f silent same = absurd same
 explained_stop number k asks at taken old new (Err x) f silent same =
@@ -35,7 +35,7 @@ each_why : (r : Result Bool RunFault) (P : Type 0) → P → OnOk r P
 each_why (Ok x) P told = told
 each_why (Err e) P told = tt
 
-pub explained_unasked : {K E : Type 0} (number : Option ℕ) (k : Keeping K) (asks : Asked) (at : LocalMinute) (taken : E → Given) (old new : Come K E) (r : Result Bool RunFault) (unread : Bool)
+pub explained_unasked : {K E : Type 0} (number : Option ℕ) (k : Keeping K) (asks : Request) (at : LocalMinute) (taken : E → Given) (old new : Call K E) (r : Result Bool RunFault) (unread : Bool)
     → HasGivenReason taken unread (reason_head number asks) old.errors new.errors r
     → ((s : State) → unread ≡ asked_unread s asks at) → HasExplained number k asks at taken old new r
 explained_unasked number k asks at taken old new r unread given why =

@@ -10,8 +10,8 @@ use Rattle.reports.specs.Ended.{HasEnded, HasEndedBy, HasTold, IsCause, StopsBy,
 use Rattle.reports.specs.declared.fault.ReportCause.{ReportCause}
 use Rattle.reports.specs.declared.fault.ReportCause.TheVariants as cause
 use Rattle.reports.specs.declared.fault.ReportFault.{ReportFault}
-use Rattle.stock_list.specs.declared.answer.RunFault.TheVariants as fault
-use Rattle.stock_list.specs.Ended.{run_fault}
+use Rattle.cli_run.specs.declared.fault.RunFault.TheVariants as fault
+use Rattle.cli_run.specs.Faults.{run_fault}
 use Rattle.reports.specs.declared.form.Form.{Form}
 use Rattle.reports.specs.declared.listing.Listing.{Listing}
 use Rattle.reports.specs.Listings.{IsListing}
@@ -25,15 +25,11 @@ store_fails May act.Reopen is told = absurd is
 
 no_write : (e : ActFault) → run_fault e ≡ fault.Write → ⊥
 no_write act.Memory is = cc
-no_write (act.Refused refusal) is = cc
-no_write act.Store is = cc
-no_write act.Reopen is = cc
+no_write _ is = cc
 
 no_read : (e : ActFault) → run_fault e ≡ fault.Read → ⊥
 no_read act.Memory is = cc
-no_read (act.Refused refusal) is = cc
-no_read act.Store is = cc
-no_read act.Reopen is = cc
+no_read _ is = cc
 
 told_write : (why : ReportCause) (old new : Given) → HasTold why old new → cause_fault why ≡ fault.Write → HasCause old new
 told_write cause.Write old new told is = told
@@ -68,9 +64,7 @@ report_fault open_station may_fail s f l old new (Err e) (begun, gone, told, why
 stops_by : (why : ReportCause) (sent : ℕ) (old new : Given) → StopsBy [] why sent old new → StopsReport old new (Err (cause_fault why))
 stops_by cause.Write sent old new stops = stops
 stops_by (cause.Act act.Memory) sent old new stops = stops.0
-stops_by (cause.Act (act.Refused refusal)) sent old new stops = stops.0
-stops_by (cause.Act act.Store) sent old new stops = stops.0
-stops_by (cause.Act act.Reopen) sent old new stops = stops.0
+stops_by (cause.Act _) sent old new stops = stops.0
 
 pub stops_writing : (old new : Given) (r : Result (Unit {0}) ReportFault) → StopsWriting [] old new r → StopsReport old new (run_ended r)
 stops_writing old new (Ok x) stops = stops

@@ -1,5 +1,5 @@
--- A request that the keeper didn't answer, or wasn't asked.
-use Rattle.std.proofs.Common.{◌≡◌, ◌∙◌, refl, ap, subst, sym, ℕ, Bool, false, List, ◌++◌, take, Option, Result, Ok, Err, IfErr, IfOk, ◌⊎◌, inl, inr, ⊎_elim}
+-- A request or a row that the keeper didn't answer, or wasn't asked.
+use Rattle.std.proofs.Common.{◌≡◌, ◌∙◌, refl, ap, subst, sym, ℕ, Bool, false, List, ◌++◌, take, Option, Some, Result, Ok, Err, IfErr, IfOk, ◌⊎◌, inl, inr, ⊎_elim}
 use Rattle.station_days.specs.Date.{LocalMinute}
 use Rattle.station_core.proofs.Premise.{kept_at}
 use Rattle.station_core.specs.declared.answer.ActFault.{ActFault}
@@ -7,45 +7,45 @@ use Rattle.station_core.specs.declared.answer.ActFault.TheVariants as act
 use Rattle.station_core.specs.declared.input.Input.{Input}
 use Rattle.station_core.specs.Given.{Given}
 use Rattle.station_core.specs.Keeping.{Answers, IsBrokenAfter, IsMemoryOrStore, Keeping, MayLeave}
-use Rattle.station_core.specs.Step.{State}
-use Rattle.stock_list.specs.declared.answer.RunFault.{RunFault}
-use Rattle.stock_list.specs.declared.answer.RunFault.TheVariants as fault
-use Rattle.stock_list.specs.Come.{come}
-use Rattle.stock_list.specs.Ended.{kept_by, run_fault, IsShutAfter, Kept}
-use Rattle.stock_list.proofs.Unanswered.{still_kept}
-use Rattle.cli_run.specs.declared.asked.Asked.{Asked}
-use Rattle.cli_run.specs.declared.asked.Asked.TheVariants as asked
+use Rattle.station_core.specs.Step.{State, step}
+use Rattle.cli_run.specs.declared.fault.RunFault.{RunFault}
+use Rattle.cli_run.specs.declared.fault.RunFault.TheVariants as fault
+use Rattle.cli_run.specs.Ends.{call}
+use Rattle.cli_run.specs.Faults.{kept_by, run_fault, IsShutAfter, Kept}
+use Rattle.cli_run.specs.declared.request.Request.{Request}
 use Rattle.cli_run.specs.Answered.{HasAnswered, HasToldUnread}
-use Rattle.cli_run.specs.Asked.{asked_after, asked_good, asked_line}
+use Rattle.cli_run.specs.Requests.{asked_after, asked_good, asked_line}
 use Rattle.cli_run.specs.Ended.{IsAnswered, IsStopped}
 use Rattle.cli_run.specs.Explained.{asked_unread, reason_head}
 use Rattle.cli_run.specs.Shut.{HasToldLine, IsAnsweredShut}
 use Rattle.cli_run.proofs.Ran.{always}
 use Rattle.cli_run.proofs.Reasons.{explained_unasked}
 
-why_stops : (e : ActFault) → (run_fault e ≡ fault.Memory) ⊎ (run_fault e ≡ fault.Store)
-why_stops act.Memory = inl refl
-why_stops (act.Refused refusal) = inr refl
-why_stops act.Store = inr refl
-why_stops act.Reopen = inr refl
+pub still_kept : (s : State) (i : Input) (at : LocalMinute) (e : ActFault) (keeps : State → Type 0) → Answers s i at (Err e) keeps → run_fault e ≡ fault.Memory → keeps s
+still_kept s i at act.Memory keeps answers is = answers
+still_kept s i at _ keeps answers is = cc
 
--- it stops the command, whatever the fault is reported as
-pub not_acted : (number : Option ℕ) (s : State) (i : Input) (at : LocalMinute) (e : ActFault) (told : RunFault) (before : List ℕ) (left : Kept)
+-- a keeper's fault is out of memory, or the store's
+keeper_cause : (e : ActFault) → (run_fault e ≡ fault.Memory) ⊎ (run_fault e ≡ fault.Store)
+keeper_cause act.Memory = inl refl
+keeper_cause _ = inr refl
+
+-- an input that it didn't answer stops the command, whatever the fault is reported as
+pub not_acted : (text : List ℕ) (s next : State) (i : Input) (at : LocalMinute) (e : ActFault) (told : RunFault) (before : List ℕ) (left : Kept) → (step s i at).state ≡ next
     → told ≡ run_fault e → Answers s i at (Err e) left.keeps → ((found : Option State) → left.may_find found → MayLeave s i at (Err e) found)
-    → IsStopped number s (asked.Input i) at told before before left
-not_acted number s i at e told before left is answers leaves =
-    subst (λ (f : RunFault). IsStopped number s (asked.Input i) at f before before left) (sym is) (inr (record {
-      why = why_stops e;
+    → IsStopped text s next told before before left
+not_acted text s next i at e told before left after is answers leaves =
+    subst (λ (f : RunFault). IsStopped text s next f before before left) (sym is) (inr (record {
+      why = keeper_cause e;
       nothing = refl;
       memory = still_kept s i at e left.keeps answers;
-      states = λ found may. ⊎_elim (λ same. inl same) (λ store. inr (ap run_fault store.0, store.1)) (leaves found may);
+      states = λ found may. ⊎_elim (λ same. inl same) (λ store. inr (ap run_fault store.0, store.1 ∙ ap Some after)) (leaves found may);
     }))
 
 shut_as : (e : ActFault) (broken : Bool) → IsMemoryOrStore e → IsBrokenAfter e broken → IsShutAfter (run_fault e) broken
 shut_as act.Memory broken one after = after
 shut_as act.Store broken one after = after
-shut_as act.Reopen broken one after = absurd one
-shut_as (act.Refused refusal) broken one after = absurd one
+shut_as _ broken one after = absurd one
 
 -- after it the station has to be opened again where its store failed, and then only
 pub shut_after : (e : ActFault) (told : RunFault) (broken : Bool) → told ≡ run_fault e → IsMemoryOrStore e → IsBrokenAfter e broken → IsShutAfter told broken
@@ -53,10 +53,8 @@ shut_after e told broken is one after = subst (λ (f : RunFault). IsShutAfter f 
 
 -- the station works where another fault ends the command
 works_still : (e : RunFault) (broken : Bool) → (e ≡ fault.Store → ⊥) → broken ≡ false → IsShutAfter e broken
-works_still fault.Read broken other works = works
-works_still fault.Write broken other works = works
-works_still fault.Memory broken other works = works
 works_still fault.Store broken other works = absurd (other refl)
+works_still _ broken other works = works
 
 no_store : {A : Type 0} (e : RunFault) → (e ≡ fault.Write) ⊎ ((e ≡ fault.Memory) × A) → e ≡ fault.Store → ⊥
 no_store e why is = ⊎_elim (λ write. let both : fault.Write ≡ fault.Store = sym write ∙ is in cc) (λ memory. let both : fault.Memory ≡ fault.Store = sym memory.0 ∙ is in cc) why
@@ -74,10 +72,10 @@ never_read line old new (Err e) told is = no_read e told.why (let same : e ≡ f
 
 -- a request that isn't for the station
 module _ {K E : Type 0} (k : Keeping K) (at : LocalMinute) (taken : E → Given) (number : Option ℕ) (keeper : K) (old new : Given × E) where
-  module _ (asks : Asked) (line : List ℕ) (unread : Bool) (line_is : (s : State) → line ≡ asked_line number s asks at) (good_is : (s : State) → false ≡ asked_good s asks at)
+  module _ (asks : Request) (line : List ℕ) (unread : Bool) (line_is : (s : State) → line ≡ asked_line number s asks at) (good_is : (s : State) → false ≡ asked_good s asks at)
       (after_is : (s : State) → s ≡ asked_after s asks at) where
     told_ok : (s : State) → k.keeps keeper s → (r : Result Bool RunFault) → HasToldLine line old.0 new.0 r
-        → IfOk r (λ good. IsAnswered number s asks at good old.0.bytes new.0.bytes (k.keeps keeper))
+        → IfOk r (λ good. IsAnswered (asked_line number s asks at) (asked_good s asks at) (asked_after s asks at) good old.0.bytes new.0.bytes (k.keeps keeper))
     told_ok s keeps (Ok good) told = record {
       line = told.1 ∙ ap (λ l. old.0.bytes ++ l) (line_is s);
       good_is = told.0 ∙ good_is s;
@@ -86,17 +84,17 @@ module _ {K E : Type 0} (k : Keeping K) (at : LocalMinute) (taken : E → Given)
     told_ok s keeps (Err e) told = tt
 
     told_part : (s : State) → k.keeps keeper s → (r : Result Bool RunFault) → HasToldLine line old.0 new.0 r
-        → IfErr r (λ e. IsStopped number s asks at e old.0.bytes new.0.bytes (kept_by k keeper))
+        → IfErr r (λ e. IsStopped (asked_line number s asks at) s (asked_after s asks at) e old.0.bytes new.0.bytes (kept_by k keeper))
     told_part s keeps (Ok good) told = tt
     told_part s keeps (Err e) told = inl (record {
-      why = ⊎_elim (λ write. inl write) (λ memory. inr memory.0) told.why;
+      why = told.why;
       sent = told.sent;
       line = told.part ∙ ap (λ l. old.0.bytes ++ take told.sent l) (line_is s);
       state = subst (k.keeps keeper) (after_is s) keeps;
     })
 
     pub unasked : (r : Result Bool RunFault) → (HasToldLine line old.0 new.0 r → IsAnsweredShut number asks old.0 new.0 r) → ((s : State) → unread ≡ asked_unread s asks at)
-        → HasToldUnread taken line unread (reason_head number asks) old new r → HasAnswered k at taken number asks (come keeper old.0 old.1) (come keeper new.0 new.1) r
+        → HasToldUnread taken line unread (reason_head number asks) old new r → HasAnswered k at taken number asks (call keeper old.0 old.1) (call keeper new.0 new.1) r
     unasked r shut why told = record {
       service = record { premise = kept_at keeper; works = λ works. always r works };
       breaks = works_told line old.0 new.0 r (k.is_broken keeper) told.told;
@@ -107,5 +105,5 @@ module _ {K E : Type 0} (k : Keeping K) (at : LocalMinute) (taken : E → Given)
       unwritten = told.unwritten;
       same = λ broken. refl;
       reopen = λ broken. shut told.told;
-      explained = explained_unasked number k asks at taken (come keeper old.0 old.1) (come keeper new.0 new.1) r unread told.reasons why;
+      explained = explained_unasked number k asks at taken (call keeper old.0 old.1) (call keeper new.0 new.1) r unread told.reasons why;
     }

@@ -12,8 +12,8 @@ use Rattle.desk_commands.specs.declared.verb.Verb.{Verb}
 use Rattle.telegrams.specs.Meaning.{IsTelegram, telegram_fault, refusal_of}
 use Rattle.station_core.specs.Key.{is_key}
 use Rattle.station_core.specs.declared.input.Input.TheVariants.{Keyed, Wire}
-use Rattle.cli_run.specs.declared.asked.Asked.{Asked}
-use Rattle.cli_run.specs.declared.asked.Asked.TheVariants as asked
+use Rattle.cli_run.specs.declared.request.Request.{Request}
+use Rattle.cli_run.specs.declared.request.Request.TheVariants as asked
 
 -- an object of a verb, a key and a body, and nothing else
 pub record IsFrame (d : Data) (verb : Verb) (key : List ℕ) (body : Data) : Type 0 where
@@ -29,7 +29,7 @@ pub record IsWired (d : Data) (text : List ℕ) : Type 0 where
   pub text_is : get (codes "telegram") d ≡ Some (string text)
 
 -- the request in the value of a line: a command under its key, a telegram, or neither
-abbrev pub Asks : List ℕ → Data → Asked → Type 0
+abbrev pub Asks : List ℕ → Data → Request → Type 0
 Asks line d (asked.Input (Keyed key command)) =
     (verb : Verb) × ((body : Data) × IsFrame d verb key body × IsBodyOf verb body command)
 Asks line d (asked.Input (Wire t)) = (text : List ℕ) × IsWired d text × IsTelegram text t
@@ -57,7 +57,7 @@ IsWritten line d = (length line ≤ most_line) × IsUtf8 line × (read line ≡ 
 
 -- The request in a line, as far as it is kept, from its value. A line that is too long has no
 -- value, so it is bad; what is kept of it is still too long.
-abbrev pub IsActAsked : List ℕ → Asked → Type 0
+abbrev pub IsActAsked : List ℕ → Request → Type 0
 IsActAsked line (asked.BadLine same) =
     (same.now ≡ line) × ((d : Data) → IsWritten line d → Asks line d (asked.BadLine same))
 IsActAsked line asks = (d : Data) × IsWritten line d × Asks line d asks

@@ -4,10 +4,10 @@ use Rattle.std.specs.Str.{bytes_eq}
 use Rattle.station_days.specs.Date.{LocalMinute}
 use Rattle.station_core.specs.Given.{Given}
 use Rattle.station_core.specs.Keeping.{Keeping}
-use Rattle.stock_list.specs.declared.answer.RunFault.{RunFault}
-use Rattle.stock_list.specs.declared.answer.RunFault.TheVariants as fault
-use Rattle.stock_list.specs.Come.{Come}
-use Rattle.cli_run.specs.declared.asked.Asked.{Asked}
+use Rattle.cli_run.specs.declared.fault.RunFault.{RunFault}
+use Rattle.cli_run.specs.declared.fault.RunFault.TheVariants as fault
+use Rattle.cli_run.specs.Ends.{Call}
+use Rattle.cli_run.specs.declared.request.Request.{Request}
 use Rattle.cli_run.specs.ActLine.{IsActAsked}
 use Rattle.cli_run.specs.Answered.{HasAnswered}
 
@@ -16,28 +16,28 @@ abbrev pub is_blank : List ℕ → Bool
 is_blank line = bytes_eq line (codes "\n") || bytes_eq line (codes "\r\n")
 
 -- an empty line does nothing
-pub record HasSkipped {K E : Type 0} (line : List ℕ) (old new : Come K E)
+pub record HasSkipped {K E : Type 0} (line : List ℕ) (old new : Call K E)
     (result : Result Bool RunFault) : Type 0 where
   pub blank : is_blank line ≡ true
   pub same : new ≡ old
   pub good : result ≡ Ok true
 
 -- memory ran out before the line was read: nothing was done or written
-pub record HasNotHeard {K E : Type 0} (old new : Come K E) (result : Result Bool RunFault) : Type 0 where
+pub record HasNotHeard {K E : Type 0} (old new : Call K E) (result : Result Bool RunFault) : Type 0 where
   pub same : new ≡ old
   pub why : result ≡ Err fault.Memory
 
 -- the line has this request, which was answered
 pub record HasHeard {K E : Type 0} (k : Keeping K) (at : LocalMinute) (taken : E → Given) (number : ℕ)
-    (line : List ℕ) (old new : Come K E) (result : Result Bool RunFault) : Type 0 where
-  pub asks : Asked
+    (line : List ℕ) (old new : Call K E) (result : Result Bool RunFault) : Type 0 where
+  pub asks : Request
   pub blank : is_blank line ≡ false
   pub asked : IsActAsked line asks
   pub answer : HasAnswered k at taken (Some number) asks old new result
 
 -- The line with this number was answered. An empty line is skipped.
 abbrev pub HasAnsweredLine : {K E : Type 0} → Keeping K → LocalMinute → (E → Given) → ℕ → List ℕ
-    → Come K E → Come K E → Result Bool RunFault → Type 0
+    → Call K E → Call K E → Result Bool RunFault → Type 0
 HasAnsweredLine k at taken number line old new result =
     HasSkipped line old new result ⊎ (HasNotHeard old new result
     ⊎ HasHeard k at taken number line old new result)

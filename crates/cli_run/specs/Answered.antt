@@ -1,13 +1,15 @@
 -- The effect of a request, and of a command that reads one.
 use Rattle.std.specs.Prelude.{◌≡◌, ◌⊎◌, Bool, true, false, None, Option, Result, Err, IfErr, IfOk, List, ℕ}
 use Rattle.station_days.specs.Date.{LocalMinute}
+use Rattle.imp_fields.specs.TextSize.{most_bytes}
 use Rattle.station_core.specs.Given.{Given}
 use Rattle.station_core.specs.Keeping.{IfWorks, Keeping, StaysIfBroken, StaysInService}
-use Rattle.stock_list.specs.declared.answer.RunFault.{RunFault}
-use Rattle.stock_list.specs.declared.answer.RunFault.TheVariants as fault
-use Rattle.stock_list.specs.Come.{Come}
-use Rattle.stock_list.specs.Ended.{IsShutAfter, TellsWriting, kept_by}
-use Rattle.cli_run.specs.declared.asked.Asked.{Asked}
+use Rattle.cli_run.specs.declared.fault.RunFault.{RunFault}
+use Rattle.cli_run.specs.declared.fault.RunFault.TheVariants as fault
+use Rattle.cli_run.specs.Ends.{Call}
+use Rattle.cli_run.specs.Faults.{IsShutAfter, TellsWriting, kept_by}
+use Rattle.cli_run.specs.declared.request.Request.{Request}
+use Rattle.cli_run.specs.Requests.{asked_after, asked_good, asked_line}
 use Rattle.cli_run.specs.Came.{most_come, HasCome, HasFailed, IsWithin}
 use Rattle.cli_run.specs.Ended.{IsAnswered, IsStopped}
 use Rattle.cli_run.specs.Explained.{HasExplained, HasGivenReason}
@@ -17,13 +19,15 @@ use Rattle.cli_run.specs.Shut.{HasToldLine, IsAnsweredShut}
 -- exactly if the writer failed or wrote 0 bytes, and the store's exactly if the station must be
 -- opened again. `number` is the number of its line of `acts`, if it has one.
 pub record HasAnswered {K E : Type 0} (k : Keeping K) (at : LocalMinute) (taken : E → Given)
-    (number : Option ℕ) (asks : Asked) (old new : Come K E) (result : Result Bool RunFault) : Type 0 where
+    (number : Option ℕ) (asks : Request) (old new : Call K E) (result : Result Bool RunFault) : Type 0 where
   pub service : StaysInService k old.keeper new.keeper result
   pub breaks : k.is_broken old.keeper ≡ false
       → IfErr result (λ e. IsShutAfter e (k.is_broken new.keeper))
-  pub answered : IfWorks k old.keeper new.keeper (λ s. IfOk result (λ good. IsAnswered number s asks
-      at good old.sent.bytes new.sent.bytes (k.keeps new.keeper)))
-  pub stopped : IfWorks k old.keeper new.keeper (λ s. IfErr result (λ e. IsStopped number s asks at e
+  pub answered : IfWorks k old.keeper new.keeper (λ s. IfOk result (λ good.
+      IsAnswered (asked_line number s asks at) (asked_good s asks at) (asked_after s asks at) good
+      old.sent.bytes new.sent.bytes (k.keeps new.keeper)))
+  pub stopped : IfWorks k old.keeper new.keeper (λ s. IfErr result (λ e.
+      IsStopped (asked_line number s asks at) s (asked_after s asks at) e
       old.sent.bytes new.sent.bytes (kept_by k new.keeper)))
   pub unread : result ≡ Err fault.Read → ⊥
   pub writing : TellsWriting old.sent new.sent result
@@ -45,12 +49,12 @@ pub record HasToldUnread {E : Type 0} (taken : E → Given) (line : List ℕ) (u
   pub reasons : HasGivenReason taken unread head old.1 new.1 result
 
 -- the input was received, and the request in its bytes was answered
-pub record HasReceived {C : Type 0} (IsAsked : List ℕ → Asked → Type 0)
-    (Answers : List ℕ → Asked → C → C → Result Bool RunFault → Type 0) (read_old read_new : Given)
+pub record HasReceived {C : Type 0} (IsAsked : List ℕ → Request → Type 0)
+    (Answers : List ℕ → Request → C → C → Result Bool RunFault → Type 0) (read_old read_new : Given)
     (old new : C) (result : Result Bool RunFault) : Type 0 where
   pub bytes : List ℕ
-  pub come : HasCome read_old read_new bytes
-  pub asks : Asked
+  pub come : HasCome most_bytes read_old read_new bytes
+  pub asks : Request
   pub asked : IsAsked bytes asks
   pub answer : Answers bytes asks old new result
 
@@ -61,8 +65,8 @@ pub record HasNotReceived {C : Type 0} (old new : C) (result : Result Bool RunFa
 
 -- A command over one input. `Read` is returned only if the reader failed, and only a prefix of an
 -- input that is too long is read.
-pub record HasRunInput {C : Type 0} (IsAsked : List ℕ → Asked → Type 0)
-    (Answers : List ℕ → Asked → C → C → Result Bool RunFault → Type 0) (read_old read_new : Given)
+pub record HasRunInput {C : Type 0} (IsAsked : List ℕ → Request → Type 0)
+    (Answers : List ℕ → Request → C → C → Result Bool RunFault → Type 0) (read_old read_new : Given)
     (old new : C) (result : Result Bool RunFault) : Type 0 where
   pub answered : HasReceived IsAsked Answers read_old read_new old new result
       ⊎ HasNotReceived old new result
@@ -71,7 +75,7 @@ pub record HasRunInput {C : Type 0} (IsAsked : List ℕ → Asked → Type 0)
   pub most : IsWithin most_come read_old read_new
 
 -- the same with a station that answers
-abbrev pub HasAnsweredAsked : {K E : Type 0} → (List ℕ → Asked → Type 0) → Keeping K → LocalMinute
-    → (E → Given) → Come K E × Given → Come K E × Given → Result Bool RunFault → Type 0
+abbrev pub HasAnsweredAsked : {K E : Type 0} → (List ℕ → Request → Type 0) → Keeping K → LocalMinute
+    → (E → Given) → Call K E × Given → Call K E × Given → Result Bool RunFault → Type 0
 HasAnsweredAsked IsAsked k at taken old new result =
     HasRunInput IsAsked (λ bytes. HasAnswered k at taken None) old.1 new.1 old.0 new.0 result

@@ -23,11 +23,11 @@ pub record HasGrown (old new : Given) (before after : List ℕ) : Type 0 where
   pub idle : old.idle ≤ new.idle
 
 -- These bytes were received, and no read failed. The input ended, as a read with room returned
--- nothing; or it is too long.
-pub record HasCome (old new : Given) (bytes : List ℕ) : Type 0 where
+-- nothing; or it has more than `most` bytes.
+pub record HasCome (most : ℕ) (old new : Given) (bytes : List ℕ) : Type 0 where
   pub given : new.bytes ≡ old.bytes ++ bytes
   pub failures : new.failures ≡ old.failures
-  pub whole : (old.idle < new.idle) ⊎ (most_bytes < length bytes)
+  pub ended : (old.idle < new.idle) ⊎ (most < length bytes)
 
 abbrev pub most_reads : ℕ
 most_reads = 18_446_744_073_709_551_615

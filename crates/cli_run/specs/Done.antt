@@ -6,17 +6,16 @@ use Rattle.station_core.specs.Keeping.{Keeping}
 use Rattle.reports.specs.Listings.{IsListing}
 use Rattle.reports.specs.declared.listing.Listing.TheVariants as listing
 use Rattle.reports.specs.declared.report.Report.TheVariants as report
-use Rattle.stock_list.specs.declared.answer.RunFault.{RunFault}
-use Rattle.stock_list.specs.declared.answer.RunFault.TheVariants as fault
-use Rattle.stock_list.specs.Answered.{HasAnsweredRows}
-use Rattle.stock_list.specs.Ended.{IsReadToEnd}
-use Rattle.stock_list.specs.InTurn.{HaveBeenAnswered}
-use Rattle.cli_run.specs.Asked.{IsCommandAsked}
+use Rattle.cli_run.specs.declared.fault.RunFault.{RunFault}
+use Rattle.cli_run.specs.declared.fault.RunFault.TheVariants as fault
+use Rattle.cli_run.specs.RowsAnswered.{HasAnsweredRows}
+use Rattle.cli_run.specs.Faults.{IsReadToEnd}
+use Rattle.cli_run.specs.InTurn.{HaveBeenAnswered, kept_lines, HaveBeenMade}
+use Rattle.cli_run.specs.Requests.{IsCommandAsked}
 use Rattle.cli_run.specs.Answered.{HasAnswered, HasAnsweredAsked}
 use Rattle.cli_run.specs.Acts.{HasAnsweredLine}
 use Rattle.cli_run.specs.Takes.{HasTakenNext}
-use Rattle.cli_run.specs.Ends.{come_to, told_to, Ends, Reached, Told}
-use Rattle.cli_run.specs.InTurn.{kept_lines, HaveBeenMade}
+use Rattle.cli_run.specs.Ends.{call_to, printed_to, Ends, Reached, Printed}
 use Rattle.cli_run.specs.History.{HasReadHistory}
 use Rattle.cli_run.specs.Reported.{HasReportedGood}
 use Rattle.cli_words.specs.declared.line.LineCommand.{LineCommand}
@@ -29,7 +28,7 @@ made_line here = codes "ok " ++ here ++ codes "\n"
 
 -- The line of the new station was written; or a prefix, and the writer failed or wrote 0 bytes. The
 -- station stays as it was created.
-pub record HasToldMade {K : Type 0} (here : List ℕ) (old new : Told K) (result : Result Bool RunFault) : Type 0 where
+pub record HasToldMade {K : Type 0} (here : List ℕ) (old new : Printed K) (result : Result Bool RunFault) : Type 0 where
   pub same : new.0 ≡ old.0
   pub good : IfOk result (λ good. good ≡ true)
   pub all : OnOk result (new.1.bytes ≡ old.1.bytes ++ made_line here)
@@ -38,7 +37,7 @@ pub record HasToldMade {K : Type 0} (here : List ℕ) (old new : Told K) (result
   pub cause : OnErr result (HasCause old.1 new.1)
 
 -- nothing was done or written
-pub record HasIdled {K : Type 0} (old new : Told K) (result : Result Bool RunFault) : Type 0 where
+pub record HasIdled {K : Type 0} (old new : Printed K) (result : Result Bool RunFault) : Type 0 where
   pub same : new.0 ≡ old.0
   pub nothing : new.1 ≡ old.1
   pub good : result ≡ Ok true
@@ -48,32 +47,32 @@ pub record HasIdled {K : Type 0} (old new : Told K) (result : Result Bool RunFau
 abbrev pub HasDone : {K I W E : Type 0} → LineCommand → List ℕ → Keeping K → Ends I W E → LocalMinute
     → K × Reached I W E → K × Reached I W E → Result Bool RunFault → Type 0
 HasDone command.Init here k e at old new r =
-    HasToldMade here (told_to e old) (told_to e new) r
+    HasToldMade here (printed_to e old) (printed_to e new) r
 HasDone command.Migrate here k e at old new r =
-    HasIdled (told_to e old) (told_to e new) r
+    HasIdled (printed_to e old) (printed_to e new) r
 HasDone command.Stock here k e at old new r =
-    HasAnsweredRows k at e.told (e.remaining old.1.reader) (come_to e old) (come_to e new) r
+    HasAnsweredRows k at e.told (e.remaining old.1.reader) (call_to e old) (call_to e new) r
     × IsReadToEnd (e.given new.1.reader) r
 HasDone (command.Take paths) here k e at old new r =
     HaveBeenMade (HasTakenNext (λ bytes. HasAnswered k at e.told None) e.given e.turned) (length paths.items)
-    (come_to e old, old.1.reader) (come_to e new, new.1.reader) r
+    (call_to e old, old.1.reader) (call_to e new, new.1.reader) r
 HasDone (command.Act verb key) here k e at old new r =
-    HasAnsweredAsked (IsCommandAsked verb key) k at e.told (come_to e old, e.given old.1.reader)
-    (come_to e new, e.given new.1.reader) r
+    HasAnsweredAsked (IsCommandAsked verb key) k at e.told (call_to e old, e.given old.1.reader)
+    (call_to e new, e.given new.1.reader) r
 HasDone command.Acts here k e at old new r =
-    HaveBeenAnswered kept_lines (HasAnsweredLine k at e.told) (e.remaining old.1.reader) (come_to e old) (come_to e new) r
+    HaveBeenAnswered kept_lines (HasAnsweredLine k at e.told) (e.remaining old.1.reader) (call_to e old) (call_to e new) r
     × IsReadToEnd (e.given new.1.reader) r
 HasDone (command.Outbox f) here k e at old new r =
-    HasReportedGood (λ s. IsListing f s (listing.All report.Pending)) k (told_to e old) (told_to e new) r
+    HasReportedGood (λ s. IsListing f s (listing.All report.Pending)) k (printed_to e old) (printed_to e new) r
 HasDone (command.Report l f) here k e at old new r =
-    HasReportedGood (λ s. IsListing f s l) k (told_to e old) (told_to e new) r
+    HasReportedGood (λ s. IsListing f s l) k (printed_to e old) (printed_to e new) r
 HasDone (command.Waybill w) here k e at old new r =
-    HasLookedUp (waybill_found w) k (told_to e old) (told_to e new) r
+    HasLookedUp (waybill_found w) k (printed_to e old) (printed_to e new) r
 HasDone (command.Holder w) here k e at old new r =
-    HasLookedUp (holder_found w) k (told_to e old) (told_to e new) r
+    HasLookedUp (holder_found w) k (printed_to e old) (printed_to e new) r
 HasDone (command.History w) here k e at old new r =
-    HasReadHistory k w (told_to e old) (told_to e new) r
+    HasReadHistory k w (printed_to e old) (printed_to e new) r
 HasDone (command.Read path) here k e at old new r =
-    HasIdled (told_to e old) (told_to e new) r
+    HasIdled (printed_to e old) (printed_to e new) r
 HasDone (command.Serve port count) here k e at old new r =
-    HasIdled (told_to e old) (told_to e new) r
+    HasIdled (printed_to e old) (printed_to e new) r

@@ -1,11 +1,19 @@
 -- The parts of a call that contracts see: its keeper's state, and what it reads and writes.
 use Rattle.std.specs.Prelude.{Option, List, ℕ}
 use Rattle.station_core.specs.Given.{Given}
-use Rattle.stock_list.specs.Come.{Come, come}
+
+-- the state of a call: its station, its output, and its errors
+pub record Call (K E : Type 0) : Type 0 where
+  pub keeper : K
+  pub sent : Given
+  pub errors : E
+
+abbrev pub call : {K E : Type 0} → K → Given → E → Call K E
+call keeper sent errors = record { keeper = keeper; sent = sent; errors = errors }
 
 -- a keeper, and what was written
-abbrev pub Told : Type 0 → Type 0
-Told K = K × Given
+abbrev pub Printed : Type 0 → Type 0
+Printed K = K × Given
 
 -- The ghost members of the reader and the writers: the rest of the input if known, the bytes it
 -- gave, its relation to the next input, and the bytes that the output and the errors took.
@@ -31,9 +39,9 @@ abbrev pub reached : {I W E : Type 0} → I → W → E → Reached I W E
 reached reader output errors = record { reader = reader; output = output; errors = errors }
 
 -- the state of a call, from its keeper, its reader and its writers
-abbrev pub come_to : {K I W E : Type 0} → Ends I W E → K × Reached I W E → Come K E
-come_to e at = come at.0 (e.printed at.1.output) at.1.errors
+abbrev pub call_to : {K I W E : Type 0} → Ends I W E → K × Reached I W E → Call K E
+call_to e at = call at.0 (e.printed at.1.output) at.1.errors
 
 -- the same for a command that reads nothing, and gives no reasons
-abbrev pub told_to : {K I W E : Type 0} → Ends I W E → K × Reached I W E → Told K
-told_to e at = (at.0, e.printed at.1.output)
+abbrev pub printed_to : {K I W E : Type 0} → Ends I W E → K × Reached I W E → Printed K
+printed_to e at = (at.0, e.printed at.1.output)

@@ -8,11 +8,11 @@ use Rattle.station_core.specs.declared.input.Input.TheVariants.{Keyed, Wire}
 use Rattle.station_core.specs.Given.{Given}
 use Rattle.station_core.specs.Step.{State, step}
 use Rattle.input_reasons.specs.Reason.{HasReason, is_unread, numbered_head}
-use Rattle.stock_list.specs.declared.answer.RunFault.{RunFault}
-use Rattle.cli_run.specs.declared.asked.Asked.{Asked}
-use Rattle.cli_run.specs.declared.asked.Asked.TheVariants as asked
+use Rattle.cli_run.specs.declared.fault.RunFault.{RunFault}
+use Rattle.cli_run.specs.declared.request.Request.{Request}
+use Rattle.cli_run.specs.declared.request.Request.TheVariants as asked
 use Rattle.station_core.specs.Keeping.{Keeping}
-use Rattle.stock_list.specs.Come.{Come}
+use Rattle.cli_run.specs.Ends.{Call}
 
 -- true if an answer says that a telegram can't be read
 abbrev pub is_unread_answer : Answer → Bool
@@ -25,7 +25,7 @@ answered_unread (Keyed key command) answer = false
 answered_unread (Wire telegram) answer = is_unread_answer answer
 
 -- true if a request at a moment can't be read
-abbrev pub asked_unread : State → Asked → LocalMinute → Bool
+abbrev pub asked_unread : State → Request → LocalMinute → Bool
 asked_unread s (asked.Input i) at = answered_unread i (step s i at).answer
 asked_unread s (asked.Refused refusal) at = is_unread refusal
 asked_unread s (asked.Bad verb body) at = true
@@ -41,7 +41,7 @@ abbrev pub line_head : Option ℕ → List ℕ
 line_head None = codes "line "
 line_head (Some number) = numbered_head number
 
-abbrev pub reason_head : Option ℕ → Asked → List ℕ
+abbrev pub reason_head : Option ℕ → Request → List ℕ
 reason_head number (asked.Input (Keyed key command)) = codes "body: "
 reason_head number (asked.Input (Wire telegram)) = telegram_head number
 reason_head number (asked.Refused refusal) = telegram_head number
@@ -63,8 +63,8 @@ HasGivenReason taken unread head old new (Err e) = new ≡ old
 
 -- The request was answered, and its reason given if it can't be read. Nothing is written if it was
 -- accepted.
-pub record HasExplained {K E : Type 0} (number : Option ℕ) (k : Keeping K) (asks : Asked)
-    (at : LocalMinute) (taken : E → Given) (old new : Come K E) (result : Result Bool RunFault) : Type 0 where
+pub record HasExplained {K E : Type 0} (number : Option ℕ) (k : Keeping K) (asks : Request)
+    (at : LocalMinute) (taken : E → Given) (old new : Call K E) (result : Result Bool RunFault) : Type 0 where
   pub quiet : result ≡ Ok true → new.errors ≡ old.errors
   pub unread : Bool
   pub given : HasGivenReason taken unread (reason_head number asks) old.errors new.errors result

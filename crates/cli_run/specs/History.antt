@@ -7,9 +7,9 @@ use Rattle.station_core.specs.Keeping.{IfSound, IfWorks, Keeping, OnlyReads}
 use Rattle.station_core.specs.Readers.{waybill_of}
 use Rattle.station_core.specs.Step.{State}
 use Rattle.station_core.specs.declared.rows.Waybill.{Waybill}
-use Rattle.stock_list.specs.declared.answer.RunFault.{RunFault}
-use Rattle.stock_list.specs.declared.answer.RunFault.TheVariants as fault
-use Rattle.cli_run.specs.Ends.{Told}
+use Rattle.cli_run.specs.declared.fault.RunFault.{RunFault}
+use Rattle.cli_run.specs.declared.fault.RunFault.TheVariants as fault
+use Rattle.cli_run.specs.Ends.{Printed}
 
 -- the answer to GET /v1/waybills/AWB/history, or that the waybill isn't declared
 abbrev pub IsHistoryText : State → ℕ → Option Waybill → List ℕ → Type 0
@@ -33,7 +33,7 @@ HasToldHistory s w found old new (Err fault.Store) = new ≡ old
 
 -- The history of one state was written, or a prefix, and nothing changed. A broken station returns
 -- nothing; any other returns Store only if its store may fail.
-pub record HasReadHistory {K : Type 0} (k : Keeping K) (w : ℕ) (old new : Told K)
+pub record HasReadHistory {K : Type 0} (k : Keeping K) (w : ℕ) (old new : Printed K)
     (result : Result Bool RunFault) : Type 0 where
   pub reads : OnlyReads k old.0 new.0
   pub reopen :

@@ -8,15 +8,15 @@ use Rattle.station_core.specs.declared.answer.ActFault.TheVariants as act
 use Rattle.station_core.specs.declared.input.Input.{Input}
 use Rattle.station_core.specs.Keeping.{IsAfterAnswered}
 use Rattle.station_core.specs.Step.{State}
-use Rattle.stock_list.specs.declared.answer.RunFault.{RunFault}
-use Rattle.stock_list.specs.declared.answer.RunFault.TheVariants as fault
-use Rattle.stock_list.specs.Lines.{input_of, Row}
-use Rattle.stock_list.specs.Row.{row_asks}
+use Rattle.cli_run.specs.declared.fault.RunFault.{RunFault}
+use Rattle.cli_run.specs.declared.fault.RunFault.TheVariants as fault
+use Rattle.cli_run.specs.Rows.{input_of, Row}
+use Rattle.cli_run.specs.Row.{row_asks}
 use Rattle.cli_words.specs.declared.line.LineCommand.{LineCommand}
 use Rattle.cli_words.specs.declared.line.LineCommand.TheVariants as command
-use Rattle.cli_run.specs.declared.asked.Asked.TheVariants as asked
+use Rattle.cli_run.specs.declared.request.Request.TheVariants as asked
 use Rattle.cli_run.specs.ActLine.{IsActAsked}
-use Rattle.cli_run.specs.Asked.{IsCommandAsked, IsTelegramAsked}
+use Rattle.cli_run.specs.Requests.{IsCommandAsked, IsTelegramAsked}
 
 -- some row, body, telegram or line of a command has this input for the station; other commands have
 -- none

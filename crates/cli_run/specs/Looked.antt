@@ -8,9 +8,9 @@ use Rattle.station_core.specs.Keeping.{OnlyReads, Keeping}
 use Rattle.station_core.specs.Readers.{waybill_of}
 use Rattle.station_core.specs.Step.{State}
 use Rattle.http_desk.specs.Reply.{holder_data, waybill_data}
-use Rattle.stock_list.specs.declared.answer.RunFault.{RunFault}
-use Rattle.stock_list.specs.declared.answer.RunFault.TheVariants as fault
-use Rattle.cli_run.specs.Ends.{Told}
+use Rattle.cli_run.specs.declared.fault.RunFault.{RunFault}
+use Rattle.cli_run.specs.declared.fault.RunFault.TheVariants as fault
+use Rattle.cli_run.specs.Ends.{Printed}
 
 -- the object in the answer to GET /v1/waybills/AWB, None if the waybill isn't declared
 abbrev pub waybill_found : ℕ → State → Option Data
@@ -38,7 +38,7 @@ HasToldFound found old new (Err fault.Store) = new ≡ old
 
 -- The line of the station's object was written, or a prefix, and nothing changed. A broken station
 -- returns nothing; any other returns Store only if its store may fail.
-pub record HasLookedUp {K : Type 0} (found : State → Option Data) (k : Keeping K) (old new : Told K)
+pub record HasLookedUp {K : Type 0} (found : State → Option Data) (k : Keeping K) (old new : Printed K)
     (result : Result Bool RunFault) : Type 0 where
   pub reads : OnlyReads k old.0 new.0
   pub reopen :

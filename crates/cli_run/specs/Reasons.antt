@@ -1,7 +1,7 @@
 -- The reasons on standard error, by command.
 use Rattle.std.specs.Prelude.{◌≡◌, Bool, Result}
 use Rattle.station_days.specs.Date.{LocalMinute}
-use Rattle.stock_list.specs.declared.answer.RunFault.{RunFault}
+use Rattle.cli_run.specs.declared.fault.RunFault.{RunFault}
 use Rattle.station_core.specs.Keeping.{Keeping}
 use Rattle.cli_run.specs.Ends.{Ends, Reached}
 use Rattle.cli_words.specs.declared.line.LineCommand.{LineCommand}

@@ -2,9 +2,9 @@
 use Rattle.std.specs.Prelude.{◌≡◌, Bool, true, false, Result, Ok, Err, OnOk, List, ℕ}
 use Rattle.station_core.specs.Keeping.{OnlyReads, Keeping}
 use Rattle.station_core.specs.Step.{State}
-use Rattle.stock_list.specs.declared.answer.RunFault.{RunFault}
-use Rattle.stock_list.specs.declared.answer.RunFault.TheVariants as fault
-use Rattle.cli_run.specs.Ends.{Told}
+use Rattle.cli_run.specs.declared.fault.RunFault.{RunFault}
+use Rattle.cli_run.specs.declared.fault.RunFault.TheVariants as fault
+use Rattle.cli_run.specs.Ends.{Printed}
 use Rattle.cli_run.specs.Report.{HasReported, StopsReport}
 
 -- a report refuses nothing
@@ -14,7 +14,7 @@ good_of (Err e) = Err e
 
 -- The report was written, or a prefix, and nothing changed. A broken station returns nothing; any
 -- other returns Store only if its store may fail.
-pub record HasToldReport {K : Type 0} (IsText : State → List ℕ → Type 0) (k : Keeping K) (old new : Told K)
+pub record HasToldReport {K : Type 0} (IsText : State → List ℕ → Type 0) (k : Keeping K) (old new : Printed K)
     (ended : Result (Unit {0}) RunFault) : Type 0 where
   pub reads : OnlyReads k old.0 new.0
   pub reopen : k.is_broken old.0 ≡ true → (ended ≡ Err fault.Store) × (new.0 ≡ old.0)
@@ -30,7 +30,7 @@ pub record HasToldReport {K : Type 0} (IsText : State → List ℕ → Type 0) (
       → HasReported text old.1 new.1 ended
 
 -- the same as the result of a command: a report refuses nothing
-pub record HasReportedGood {K : Type 0} (IsText : State → List ℕ → Type 0) (k : Keeping K) (old new : Told K)
+pub record HasReportedGood {K : Type 0} (IsText : State → List ℕ → Type 0) (k : Keeping K) (old new : Printed K)
     (result : Result Bool RunFault) : Type 0 where
   pub ended : Result (Unit {0}) RunFault
   pub good : result ≡ good_of ended

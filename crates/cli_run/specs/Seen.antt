@@ -1,5 +1,6 @@
 -- The output of a dry run.
 use Rattle.std.specs.Prelude.{◌≡◌, ◌⊎◌, ℕ, Bool, false, not, Option, Some, None, List, [], ◌∷◌, ◌++◌}
+use Rattle.imp_fields.specs.TextSize.{most_bytes}
 use Rattle.imp_fields.specs.declared.fault.TextFault.{TextFault}
 use Rattle.shipment_machine.specs.declared.plans.Refusal.{Refusal}
 use Rattle.telegrams.specs.Meaning.{refusal_of}
@@ -9,9 +10,9 @@ use Rattle.input_reasons.specs.declared.look.Look.{Look}
 use Rattle.station_core.specs.Given.{Given}
 use Rattle.station_core.specs.Texts.{refusal_text}
 use Rattle.input_reasons.specs.Reason.{is_unread}
-use Rattle.stock_list.specs.declared.answer.RunFault.{RunFault}
-use Rattle.stock_list.specs.declared.answer.RunFault.TheVariants as run_fault
-use Rattle.stock_list.specs.Ended.{IsReadersFault}
+use Rattle.cli_run.specs.declared.fault.RunFault.{RunFault}
+use Rattle.cli_run.specs.declared.fault.RunFault.TheVariants as run_fault
+use Rattle.cli_run.specs.Faults.{IsReadersFault}
 use Rattle.cli_run.specs.Came.{HasCome}
 use Rattle.cli_run.specs.Ended.{HasToldPart}
 use Rattle.cli_run.specs.Explained.{telegram_head, HasToldWhy}
@@ -45,7 +46,7 @@ has_reason (Some refusal) = is_unread refusal
 pub record HasSeen {E : Type 0} (read_old read_new sent_old sent_new : Given) (taken : E → Given)
     (errors_old errors_new : E) (good : Bool) : Type 0 where
   pub bytes : List ℕ
-  pub come : HasCome read_old read_new bytes
+  pub come : HasCome most_bytes read_old read_new bytes
   pub text : List ℕ
   pub unread : Bool
   pub seen : IsSeen bytes text good unread
@@ -55,7 +56,7 @@ pub record HasSeen {E : Type 0} (read_old read_new sent_old sent_new : Given) (t
 -- the bytes were received, and the writer stopped after a prefix of their dry run
 pub record HasSeenPart (read_old read_new sent_old sent_new : Given) (e : RunFault) : Type 0 where
   pub bytes : List ℕ
-  pub come : HasCome read_old read_new bytes
+  pub come : HasCome most_bytes read_old read_new bytes
   pub text : List ℕ
   pub good : Bool
   pub unread : Bool

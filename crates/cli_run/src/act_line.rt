@@ -8,7 +8,7 @@ ghost use Rattle.serde_json.specs.Find.{as_str, get};
 ghost use Rattle.serde_json.specs.View.{view};
 ghost use Rattle.cli_run.specs.ActLine.{Asks, IsActAsked, IsFrame, IsWired, IsWritten};
 
-use crate::asked::Asked;
+use crate::request::Request;
 use desk_commands::{BadBody, Verb, read_command};
 use input_reasons::MOST_LINE;
 use serde_json::Value;
@@ -78,21 +78,25 @@ pub fn line_value(alloc: Global, line: &[u8]) -> Result<Option<Value>, AllocErro
 }
 
 /// Returns the request in the value of a line.
-fn value_asked<'a>(alloc: Global, value: &'a Value, line: &'a [u8]) -> Result<Asked<'a>, AllocError>
+fn value_asked<'a>(
+    alloc: Global,
+    value: &'a Value,
+    line: &'a [u8],
+) -> Result<Request<'a>, AllocError>
     ensures { IfOk result (Asks line.entry.now (view value.entry.now)) }
 {
     if let Some((verb, key, body)) = frame(value) {
         return match read_command(verb, body) {
-            Ok(command) => Ok(Asked::Input(Input::Keyed(key, command))),
-            Err(BadBody) => Ok(Asked::BadLine(line)),
+            Ok(command) => Ok(Request::Input(Input::Keyed(key, command))),
+            Err(BadBody) => Ok(Request::BadLine(line)),
         };
     }
     let Some(text) = wired(value) else {
-        return Ok(Asked::BadLine(line));
+        return Ok(Request::BadLine(line));
     };
     match read_telegram(alloc, text.as_bytes()) {
-        Ok(telegram) => Ok(Asked::Input(Input::Wire(telegram))),
-        Err(TelegramFault::Refused(refusal)) => Ok(Asked::Refused(refusal)),
+        Ok(telegram) => Ok(Request::Input(Input::Wire(telegram))),
+        Err(TelegramFault::Refused(refusal)) => Ok(Request::Refused(refusal)),
         Err(TelegramFault::Memory) => Err(AllocError),
     }
 }
@@ -102,13 +106,13 @@ pub fn line_asked<'a>(
     alloc: Global,
     value: &'a Option<Value>,
     line: &'a [u8],
-) -> Result<Asked<'a>, AllocError>
+) -> Result<Request<'a>, AllocError>
     requires some { IfSome value.now (λ v. IsWritten line.now (view v)) }
     requires none { value.now ≡ None → (d : Data) → ¬ (IsWritten line.now d) }
     ensures { IfOk result (IsActAsked line.entry.now) }
 {
     match value {
         Some(value) => value_asked(alloc, value, line),
-        None => Ok(Asked::BadLine(line)),
+        None => Ok(Request::BadLine(line)),
     }
 }

@@ -1,22 +1,22 @@
 //! Commands and telegrams, one a line.
 ghost use Rattle.std.specs.Prelude.{◌≡◌, ◌<◌, Err, IfOk};
 ghost use Rattle.std.specs.Io.Buffered.{reader_remaining};
-ghost use Rattle.stock_list.specs.Come.{come};
-ghost use Rattle.stock_list.specs.Ended.{IsReadersFault, IsReadToEnd};
-ghost use Rattle.stock_list.specs.InTurn.{HaveBeenAnswered};
+ghost use Rattle.cli_run.specs.Ends.{call};
+ghost use Rattle.cli_run.specs.Faults.{IsReadersFault, IsReadToEnd};
+ghost use Rattle.cli_run.specs.InTurn.{HaveBeenAnswered, kept_lines};
 ghost use Rattle.cli_run.specs.Acts.{is_blank, HasAnsweredLine};
-ghost use Rattle.cli_run.specs.InTurn.{kept_lines};
 
 use crate::act_line::{line_asked, line_value};
 use crate::answer::answer_asked;
 use crate::answering::Answering;
+use crate::fault::{RunFault, told_by};
+use crate::inputs::Watched;
 use crate::kept::kept_line;
 use station_core::{ByteOut, Keeper};
 use station_days::Moment;
 use std::alloc::{AllocError, Global};
 use std::io;
 use std::io::{BufRead, BufReader, ErrorKind, Read};
-use stock_list::{RunFault, Watched, told_by};
 
 /// Returns whether a line has only its end: LF, or CR and LF.
 pub fn is_blank(line: &[u8]) -> bool
@@ -36,8 +36,8 @@ pub(crate) fn answer_line<K: Keeper, W: ByteOut, E: ByteOut>(
     at: Moment,
 ) -> Result<bool, RunFault>
     ensures answered { HasAnsweredLine K.keeping at E.taken number line.now
-        (come keeper.old (W.taken writer.old) errors.old)
-        (come keeper.new (W.taken writer.new) errors.new) result }
+        (call keeper.old (W.taken writer.old) errors.old)
+        (call keeper.new (W.taken writer.new) errors.new) result }
     ensures unread { result ≡ Err RunFault.Read → ⊥ }
 {
     if is_blank(line) {
@@ -82,8 +82,8 @@ fn answer_lines<P: Answering<D, E>, D, R: BufRead + Drop, W: ByteOut, E: ByteOut
     errors: &mut E,
 ) -> Result<bool, RunFault>
     ensures { HaveBeenAnswered kept_lines (P.answered_line way.now) (R.remaining reader)
-        (come desk.old (W.taken writer.old) errors.old)
-        (come desk.new (W.taken writer.new) errors.new) result }
+        (call desk.old (W.taken writer.old) errors.old)
+        (call desk.new (W.taken writer.new) errors.new) result }
 {
     let mut good = true;
     for number in 1..u64::MAX {
@@ -125,8 +125,8 @@ pub fn answer_acts<P: Answering<D, E>, D, R: Watched + Read, W: ByteOut, E: Byte
     // All lines that were read were answered in order; for a known reader these are all lines of
     // its text, each as far as it is kept. After a fault, all but the last were.
     ensures answered { HaveBeenAnswered kept_lines (P.answered_line way.now)
-        (R.remaining reader.old) (come desk.old (W.taken writer.old) errors.old)
-        (come desk.new (W.taken writer.new) errors.new) result }
+        (R.remaining reader.old) (call desk.old (W.taken writer.old) errors.old)
+        (call desk.new (W.taken writer.new) errors.new) result }
     ensures read { IsReadToEnd (R.given reader.new) result }
 {
     let Ok(lines) = buffered(alloc, &mut *reader) else {

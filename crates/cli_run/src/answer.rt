@@ -1,24 +1,34 @@
 //! Answers to the input of a command.
 ghost use Rattle.std.specs.Prelude.{◌≡◌, ◌++◌, ◌∷◌, [], true, false, IfOk, codes, decimal, string_bytes};
 ghost use Rattle.station_core.specs.Texts.{refusal_text};
-ghost use Rattle.stock_list.specs.Come.{come};
-ghost use Rattle.stock_list.specs.Lines.{answer_text};
+ghost use Rattle.cli_run.specs.Ends.{call};
+ghost use Rattle.cli_run.specs.Requests.{answer_text, keyed, named, numbered};
 ghost use Rattle.input_reasons.specs.Reason.{is_unread};
 ghost use Rattle.cli_run.specs.Answered.{HasAnswered, HasToldUnread};
-ghost use Rattle.cli_run.specs.Asked.{keyed, named, numbered};
 ghost use Rattle.cli_run.specs.Explained.{line_head, reason_head};
 
-use crate::asked::Asked;
+use crate::fault::{RunFault, keeper_fault};
+use crate::request::Request;
+use crate::sent::send_line;
 use crate::telling::{tell_answer, tell_bad_line, tell_body, tell_refusal};
 use desk_commands::Verb;
 use shipment_machine::Refusal;
-use station_core::{Answer, ByteOut, Input, Keeper, Key, answer_one, refusal_text};
+use station_core::{Answer, ByteOut, Input, Keeper, Key, answer_one, refusal_text, reply_text};
 use station_days::Moment;
 use std::alloc::{AllocError, Global};
-use stock_list::{RunFault, answer_text, keeper_fault, send_line};
 
 /// The line for a body that isn't a command of the verb.
 const BAD_BODY: &str = "body bad\n";
+
+/// Returns an answer as it is printed: `ok 10`, or `refused 102 020-12345723`.
+fn answer_text(alloc: Global, answer: &Answer) -> Result<String, AllocError>
+    ensures { IfOk result (λ text. string_bytes text ≡ answer_text answer.now) }
+{
+    match answer {
+        Answer::Done(reply) => reply_text(alloc, reply),
+        Answer::Refused(refusal) => refusal_text(alloc, refusal),
+    }
+}
 
 fn plain_line(alloc: Global, text: &str) -> Result<String, AllocError>
     ensures { IfOk result (λ line. string_bytes line ≡ text.now ++ 10 ∷ []) }
@@ -75,7 +85,7 @@ pub fn named_line(
     text: &str,
 ) -> Result<String, AllocError>
     ensures { IfOk result (λ line. string_bytes line
-        ≡ named number (Asked.Input input.now) (text.now ++ 10 ∷ [])) }
+        ≡ named number (Request.Input input.now) (text.now ++ 10 ∷ [])) }
 {
     match input {
         Input::Keyed(key, _) => keyed_line(alloc, number, key, text),
@@ -83,14 +93,14 @@ pub fn named_line(
     }
 }
 
-fn answer_line(
+pub(crate) fn answer_line(
     alloc: Global,
     number: Option<u64>,
     input: &Input<'_>,
     answer: &Answer,
 ) -> Result<String, AllocError>
     ensures { IfOk result (λ line. string_bytes line
-        ≡ named number (Asked.Input input.now) (answer_text answer.now ++ 10 ∷ [])) }
+        ≡ named number (Request.Input input.now) (answer_text answer.now ++ 10 ∷ [])) }
 {
     let text = answer_text(alloc, answer)?;
     named_line(alloc, number, input, text.as_str())
@@ -119,9 +129,9 @@ fn answer_input<K: Keeper, O: ByteOut, E: ByteOut>(
     input: &Input<'_>,
     at: Moment,
 ) -> Result<bool, RunFault>
-    ensures { HasAnswered K.keeping at E.taken number (Asked.Input input.now)
-        (come keeper.old (O.taken writer.old) errors.old)
-        (come keeper.new (O.taken writer.new) errors.new) result }
+    ensures { HasAnswered K.keeping at E.taken number (Request.Input input.now)
+        (call keeper.old (O.taken writer.old) errors.old)
+        (call keeper.new (O.taken writer.new) errors.new) result }
 {
     let answer = match answer_one(keeper, input, at) {
         Ok(answer) => answer,
@@ -147,7 +157,7 @@ pub fn answer_refusal<O: ByteOut, E: ByteOut>(
     refusal: &Refusal,
 ) -> Result<bool, RunFault>
     ensures { HasToldUnread E.taken (numbered number (refusal_text refusal.now ++ 10 ∷ []))
-        (is_unread refusal.now) (reason_head number (Asked.Refused refusal.now))
+        (is_unread refusal.now) (reason_head number (Request.Refused refusal.now))
         (O.taken writer.old, errors.old) (O.taken writer.new, errors.new) result }
 {
     let Ok(line) = refusal_line(alloc, number, refusal) else {
@@ -206,17 +216,17 @@ pub(crate) fn answer_asked<K: Keeper, O: ByteOut, E: ByteOut>(
     writer: &mut O,
     errors: &mut E,
     number: Option<u64>,
-    asked: &Asked<'_>,
+    asked: &Request<'_>,
     at: Moment,
 ) -> Result<bool, RunFault>
     ensures { HasAnswered K.keeping at E.taken number asked.now
-        (come keeper.old (O.taken writer.old) errors.old)
-        (come keeper.new (O.taken writer.new) errors.new) result }
+        (call keeper.old (O.taken writer.old) errors.old)
+        (call keeper.new (O.taken writer.new) errors.new) result }
 {
     match asked {
-        Asked::Input(input) => answer_input(alloc, keeper, writer, errors, number, input, at),
-        Asked::Refused(refusal) => answer_refusal(alloc, writer, errors, number, refusal),
-        Asked::BadLine(text) => answer_bad_line(alloc, writer, errors, number, text),
-        Asked::Bad { verb, body } => answer_bad(alloc, writer, errors, *verb, body),
+        Request::Input(input) => answer_input(alloc, keeper, writer, errors, number, input, at),
+        Request::Refused(refusal) => answer_refusal(alloc, writer, errors, number, refusal),
+        Request::BadLine(text) => answer_bad_line(alloc, writer, errors, number, text),
+        Request::Bad { verb, body } => answer_bad(alloc, writer, errors, *verb, body),
     }
 }

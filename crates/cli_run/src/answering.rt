@@ -2,39 +2,41 @@
 ghost use Rattle.std.specs.Prelude.{◌≡◌, ℕ, Bool, Err, List, None, Option, Result};
 ghost use Rattle.csv.specs.Records.{fields_of};
 ghost use Rattle.desk_commands.specs.declared.verb.Verb.{Verb as AnyVerb};
-ghost use Rattle.stock_list.specs.declared.answer.RunFault.{RunFault as Fault};
-ghost use Rattle.stock_list.specs.Answered.{HasAnsweredRow};
-ghost use Rattle.stock_list.specs.Come.{come, Come};
-ghost use Rattle.stock_list.specs.Lines.{Row};
-ghost use Rattle.cli_run.specs.declared.asked.Asked.{Asked as AnyAsked};
+ghost use Rattle.cli_run.specs.declared.fault.RunFault.{RunFault as Fault};
+ghost use Rattle.cli_run.specs.RowsAnswered.{HasAnsweredRow};
+ghost use Rattle.cli_run.specs.Ends.{call, Call};
+ghost use Rattle.cli_run.specs.Rows.{Row};
+ghost use Rattle.cli_run.specs.declared.request.Request.{Request as AnyRequest};
 ghost use Rattle.cli_run.specs.Acts.{HasAnsweredLine};
 ghost use Rattle.cli_run.specs.Answered.{HasAnswered};
 
 use crate::acts::answer_line;
 use crate::answer::answer_asked;
-use crate::asked::Asked;
+use crate::by_line::LineCount;
+use crate::fault::RunFault;
+use crate::request::Request;
+use crate::rows::{RowPlace, answer_row};
 use csv::ByteRecord;
 use desk_commands::Verb;
 use station_core::{ByteOut, Keeper, Key};
 use station_days::Moment;
 use std::alloc::Global;
-use stock_list::{LineCount, RowPlace, RunFault, answer_row};
 
 /// A way to answer inputs with a desk `D`: a station, or a service. Each call writes the line of
 /// one answer, and to `errors` the reason why an input can't be read.
 pub trait Answering<D, E: ByteOut> {
     /// The relation of an answered row of a stock list, by its number.
-    ghost answered_row: { Self → ℕ → Row → Come D E → Come D E → Result Bool Fault
+    ghost answered_row: { Self → ℕ → Row → Call D E → Call D E → Result Bool Fault
         → Type 0 };
 
     /// The relation of an answered line of `acts`, by its number.
-    ghost answered_line: { Self → ℕ → List ℕ → Come D E → Come D E → Result Bool Fault
+    ghost answered_line: { Self → ℕ → List ℕ → Call D E → Call D E → Result Bool Fault
         → Type 0 };
 
     /// The relation of an answered request, by the bytes that it was read from: a body under a
     /// verb and a key, or a telegram.
-    ghost answered: { Self → Option (AnyVerb × List ℕ) → List ℕ → AnyAsked → Come D E
-        → Come D E → Result Bool Fault → Type 0 };
+    ghost answered: { Self → Option (AnyVerb × List ℕ) → List ℕ → AnyRequest → Call D E
+        → Call D E → Result Bool Fault → Type 0 };
 
     /// Answers a row.
     fn answer_row<W: ByteOut>(
@@ -48,8 +50,8 @@ pub trait Answering<D, E: ByteOut> {
         row: &ByteRecord,
     ) -> Result<bool, RunFault>
         ensures answered { answered_row self.now number (fields_of row.now)
-            (come desk.old (W.taken writer.old) errors.old)
-            (come desk.new (W.taken writer.new) errors.new) result }
+            (call desk.old (W.taken writer.old) errors.old)
+            (call desk.new (W.taken writer.new) errors.new) result }
         ensures unread { result ≡ Err Fault.Read → ⊥ };
 
     /// Answers a line, as far as it is kept.
@@ -63,8 +65,8 @@ pub trait Answering<D, E: ByteOut> {
         line: &[u8],
     ) -> Result<bool, RunFault>
         ensures answered { answered_line self.now number line.now
-            (come desk.old (W.taken writer.old) errors.old)
-            (come desk.new (W.taken writer.new) errors.new) result }
+            (call desk.old (W.taken writer.old) errors.old)
+            (call desk.new (W.taken writer.new) errors.new) result }
         ensures unread { result ≡ Err Fault.Read → ⊥ };
 
     /// Answers a request that was read from a text, by the verb and the key of a command.
@@ -76,11 +78,11 @@ pub trait Answering<D, E: ByteOut> {
         errors: &mut E,
         head: Option<(Verb, Key)>,
         text: &[u8],
-        asked: &Asked<'_>,
+        asked: &Request<'_>,
     ) -> Result<bool, RunFault>
         ensures answered { answered self.now head text.now asked.now
-            (come desk.old (W.taken writer.old) errors.old)
-            (come desk.new (W.taken writer.new) errors.new) result }
+            (call desk.old (W.taken writer.old) errors.old)
+            (call desk.new (W.taken writer.new) errors.new) result }
         ensures unread { result ≡ Err Fault.Read → ⊥ };
 }
 
@@ -137,7 +139,7 @@ impl<K: Keeper, E: ByteOut> Answering<K, E> for ByStation {
         errors: &mut E,
         _head: Option<(Verb, Key)>,
         _text: &[u8],
-        asked: &Asked<'_>,
+        asked: &Request<'_>,
     ) -> Result<bool, RunFault> {
         answer_asked(alloc, desk, writer, errors, None, asked, self.at)
     }

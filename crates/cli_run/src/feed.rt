@@ -6,12 +6,11 @@ ghost use Rattle.station_core.specs.Given.{nothing_given};
 ghost use Rattle.station_core.specs.declared.ends.Counted.{Counted};
 ghost use Rattle.cli_run.specs.Feed.{fed_of, reader_of};
 
-use crate::inputs::Inputs;
+use crate::inputs::{Inputs, Watched};
 use station_core::{ByteIn, Counted, InputReader, ReadFault};
 use std::io;
 use std::io::{ErrorKind, Read};
 use std::marker::Model;
-use stock_list::Watched;
 
 /// The input of a command: a reader of std, with a count of its calls that only contracts see. It
 /// remembers whether a read failed.

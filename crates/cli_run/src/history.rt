@@ -3,13 +3,13 @@ ghost use Rattle.std.specs.Prelude.{◌≡◌, Err, Some};
 ghost use Rattle.station_core.specs.Keeping.{IfSound, IfWorks, OnlyReads, StaysInService};
 ghost use Rattle.cli_run.specs.History.{HasReadHistory, HasToldHistory};
 
+use crate::fault::{RunFault, keeper_fault};
 use crate::look::tell_unknown;
 use crate::sent::send_part;
 use awb_number::Awb;
 use http_desk::history_text;
 use station_core::{ByteOut, Keeper, Waybill};
 use std::alloc::Global;
-use stock_list::{RunFault, keeper_fault};
 
 /// Writes the history of a waybill with this record. The keeper works.
 fn tell_known<K: Keeper, W: ByteOut>(

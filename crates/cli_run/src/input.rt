@@ -1,15 +1,15 @@
 //! Answering one input of a command line.
-ghost use Rattle.stock_list.specs.Come.{come};
+ghost use Rattle.cli_run.specs.Ends.{call};
 ghost use Rattle.cli_run.specs.Answered.{HasRunInput};
-ghost use Rattle.cli_run.specs.Asked.{IsAskedUnder};
+ghost use Rattle.cli_run.specs.Requests.{IsAskedUnder};
 
 use crate::answering::Answering;
-use crate::asked::asked_under;
+use crate::fault::RunFault;
 use crate::reading::read_input;
+use crate::request::asked_under;
 use desk_commands::Verb;
 use station_core::{ByteIn, ByteOut, Key};
 use std::alloc::Global;
-use stock_list::RunFault;
 
 /// Reads one input, has it answered at a moment, and writes the line of its answer: `ok 3`,
 /// `refused 213 LH400/2026-01-12/FRA/1`, `refused 301 4 ending` if a telegram can't be read, or
@@ -37,8 +37,8 @@ pub fn answer_input<P: Answering<D, E>, D, I: ByteIn, O: ByteOut, E: ByteOut>(
     errors: &mut E,
 ) -> Result<bool, RunFault>
     ensures { HasRunInput (IsAskedUnder head.now) (P.answered way.now head.now) (I.given reader.old)
-        (I.given reader.new) (come desk.old (O.taken writer.old) errors.old)
-        (come desk.new (O.taken writer.new) errors.new) result }
+        (I.given reader.new) (call desk.old (O.taken writer.old) errors.old)
+        (call desk.new (O.taken writer.new) errors.new) result }
 {
     let bytes = read_input(alloc, reader)?;
     let text = bytes.as_slice();

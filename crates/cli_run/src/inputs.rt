@@ -1,7 +1,14 @@
-//! Readers of several inputs.
-ghost use Rattle.std.specs.Prelude.{◌≡◌};
+//! Readers that remember if they failed, and readers of several inputs.
+ghost use Rattle.std.specs.Prelude.{◌≡◌, ◌↔◌, ◌<◌, true};
 
-use stock_list::Watched;
+use station_core::ByteIn;
+
+/// A reader that remembers whether a read failed.
+pub trait Watched: ByteIn {
+    /// Returns whether a read failed.
+    fn has_failed(&self) -> bool
+        ensures { (result ≡ true) ↔ (0 < (Self.given self.now).failures) };
+}
 
 /// A reader of several inputs, one after another.
 pub trait Inputs: Watched {

@@ -1,26 +1,44 @@
-//! Laws about the lines of `acts` together, and about the inputs of each command.
-ghost use Rattle.std.specs.Prelude.{◌≡◌, ℕ, Bool, false, List, Result};
+//! Laws about stock lists, the lines of `acts` together, and the inputs of each command.
+ghost use Rattle.std.specs.Prelude.{◌≡◌, ◌&&◌, ℕ, Bool, false, List, Result, map};
 ghost use Rattle.station_days.specs.Date.{LocalMinute};
-ghost use Rattle.station_core.specs.Step.{State};
+ghost use Rattle.station_core.specs.Step.{State, after_all, answers_of};
+ghost use Rattle.std.specs.List.{list_all};
+ghost use Rattle.station_core.specs.Retries.{is_done};
+ghost use Rattle.cli_run.specs.ListLaw.{inputs_of, answered_lines, all_ask};
+ghost use Rattle.cli_run.specs.Rows.{Row, lines_from, rows_good, rows_after};
+ghost use Rattle.cli_run.specs.Row.{row_asks};
 ghost use Rattle.cli_run.specs.Acts.{HasAnsweredLine};
 ghost use Rattle.cli_run.specs.ActsLaw.{HasRunActs};
-ghost use Rattle.stock_list.specs.Come.{Come};
-ghost use Rattle.stock_list.specs.InTurn.{AreAnswered};
+ghost use Rattle.cli_run.specs.Ends.{Call, ends, Reached};
+ghost use Rattle.cli_run.specs.InTurn.{AreAnswered};
 ghost use Rattle.cli_run.specs.Done.{HasDone};
-ghost use Rattle.cli_run.specs.Ends.{ends, Reached};
 ghost use Rattle.cli_run.specs.Left.{AsksAt, HasLeft};
 ghost use Rattle.cli_words.specs.declared.line.LineCommand.{LineCommand as Command};
-ghost use Rattle.stock_list.specs.declared.answer.RunFault.{RunFault};
+ghost use Rattle.cli_run.specs.declared.fault.RunFault.{RunFault};
 
 use crate::inputs::Inputs;
 use station_core::{ByteOut, Keeper};
 use std::io::Read;
 
+/// A stock list is a run of the station over the orders of its rows: it leaves the state after them
+/// all, its lines are their answers, and it is good if every row has an order and every answer
+/// accepts it.
+pub fn list_law()
+    ensures state { (s : State) (rows : List Row) (at : LocalMinute)
+        → rows_after s rows at ≡ after_all s (inputs_of rows at) }
+    ensures lines { (number : ℕ) (s : State) (rows : List Row) (at : LocalMinute)
+        → lines_from number s rows at ≡ answered_lines number (map row_asks rows)
+        (answers_of s (inputs_of rows at)) }
+    ensures good { (s : State) (rows : List Row) (at : LocalMinute)
+        → rows_good s rows at ≡ (all_ask rows && list_all is_done
+        (answers_of s (inputs_of rows at))) }
+{}
+
 /// The answered lines of `acts` are a run of the station over their requests: they leave the state
 /// after all of them, the output is the lines of the answers, and the run is good exactly if each
 /// answer is.
 pub fn acts_law<K: Keeper, E: ByteOut>()
-    ensures { (lines : List (List ℕ)) (at : LocalMinute) (old new : Come K E) (good : Bool)
+    ensures { (lines : List (List ℕ)) (at : LocalMinute) (old new : Call K E) (good : Bool)
         → AreAnswered (HasAnsweredLine K.keeping at E.taken) 1 lines old new good → (s : State)
         → K.keeping.keeps old.keeper s → K.keeping.is_broken old.keeper ≡ false → K.keeping.is_sound
         new.keeper → HasRunActs 1 s at lines old.sent.bytes new.sent.bytes

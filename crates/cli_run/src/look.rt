@@ -7,12 +7,13 @@ ghost use Rattle.http_desk.specs.Reply.{holder_data, waybill_data};
 ghost use Rattle.station_core.specs.Keeping.{StaysInService};
 ghost use Rattle.cli_run.specs.Looked.{holder_found, waybill_found, HasLookedUp, HasToldFound};
 
+use crate::fault::{RunFault, keeper_fault};
+use crate::sent::send_line;
 use agent_stock::Holder;
 use awb_number::Awb;
 use http_desk::{holder_text, waybill_text};
 use station_core::{ByteOut, Keeper, Waybill};
 use std::alloc::{AllocError, Global};
-use stock_list::{RunFault, keeper_fault, send_line};
 
 const UNKNOWN: &str = "unknown\n";
 

@@ -1,12 +1,13 @@
 //! Reading the input of a command.
 ghost use Rattle.std.specs.Prelude.{◌≡◌, ◌⊎◌, ◌+◌, ◌<◌, true, Err, IfOk, IfErr, OnOk};
-ghost use Rattle.stock_list.specs.Ended.{IsReadersFault};
+ghost use Rattle.imp_fields.specs.TextSize.{most_bytes};
+ghost use Rattle.cli_run.specs.Faults.{IsReadersFault};
 ghost use Rattle.cli_run.specs.Came.{HasGrown, HasCome, HasFailed, IsWithin, most_come, most_read};
 
+use crate::fault::RunFault;
 use imp_fields::MOST_BYTES;
 use station_core::{ByteIn, ReadFault};
 use std::alloc::Global;
-use stock_list::RunFault;
 
 /// The size of one read.
 const CHUNK: usize = 4096;
@@ -45,7 +46,7 @@ fn read_more<I: ByteIn>(reader: &mut I, bytes: &mut Vec<u8>) -> Result<bool, Run
 #[tactic(auto, using(crate::proofs::Grown::more_within, crate::proofs::Grown::still_within))]
 pub fn read_input<I: ByteIn>(alloc: Global, reader: &mut I) -> Result<Vec<u8>, RunFault>
     ensures come { IfOk result
-        (λ bytes. HasCome (I.given reader.old) (I.given reader.new) bytes.items) }
+        (λ bytes. HasCome most_bytes (I.given reader.old) (I.given reader.new) bytes.items) }
     ensures fault { IfErr result IsReadersFault }
     ensures failed { result ≡ Err RunFault.Read
         → HasFailed (I.given reader.old) (I.given reader.new) }

@@ -6,10 +6,10 @@ ghost use Rattle.reports.specs.Listings.{IsListing};
 ghost use Rattle.cli_run.specs.Reported.{good_of, HasReportedGood, HasToldReport};
 ghost use Rattle.cli_run.specs.Report.{cause_fault, run_ended, HasReported, StopsReport};
 
+use crate::fault::{RunFault, keeper_fault};
 use reports::{Form, Listing, ReportCause, ReportFault, write_listing};
 use station_core::{ByteOut, Keeper};
 use std::alloc::Global;
-use stock_list::{RunFault, keeper_fault};
 
 fn cause_fault(cause: ReportCause) -> RunFault
     ensures { result ≡ cause_fault cause }

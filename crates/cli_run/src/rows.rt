@@ -1,17 +1,115 @@
 //! The rows of a stock list, one after another.
-ghost use Rattle.std.specs.Prelude.{◌≡◌, ◌<◌};
+ghost use Rattle.std.specs.Prelude.{◌≡◌, ◌<◌, ℕ, false, None, ◌++◌, ◌⊎◌, IfOk, IfErr, OnOk, string_bytes, take};
 ghost use Rattle.csv.specs.Records.{fields_of};
-ghost use Rattle.stock_list.specs.Come.{come};
-ghost use Rattle.stock_list.specs.Ended.{IsReadToEnd};
-ghost use Rattle.stock_list.specs.InTurn.{HaveBeenAnswered};
-ghost use Rattle.stock_list.specs.Lines.{stock_rows};
+ghost use Rattle.input_reasons.specs.Reason.{HasReason, numbered_head};
+ghost use Rattle.cli_run.specs.Ends.{call};
+ghost use Rattle.cli_run.specs.Faults.{IsReadToEnd, TellsWriting};
+ghost use Rattle.cli_run.specs.InTurn.{HaveBeenAnswered};
+ghost use Rattle.cli_run.specs.Rows.{bad_line, stock_rows};
+ghost use Rattle.cli_run.specs.RowReasons.{row_head, HasToldRow};
+ghost use Rattle.cli_run.specs.RowsAnswered.{HasAnsweredRow};
 
+use crate::answer::answer_line;
 use crate::answering::Answering;
-use csv::ReaderBuilder;
-use station_core::ByteOut;
-use std::alloc::Global;
+use crate::by_line::{LineCount, line_by_line};
+use crate::fault::{RunFault, keeper_fault, list_fault, told_by};
+use crate::inputs::Watched;
+use crate::row::read_row;
+use crate::sent::send_line;
+use csv::{ByteRecord, ReaderBuilder};
+use desk_commands::Command;
+use input_reasons::{row_reason, tell_reason};
+use station_core::{Answer, ByteOut, Input, Keeper, answer_one};
+use station_days::Moment;
+use std::alloc::{AllocError, Global};
 use std::io::Read;
-use stock_list::{LineCount, RunFault, Watched, line_by_line, list_fault, told_by};
+
+/// The position of a row in its list.
+#[derive(Clone, Copy)]
+pub struct RowPlace {
+    /// The number of the record, from 1.
+    pub number: u64,
+    /// The line on which the record begins, from 1.
+    pub line: u64,
+}
+
+fn bad_line(alloc: Global, number: u64) -> Result<String, AllocError>
+    ensures { IfOk result (λ line. string_bytes line ≡ bad_line number) }
+{
+    format!(in alloc; "row {number} bad\n")
+}
+
+/// Writes the reason why a row is malformed, as far as the writer takes it. If memory runs out,
+/// nothing is written.
+fn tell_row<E: ByteOut>(alloc: Global, errors: &mut E, row: &ByteRecord, line: u64)
+    ensures own { HasReason (numbered_head line) (E.taken errors.old).bytes
+        (E.taken errors.new).bytes }
+    ensures line { HasReason row_head (E.taken errors.old).bytes (E.taken errors.new).bytes }
+{
+    tell_reason(errors, row_reason(alloc, row, line));
+}
+
+/// Writes the line of a malformed row, and the reason.
+///
+/// Returns [`RunFault::Write`] if the writer fails, and [`RunFault::Memory`] if memory runs out. A
+/// prefix of the line is written, perhaps empty.
+pub fn answer_bad_row<W: ByteOut, E: ByteOut>(
+    alloc: Global,
+    writer: &mut W,
+    errors: &mut E,
+    place: RowPlace,
+    row: &ByteRecord,
+) -> Result<bool, RunFault>
+    ensures answered { IfOk result (λ good. (good ≡ false)
+        × ((W.taken writer.new).bytes ≡ (W.taken writer.old).bytes ++ bad_line place.number)) }
+    ensures stopped { IfErr result (λ e. ((e ≡ RunFault.Write) ⊎ ((e ≡ RunFault.Memory)
+        × ((W.taken writer.new).bytes ≡ (W.taken writer.old).bytes)))
+        × ((sent : ℕ) × ((W.taken writer.new).bytes ≡ (W.taken writer.old).bytes ++ take sent
+        (bad_line place.number)))) }
+    ensures writing { TellsWriting (W.taken writer.old) (W.taken writer.new) result }
+    ensures reasons { HasToldRow E.taken result None errors.old errors.new }
+    ensures own { OnOk result (HasReason (numbered_head place.line) (E.taken errors.old).bytes
+        (E.taken errors.new).bytes) }
+{
+    let Ok(line) = bad_line(alloc, place.number) else {
+        return Err(RunFault::Memory);
+    };
+    // The line is written before its reason.
+    writer.expect_more(false);
+    send_line(writer, &line)?;
+    tell_row(alloc, errors, row, place.line);
+    Ok(false)
+}
+
+/// Acts on a row's order at a moment, and writes the answer. `Ok` says whether it was accepted. The
+/// reason for a malformed row is written to `errors`, after its line.
+pub fn answer_row<K: Keeper, W: ByteOut, E: ByteOut>(
+    alloc: Global,
+    keeper: &mut K,
+    writer: &mut W,
+    errors: &mut E,
+    place: RowPlace,
+    row: &ByteRecord,
+    at: Moment,
+) -> Result<bool, RunFault>
+    ensures { HasAnsweredRow K.keeping at E.taken place.number (fields_of row.now)
+        (call keeper.old (W.taken writer.old) errors.old)
+        (call keeper.new (W.taken writer.new) errors.new) result }
+{
+    let Some(asked) = read_row(row) else {
+        return answer_bad_row(alloc, writer, errors, place, row);
+    };
+    let input = Input::Keyed(asked.0, Command::Stock(asked.1));
+    let answer = match answer_one(keeper, &input, at) {
+        Ok(answer) => answer,
+        Err(fault) => return Err(keeper_fault(fault)),
+    };
+    let Ok(line) = answer_line(alloc, Some(place.number), &input, &answer) else {
+        return Err(RunFault::Memory);
+    };
+    send_line(writer, &line)?;
+    Ok(matches!(answer, Answer::Done(_)))
+}
 
 /// Answers the rows of a reader up to its end or an error.
 fn answer_rows<P: Answering<D, E>, D, R: Read + Drop, W: ByteOut, E: ByteOut>(
@@ -24,8 +122,8 @@ fn answer_rows<P: Answering<D, E>, D, R: Read + Drop, W: ByteOut, E: ByteOut>(
     lines: &LineCount,
 ) -> Result<bool, RunFault>
     ensures { HaveBeenAnswered stock_rows (P.answered_row way.now) (R.remaining reader)
-        (come desk.old (W.taken writer.old) errors.old)
-        (come desk.new (W.taken writer.new) errors.new) result }
+        (call desk.old (W.taken writer.old) errors.old)
+        (call desk.new (W.taken writer.new) errors.new) result }
 {
     let rdr = ReaderBuilder::new()
         .has_headers(false)
@@ -57,8 +155,8 @@ pub fn answer_list<P: Answering<D, E>, D, R: Watched + Read, W: ByteOut, E: Byte
     errors: &mut E,
 ) -> Result<bool, RunFault>
     ensures answered { HaveBeenAnswered stock_rows (P.answered_row way.now) (R.remaining reader.old)
-        (come desk.old (W.taken writer.old) errors.old)
-        (come desk.new (W.taken writer.new) errors.new) result }
+        (call desk.old (W.taken writer.old) errors.old)
+        (call desk.new (W.taken writer.new) errors.new) result }
     ensures read { IsReadToEnd (R.given reader.new) result }
 {
     let count = LineCount::new();

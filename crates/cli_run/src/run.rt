@@ -1,25 +1,24 @@
 //! Running a command over its station.
 ghost use Rattle.std.specs.Prelude.{◌≡◌, false, None, OnOk};
 ghost use Rattle.station_core.specs.Keeping.{StaysInService};
-ghost use Rattle.stock_list.specs.Answered.{HasAnsweredRows};
-ghost use Rattle.stock_list.specs.Come.{come};
-ghost use Rattle.stock_list.specs.Ended.{IsReadToEnd};
-ghost use Rattle.stock_list.specs.InTurn.{HaveBeenAnswered};
+ghost use Rattle.cli_run.specs.RowsAnswered.{HasAnsweredRows};
+ghost use Rattle.cli_run.specs.Ends.{call, ends, reached};
+ghost use Rattle.cli_run.specs.Faults.{IsReadToEnd};
+ghost use Rattle.cli_run.specs.InTurn.{HaveBeenAnswered, kept_lines, HaveBeenMade};
 ghost use Rattle.cli_run.specs.Acts.{HasAnsweredLine};
 ghost use Rattle.cli_run.specs.Answered.{HasAnswered, HasAnsweredAsked};
-ghost use Rattle.cli_run.specs.Asked.{IsCommandAsked};
+ghost use Rattle.cli_run.specs.Requests.{IsCommandAsked};
 ghost use Rattle.cli_run.specs.Done.{HasDone, HasToldMade};
-ghost use Rattle.cli_run.specs.Ends.{ends, reached};
-ghost use Rattle.cli_run.specs.InTurn.{kept_lines, HaveBeenMade};
 ghost use Rattle.cli_run.specs.Place.{here_of};
 ghost use Rattle.cli_run.specs.Reasons.{HasGivenReasons};
 ghost use Rattle.cli_run.specs.Takes.{HasTakenNext};
 
 use crate::acts::answer_acts;
 use crate::answering::ByStation;
+use crate::fault::RunFault;
 use crate::history::do_history;
 use crate::input::answer_input;
-use crate::inputs::Inputs;
+use crate::inputs::{Inputs, Watched};
 use crate::look::{do_holder, do_waybill};
 use crate::place::airport_of_line;
 use crate::report::do_report;
@@ -34,7 +33,6 @@ use station_core::{ByteIn, ByteOut, Keeper, Key};
 use station_days::Moment;
 use std::alloc::Global;
 use std::io::Read;
-use stock_list::{RunFault, Watched};
 
 /// Runs `init`: writes the line of the new station.
 fn do_init<K: Keeper, W: ByteOut>(
@@ -62,8 +60,8 @@ fn do_stock<K: Keeper, I: Watched + Read, W: ByteOut, E: ByteOut>(
     at: Moment,
 ) -> Result<bool, RunFault>
     ensures answered { HasAnsweredRows K.keeping at E.taken (I.remaining reader.old)
-        (come keeper.old (W.taken output.old) errors.old)
-        (come keeper.new (W.taken output.new) errors.new) result }
+        (call keeper.old (W.taken output.old) errors.old)
+        (call keeper.new (W.taken output.new) errors.new) result }
     ensures read { IsReadToEnd (I.given reader.new) result }
 {
     answer_list(&ByStation { at }, alloc, keeper, reader, output, errors)
@@ -82,8 +80,8 @@ fn do_take<K: Keeper, I: Inputs, W: ByteOut, E: ByteOut>(
     ensures service { StaysInService K.keeping keeper.old keeper.new result }
     ensures taken { HaveBeenMade
         (HasTakenNext (λ bytes. HasAnswered K.keeping at E.taken None) I.given I.turned) count
-        (come keeper.old (W.taken output.old) errors.old, reader.old)
-        (come keeper.new (W.taken output.new) errors.new, reader.new) result }
+        (call keeper.old (W.taken output.old) errors.old, reader.old)
+        (call keeper.new (W.taken output.new) errors.new, reader.new) result }
 {
     answer_takes(
         &ByStation { at },
@@ -107,8 +105,8 @@ fn do_acts<K: Keeper, I: Watched + Read, W: ByteOut, E: ByteOut>(
 ) -> Result<bool, RunFault>
     ensures service { StaysInService K.keeping keeper.old keeper.new result }
     ensures answered { HaveBeenAnswered kept_lines (HasAnsweredLine K.keeping at E.taken)
-        (I.remaining reader.old) (come keeper.old (W.taken output.old) errors.old)
-        (come keeper.new (W.taken output.new) errors.new) result }
+        (I.remaining reader.old) (call keeper.old (W.taken output.old) errors.old)
+        (call keeper.new (W.taken output.new) errors.new) result }
     ensures read { IsReadToEnd (I.given reader.new) result }
 {
     answer_acts(&ByStation { at }, alloc, keeper, reader, output, errors)
@@ -127,8 +125,8 @@ fn do_act<K: Keeper, I: ByteIn, W: ByteOut, E: ByteOut>(
 ) -> Result<bool, RunFault>
     ensures service { StaysInService K.keeping keeper.old keeper.new result }
     ensures answered { HasAnsweredAsked (IsCommandAsked verb key) K.keeping at E.taken
-        (come keeper.old (W.taken output.old) errors.old, I.given reader.old)
-        (come keeper.new (W.taken output.new) errors.new, I.given reader.new) result }
+        (call keeper.old (W.taken output.old) errors.old, I.given reader.old)
+        (call keeper.new (W.taken output.new) errors.new, I.given reader.new) result }
 {
     answer_input(
         &ByStation { at },

@@ -1,7 +1,7 @@
 //! Dry runs of telegrams.
 ghost use Rattle.std.specs.Prelude.{◌≡◌, ◌⊎◌, ◌++◌, ◌∷◌, [], None, Some, false, not, Err, IfOk, IfErr, OnOk, OnErr, string_bytes};
 ghost use Rattle.station_core.specs.Texts.{refusal_text};
-ghost use Rattle.stock_list.specs.Ended.{IsUntroubled, TellsWriting, WriteHasCause};
+ghost use Rattle.cli_run.specs.Faults.{IsUntroubled, TellsWriting, WriteHasCause};
 ghost use Rattle.input_reasons.specs.Look.{has_doubt};
 ghost use Rattle.input_reasons.specs.LookText.{look_text};
 ghost use Rattle.cli_run.specs.Came.{HasFailed, IsWithin, most_come};
@@ -10,13 +10,14 @@ ghost use Rattle.cli_run.specs.Explained.{telegram_head, HasToldWhy};
 ghost use Rattle.cli_run.specs.Seen.{has_reason, HasSeen, HasStoppedLook, IsSeen};
 
 use crate::answer::refusal_line;
+use crate::fault::RunFault;
 use crate::reading::read_input;
+use crate::sent::send_line;
 use crate::telling::tell_refusal;
 use input_reasons::{Look, look_at, look_text};
 use shipment_machine::Refusal;
 use station_core::{ByteIn, ByteOut};
 use std::alloc::{AllocError, Global};
-use stock_list::{RunFault, send_line};
 use telegrams::TelegramFault;
 
 /// The text of a dry run, whether nothing is doubtful, and the refusal if the telegram can't be

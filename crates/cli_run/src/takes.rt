@@ -1,15 +1,15 @@
 //! Taking several telegrams.
 ghost use Rattle.std.specs.Prelude.{None};
-ghost use Rattle.stock_list.specs.Come.{come};
+ghost use Rattle.cli_run.specs.Ends.{call};
 ghost use Rattle.cli_run.specs.Takes.{HasTakenNext};
 ghost use Rattle.cli_run.specs.InTurn.{HaveBeenMade};
 
 use crate::answering::Answering;
+use crate::fault::RunFault;
 use crate::input::answer_input;
-use crate::inputs::Inputs;
+use crate::inputs::{Inputs, Watched};
 use station_core::{ByteIn, ByteOut};
 use std::alloc::Global;
-use stock_list::{RunFault, Watched};
 
 /// Begins the next input, and has its telegram answered.
 fn take_next<P: Answering<D, E>, D, I: Inputs, W: ByteOut, E: ByteOut>(
@@ -21,8 +21,8 @@ fn take_next<P: Answering<D, E>, D, I: Inputs, W: ByteOut, E: ByteOut>(
     errors: &mut E,
 ) -> Result<bool, RunFault>
     ensures { HasTakenNext (P.answered way.now None) I.given I.turned
-        (come desk.old (W.taken writer.old) errors.old, reader.old)
-        (come desk.new (W.taken writer.new) errors.new, reader.new) result }
+        (call desk.old (W.taken writer.old) errors.old, reader.old)
+        (call desk.new (W.taken writer.new) errors.new, reader.new) result }
 {
     reader.next_input();
     answer_input(way, alloc, desk, &None, reader, writer, errors)
@@ -43,8 +43,8 @@ pub fn answer_takes<P: Answering<D, E>, D, I: Inputs, W: ByteOut, E: ByteOut>(
     errors: &mut E,
 ) -> Result<bool, RunFault>
     ensures { HaveBeenMade (HasTakenNext (P.answered way.now None) I.given I.turned) count
-        (come desk.old (W.taken writer.old) errors.old, reader.old)
-        (come desk.new (W.taken writer.new) errors.new, reader.new) result }
+        (call desk.old (W.taken writer.old) errors.old, reader.old)
+        (call desk.new (W.taken writer.new) errors.new, reader.new) result }
 {
     let mut good = true;
     for _turn in 0..count {

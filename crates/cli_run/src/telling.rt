@@ -3,7 +3,7 @@ ghost use Rattle.std.specs.Prelude.{codes};
 ghost use Rattle.input_reasons.specs.Reason.{HasReason, is_unread};
 ghost use Rattle.cli_run.specs.Explained.{answered_unread, line_head, reason_head, HasToldWhy};
 
-use crate::asked::Asked;
+use crate::request::Request;
 use desk_commands::Verb;
 use input_reasons::{
     act_line_reason, body_reason, is_unread, telegram_line_reason, telegram_reason, tell_reason,
@@ -36,8 +36,8 @@ pub(crate) fn tell_bad_line<E: ByteOut>(
 
 /// Writes the reason why a telegram can't be read.
 fn tell_unread<E: ByteOut>(alloc: Global, errors: &mut E, number: Option<u64>, refusal: &Refusal)
-    ensures { HasReason (reason_head number (Asked.Refused refusal.now)) (E.taken errors.old).bytes
-        (E.taken errors.new).bytes }
+    ensures { HasReason (reason_head number (Request.Refused refusal.now))
+        (E.taken errors.old).bytes (E.taken errors.new).bytes }
 {
     match number {
         Some(number) => tell_reason(errors, telegram_line_reason(alloc, refusal, number)),
@@ -54,7 +54,7 @@ pub fn tell_refusal<E: ByteOut>(
     refusal: &Refusal,
 )
     ensures { HasToldWhy E.taken (is_unread refusal.now)
-        (reason_head number (Asked.Refused refusal.now)) errors.old errors.new }
+        (reason_head number (Request.Refused refusal.now)) errors.old errors.new }
 {
     if !is_unread(refusal) {
         return;
@@ -72,7 +72,7 @@ pub(crate) fn tell_answer<E: ByteOut>(
     answer: &Answer,
 )
     ensures { HasToldWhy E.taken (answered_unread input.now answer.now)
-        (reason_head number (Asked.Input input.now)) errors.old errors.new }
+        (reason_head number (Request.Input input.now)) errors.old errors.new }
 {
     match input {
         Input::Keyed(_, _) => {}

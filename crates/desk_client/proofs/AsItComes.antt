@@ -5,7 +5,7 @@ use Rattle.std.proofs.Math.Seq.{take-length}
 use Rattle.std.proofs.lemmas.List.{append-nil, append_cancel_left, take-append-drop}
 use Rattle.station_core.specs.Given.{Given}
 use Rattle.station_core.specs.Ends.{HasCause, HasSent}
-use Rattle.stock_list.specs.Ended.{IsUntroubled}
+use Rattle.cli_run.specs.Faults.{IsUntroubled}
 use Rattle.cli_run.proofs.Parts.{cause_behind, first_part, next_part}
 use Rattle.reports.specs.declared.form.Form.{Form}
 use Rattle.reports.specs.declared.form.Form.TheVariants as form

@@ -2,8 +2,8 @@
 use Rattle.std.proofs.Common.{◌≡◌, refl, sym, subst, ℕ, ◌≤◌, Bool, true, false, List, ◌++◌, drop, length, Option, Result, Ok, Err}
 use Rattle.station_core.specs.Given.{Given}
 use Rattle.reports.specs.declared.form.Form.{Form}
-use Rattle.desk_client.specs.Asked.{by_time, HasAsked, HasRead, HasSent, HasTaken, HasUnderstood}
-use Rattle.desk_client.specs.Came.{HasCome}
+use Rattle.desk_client.specs.Try.{by_time, HasAsked, HasRead, HasSent, HasTaken, HasUnderstood}
+use Rattle.cli_run.specs.Came.{HasCome}
 use Rattle.desk_client.specs.Request.{most_row_bytes}
 use Rattle.desk_client.specs.Whole.{IsWhole}
 use Rattle.desk_client.specs.declared.ask.Response.{Response}

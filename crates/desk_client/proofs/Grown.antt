@@ -3,7 +3,7 @@ use Rattle.std.proofs.Common.{◌∙◌, ap, sym, inl, inr, arith, ℕ, ◌<◌,
 use Rattle.std.specs.Prelude.{◌⊎◌}
 use Rattle.station_core.specs.Given.{Given}
 use Rattle.cli_run.proofs.Grown.{grown_more}
-use Rattle.desk_client.specs.Came.{HasCome}
+use Rattle.cli_run.specs.Came.{HasCome}
 use Rattle.cli_run.specs.Came.{HasGrown}
 
 below : (a b d : ℕ) → a ≤ b → b < d → a < d

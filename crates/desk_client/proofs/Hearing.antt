@@ -3,13 +3,13 @@ use Rattle.std.proofs.Common.{◌≡◌, ◌∙◌, sym, refl, ap, subst, inl, i
 use Rattle.std.proofs.lemmas.List.{append-nil}
 use Rattle.station_core.specs.Given.{Given}
 use Rattle.station_core.specs.declared.input.Input.{Input}
-use Rattle.stock_list.specs.declared.answer.RunFault.{RunFault}
-use Rattle.stock_list.specs.declared.answer.RunFault.TheVariants as fault
-use Rattle.cli_run.specs.declared.asked.Asked.TheVariants as asked
-use Rattle.cli_run.specs.Asked.{named}
+use Rattle.cli_run.specs.declared.fault.RunFault.{RunFault}
+use Rattle.cli_run.specs.declared.fault.RunFault.TheVariants as fault
+use Rattle.cli_run.specs.declared.request.Request.TheVariants as asked
+use Rattle.cli_run.specs.Requests.{named}
 use Rattle.cli_run.specs.Ended.{HasToldPart}
 use Rattle.cli_run.specs.Explained.{reason_head, HasToldWhy}
-use Rattle.stock_list.specs.Come.{Come}
+use Rattle.cli_run.specs.Ends.{Call}
 use Rattle.desk_client.specs.Again.{Talk, IsAnswered}
 use Rattle.desk_client.specs.Heard.{is_late, HasAnsweredInput, HasHeard, HasUnderstoodLine}
 use Rattle.desk_client.specs.declared.ask.Response.{Response}
@@ -31,7 +31,7 @@ unsent line old = record {
 }
 
 -- its line's memory ran out
-pub unlined : {E : Type 0} (taken : E → Given) (number : Option ℕ) (input : Input) (request : List ℕ) (most : ℕ) (old new : Come Talk E) (heard : Heard)
+pub unlined : {E : Type 0} (taken : E → Given) (number : Option ℕ) (input : Input) (request : List ℕ) (most : ℕ) (old new : Call Talk E) (heard : Heard)
     → HasHeard request most old.keeper new.keeper (Ok heard) → new.sent ≡ old.sent → new.errors ≡ old.errors
     → HasAnsweredInput taken number input request most old new (Err fault.Memory)
 unlined taken number input request most old new heard is sent errors =
@@ -39,7 +39,7 @@ unlined taken number input request most old new heard is sent errors =
     (errors, (Ok heard, is, subst (λ (g : Given). HasToldPart line old.sent g fault.Memory) (sym sent) (unsent line old.sent)))
 
 -- its line went out, and why a telegram can't be read
-pub told : {E : Type 0} (taken : E → Given) (number : Option ℕ) (input : Input) (request : List ℕ) (most : ℕ) (old new : Come Talk E) (heard : Heard) (line text : List ℕ)
+pub told : {E : Type 0} (taken : E → Given) (number : Option ℕ) (input : Input) (request : List ℕ) (most : ℕ) (old new : Call Talk E) (heard : Heard) (line text : List ℕ)
     → HasHeard request most old.keeper new.keeper (Ok heard) → new.sent.bytes ≡ old.sent.bytes ++ line
     → line ≡ named number (asked.Input input) (text ++ 10 ∷ []) → text ≡ string_bytes heard.text
     → HasToldWhy taken (is_late input text) (reason_head number (asked.Input input)) old.errors new.errors

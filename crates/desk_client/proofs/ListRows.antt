@@ -8,9 +8,9 @@ use Rattle.desk_commands.specs.declared.verb.Verb.{Verb}
 use Rattle.desk_commands.specs.declared.command.Command.TheVariants.{Stock}
 use Rattle.http_desk.specs.Request.{IsSaid}
 use Rattle.station_core.specs.Given.{Given}
-use Rattle.stock_list.specs.declared.answer.RunFault.{RunFault}
-use Rattle.stock_list.specs.Come.{Come}
-use Rattle.stock_list.specs.Lines.{input_of}
+use Rattle.cli_run.specs.declared.fault.RunFault.{RunFault}
+use Rattle.cli_run.specs.Ends.{Call}
+use Rattle.cli_run.specs.Rows.{input_of}
 use Rattle.desk_client.specs.Again.{Talk}
 use Rattle.desk_client.specs.Heard.{HasAnsweredInput}
 use Rattle.desk_client.specs.ListRows.{HasAnsweredOrder}
@@ -18,7 +18,7 @@ use Rattle.desk_client.specs.Orders.{order_data, IsOrderText}
 use Rattle.desk_client.specs.Request.{command_request, most_answer}
 
 -- an order that was asked by its verb and its body
-pub ordered : {E : Type 0} (taken : E → Given) (number : ℕ) (key : List ℕ) (order : Order) (verb : Verb) (text body : List ℕ) (old new : Come Talk E) (r : Result Bool RunFault)
+pub ordered : {E : Type 0} (taken : E → Given) (number : ℕ) (key : List ℕ) (order : Order) (verb : Verb) (text body : List ℕ) (old new : Call Talk E) (r : Result Bool RunFault)
     → verb ≡ order_verb order → body ≡ text → IsUtf8 text → IsOrderText order text
     → HasAnsweredInput taken (Some number) (input_of (key, order)) (command_request (word verb) key body) most_answer old new r
     → HasAnsweredOrder taken number key order old new r

@@ -5,10 +5,10 @@ use Rattle.serde_json.specs.Read.{read, max_depth}
 use Rattle.desk_commands.specs.Verb.{word}
 use Rattle.desk_commands.specs.declared.verb.Verb.{Verb}
 use Rattle.station_core.specs.Given.{Given}
-use Rattle.stock_list.specs.declared.answer.RunFault.{RunFault}
-use Rattle.cli_run.specs.declared.asked.Asked.{Asked}
+use Rattle.cli_run.specs.declared.fault.RunFault.{RunFault}
+use Rattle.cli_run.specs.declared.request.Request.{Request}
 use Rattle.cli_run.specs.ActLine.{IsActAsked, IsFrame, IsWritten}
-use Rattle.stock_list.specs.Come.{Come}
+use Rattle.cli_run.specs.Ends.{Call}
 use Rattle.desk_client.specs.Again.{Talk}
 use Rattle.desk_client.specs.Heard.{HasAnswered}
 use Rattle.desk_client.specs.Posted.{HasHeardValue, IsPosted}
@@ -31,7 +31,7 @@ posted_of shows (Some v) line request some none posted d written =
     subst (λ (e : Data). IsPosted e request) (some_is (shows v) d (sym some.2 ∙ written.2)) posted
 
 -- the line was answered by the request of that
-pub heard_line : {E : Type 0} (taken : E → Given) (number : ℕ) (line : List ℕ) (old new : Come Talk E) (r : Result Bool RunFault) (asks : Asked) (request sent : List ℕ) (most : ℕ)
+pub heard_line : {E : Type 0} (taken : E → Given) (number : ℕ) (line : List ℕ) (old new : Call Talk E) (r : Result Bool RunFault) (asks : Request) (request sent : List ℕ) (most : ℕ)
     → IsActAsked line asks → ((d : Data) → IsWritten line d → IsPosted d request) → sent ≡ request → most ≡ most_answer
     → HasAnswered taken (Some number) asks sent most old new r → HasHeardValue taken number line old new r
 heard_line taken number line old new r asks request sent most asked posted sent_is most_is answered =

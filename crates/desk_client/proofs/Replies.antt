@@ -16,9 +16,9 @@ use Rattle.shipment_machine.specs.declared.plans.Detail.TheVariants as detail
 use Rattle.shipment_machine.specs.Texts.{detail_text, refused_with, flight_date_text}
 use Rattle.station_core.specs.declared.answer.Answer.{Answer}
 use Rattle.station_core.specs.declared.answer.Answer.TheVariants.{Done, Refused}
-use Rattle.stock_list.specs.Lines.{answer_text}
+use Rattle.cli_run.specs.Requests.{answer_text}
 use Rattle.http_desk.specs.Reply.{answer_reply, ok_data, refused_data}
-use Rattle.desk_client.specs.Told.{ok_line, refused_line, refused_told, refusal_told, count_of, count_told, told_line}
+use Rattle.desk_client.specs.Content.{ok_line, refused_line, refused_told, refusal_told, count_of, count_told, told_line}
 use Rattle.desk_client.specs.Law.{AreFew, HasFew, reply_line}
 
 -- what an object of a desk has

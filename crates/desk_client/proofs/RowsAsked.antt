@@ -1,11 +1,11 @@
 -- A question for rows, by the tries and by what was printed after them.
 use Rattle.std.proofs.Common.{◌≡◌, ap, refl, inl, inr, ⊎_elim, ℕ, Bool, List, Option, Some, None, Result, Ok, Err}
 use Rattle.station_core.specs.Given.{Given}
-use Rattle.stock_list.specs.declared.answer.RunFault.{RunFault}
-use Rattle.stock_list.specs.declared.answer.RunFault.TheVariants as run
+use Rattle.cli_run.specs.declared.fault.RunFault.{RunFault}
+use Rattle.cli_run.specs.declared.fault.RunFault.TheVariants as run
 use Rattle.reports.specs.declared.form.Form.{Form}
 use Rattle.desk_client.specs.Again.{Talk, HasTried, HasTriedThrice, HasTriedTwice, IsRefused, HasTalked}
-use Rattle.desk_client.specs.Asked.{HasTaken}
+use Rattle.desk_client.specs.Try.{HasTaken}
 use Rattle.desk_client.specs.Heard.{service_fault}
 use Rattle.desk_client.specs.Looks.{rows_request, shown, HasAskedRows, HasShownTaken, IsTakenRows}
 use Rattle.desk_client.specs.declared.ask.Response.{Response}

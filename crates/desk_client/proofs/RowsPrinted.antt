@@ -2,9 +2,9 @@
 use Rattle.std.proofs.Common.{◌≡◌, ◌∙◌, ap, subst, Bool, true, false, ℕ, List, Result, Err}
 use Rattle.station_core.specs.Given.{Given}
 use Rattle.reports.specs.declared.form.Form.{Form}
-use Rattle.stock_list.specs.declared.answer.RunFault.{RunFault}
+use Rattle.cli_run.specs.declared.fault.RunFault.{RunFault}
 use Rattle.desk_client.specs.Again.{Talk}
-use Rattle.desk_client.specs.Asked.{by_time}
+use Rattle.desk_client.specs.Try.{by_time}
 use Rattle.desk_client.specs.Heard.{body_of, service_fault}
 use Rattle.desk_client.specs.Printed.{call_ended, last_after, HasPrinted, HasPrintedBody, HasReadOn}
 use Rattle.desk_client.specs.declared.ask.Response.{Response}

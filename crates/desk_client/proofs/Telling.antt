@@ -2,7 +2,7 @@
 use Rattle.std.proofs.Common.{◌≡◌, ◌∙◌, ap, inl, inr, ⊎_elim, ℕ, List, ◌++◌, append_assoc, subst, sym}
 use Rattle.station_core.specs.Given.{Given}
 use Rattle.station_core.specs.Ends.{HasCause, HasSent, SendsLine}
-use Rattle.stock_list.specs.Ended.{IsUntroubled}
+use Rattle.cli_run.specs.Faults.{IsUntroubled}
 use Rattle.cli_run.proofs.Parts.{cause_behind, first_part, next_part}
 
 -- its first part, or a beginning of that

@@ -1,7 +1,7 @@
 -- A request that is sent once, twice or three times.
 use Rattle.std.proofs.Common.{◌≡◌, ◌∙◌, refl, subst, inl, inr, ℕ, ◌+◌, true, List, Result, Err}
 use Rattle.desk_client.specs.Again.{is_vain, Talk, IsRefusedOrTalked, HasTriedAgain, HasTriedThrice, IsAskedUntil, IsSettled}
-use Rattle.desk_client.specs.Asked.{HasAsked}
+use Rattle.desk_client.specs.Try.{HasAsked}
 use Rattle.desk_client.specs.Count.{one_more}
 use Rattle.desk_client.specs.declared.ask.Response.{Response}
 use Rattle.desk_client.specs.declared.ask.AskFault.{AskFault}

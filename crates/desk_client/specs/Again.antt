@@ -1,8 +1,8 @@
 -- Questions in several tries.
 use Rattle.std.specs.Prelude.{◌≡◌, ◌⊎◌, ℕ, ◌+◌, Bool, true, false, List, Result, Ok, Err}
 use Rattle.station_core.specs.Given.{Given}
-use Rattle.stock_list.specs.Come.{come, Come}
-use Rattle.desk_client.specs.Asked.{HasAsked}
+use Rattle.cli_run.specs.Ends.{call, Call}
+use Rattle.desk_client.specs.Try.{HasAsked}
 use Rattle.desk_client.specs.Count.{one_more}
 use Rattle.desk_client.specs.declared.ask.Response.{Response}
 use Rattle.desk_client.specs.declared.ask.AskFault.{AskFault}
@@ -88,5 +88,5 @@ abbrev pub IsAnswered : ℕ → List ℕ → Talk → Talk → Result Response A
 IsAnswered most request old new result = IsAskedUntil (until.End most) request old new result
 
 -- the state of a call, by the history of its service
-abbrev pub talked : {S E : Type 0} → (S → Talk) → Come S E → Come Talk E
-talked talk c = come (talk c.keeper) c.sent c.errors
+abbrev pub talked : {S E : Type 0} → (S → Talk) → Call S E → Call Talk E
+talked talk c = call (talk c.keeper) c.sent c.errors

@@ -1,5 +1,5 @@
 -- The bytes received of an answer.
-use Rattle.std.specs.Prelude.{◌≡◌, ◌⊎◌, ℕ, ◌<◌, List, ◌++◌, length, Result, Ok, Err, ⊤}
+use Rattle.std.specs.Prelude.{◌≡◌, ℕ, List, ◌++◌, Result, Ok, Err, ⊤}
 use Rattle.station_core.specs.Given.{Given}
 use Rattle.desk_client.specs.declared.ask.AskFault.{AskFault}
 use Rattle.desk_client.specs.declared.ask.AskFault.TheVariants as fault
@@ -7,13 +7,6 @@ use Rattle.desk_client.specs.declared.ask.AskFault.TheVariants as fault
 -- some bytes were read, or none
 abbrev pub HasGiven : Given → Given → Type 0
 HasGiven old new = (part : List ℕ) × (new.bytes ≡ old.bytes ++ part)
-
--- These bytes were received, and no read failed. The input ended, as a read returned nothing; or it
--- is too long.
-pub record HasCome (most : ℕ) (old new : Given) (bytes : List ℕ) : Type 0 where
-  pub given : new.bytes ≡ old.bytes ++ bytes
-  pub failures : new.failures ≡ old.failures
-  pub ended : (old.idle < new.idle) ⊎ (most < length bytes)
 
 -- a reader stops if it fails, or if memory runs out
 abbrev pub IsReadersFault : {T : Type 0} → Result T AskFault → Type 0

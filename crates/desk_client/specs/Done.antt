@@ -3,16 +3,15 @@ use Rattle.std.specs.Prelude.{◌≡◌, ℕ, Bool, true, List, [], ◌++◌, le
 use Rattle.reports.specs.declared.listing.Listing.TheVariants as listing
 use Rattle.reports.specs.declared.report.Report.TheVariants as report
 use Rattle.station_core.specs.Given.{Given}
-use Rattle.stock_list.specs.declared.answer.RunFault.{RunFault}
-use Rattle.stock_list.specs.Come.{Come}
-use Rattle.stock_list.specs.Ended.{IsReadToEnd}
-use Rattle.stock_list.specs.InTurn.{HaveBeenAnswered}
-use Rattle.stock_list.specs.Lines.{stock_rows}
+use Rattle.cli_run.specs.declared.fault.RunFault.{RunFault}
+use Rattle.cli_run.specs.Ends.{Call}
+use Rattle.cli_run.specs.Faults.{IsReadToEnd}
+use Rattle.cli_run.specs.InTurn.{HaveBeenAnswered, kept_lines, HaveBeenMade}
+use Rattle.cli_run.specs.Rows.{stock_rows}
 use Rattle.cli_words.specs.declared.line.LineCommand.{LineCommand}
 use Rattle.cli_words.specs.declared.line.LineCommand.TheVariants as command
 use Rattle.cli_run.specs.Answered.{HasRunInput}
-use Rattle.cli_run.specs.Asked.{IsCommandAsked}
-use Rattle.cli_run.specs.InTurn.{kept_lines, HaveBeenMade}
+use Rattle.cli_run.specs.Requests.{IsCommandAsked}
 use Rattle.cli_run.specs.Takes.{HasTakenNext}
 use Rattle.desk_client.specs.Again.{talked, Talk}
 use Rattle.desk_client.specs.ListRows.{HasAnsweredRow}
@@ -22,16 +21,16 @@ use Rattle.desk_client.specs.Ran.{HasAnsweredText}
 use Rattle.desk_client.specs.Request.{get_request, history_path, holder_path, most_answer, most_row_bytes, waybill_path}
 use Rattle.http_desk.specs.Paths.{rows_path}
 
-abbrev pub shown_at : {S E : Type 0} → (S → Talk) → Come S E → Shown
+abbrev pub shown_at : {S E : Type 0} → (S → Talk) → Call S E → Shown
 shown_at talk c = shown (talk c.keeper) c.sent
 
 -- nothing was done or written
-abbrev pub HasIdled : {E : Type 0} → Come Talk E → Come Talk E → Result Bool RunFault → Type 0
+abbrev pub HasIdled : {E : Type 0} → Call Talk E → Call Talk E → Result Bool RunFault → Type 0
 HasIdled old new r = (new ≡ old) × (r ≡ Ok true)
 
 -- the commands that read inputs, over a service with this history
 abbrev pub HasDone : {S I E : Type 0} → LineCommand → (S → Talk) → (I → Given) → (I → I → Type 0) → (E → Given) → Option (List ℕ)
-    → Come S E × I → Come S E × I → Result Bool RunFault → Type 0
+    → Call S E × I → Call S E × I → Result Bool RunFault → Type 0
 HasDone command.Stock talk given turned taken left old new r =
     HaveBeenAnswered stock_rows (λ number row old new. HasAnsweredRow taken number row (talked talk old) (talked talk new)) left old.0 new.0 r
     × IsReadToEnd (given new.1) r

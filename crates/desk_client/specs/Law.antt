@@ -5,7 +5,7 @@ use Rattle.shipment_machine.specs.declared.plans.Detail.TheVariants as detail
 use Rattle.station_core.specs.declared.answer.Answer.{Answer}
 use Rattle.station_core.specs.declared.answer.Answer.TheVariants.{Done, Refused}
 use Rattle.http_desk.specs.Reply.{Reply, history_reply, json_reply, look_reply, report_reply}
-use Rattle.desk_client.specs.Told.{told_line}
+use Rattle.desk_client.specs.Content.{told_line}
 
 abbrev pub reply_line : Reply → Option (List ℕ)
 reply_line (json_reply status allow d) = told_line status d

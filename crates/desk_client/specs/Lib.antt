@@ -3,10 +3,10 @@ pub mod Came
 pub mod Ended
 pub mod Whole
 pub mod Front
-pub mod Asked
+pub mod Try
 pub mod Count
 pub mod Again
-pub mod Told
+pub mod Content
 pub mod Heard
 pub mod Ran
 pub mod Posted

@@ -7,12 +7,12 @@ use Rattle.desk_commands.specs.Verb.{word}
 use Rattle.desk_commands.specs.declared.command.Command.TheVariants.{Stock}
 use Rattle.http_desk.specs.Request.{IsSaid}
 use Rattle.station_core.specs.Given.{Given}
-use Rattle.stock_list.specs.declared.answer.RunFault.{RunFault}
-use Rattle.stock_list.specs.declared.answer.RunFault.TheVariants as fault
-use Rattle.stock_list.specs.Lines.{bad_line, input_of, Row}
-use Rattle.stock_list.specs.Reasons.{HasToldRow}
-use Rattle.stock_list.specs.Row.{row_asks}
-use Rattle.stock_list.specs.Come.{Come}
+use Rattle.cli_run.specs.declared.fault.RunFault.{RunFault}
+use Rattle.cli_run.specs.declared.fault.RunFault.TheVariants as fault
+use Rattle.cli_run.specs.Rows.{bad_line, input_of, Row}
+use Rattle.cli_run.specs.RowReasons.{HasToldRow}
+use Rattle.cli_run.specs.Row.{row_asks}
+use Rattle.cli_run.specs.Ends.{Call}
 use Rattle.cli_run.specs.Shut.{HasToldLine}
 use Rattle.desk_client.specs.Again.{Talk}
 use Rattle.desk_client.specs.Heard.{HasAnsweredInput}
@@ -24,25 +24,25 @@ abbrev pub order_request : List ℕ → Order → List ℕ
 order_request key order = command_request (word (order_verb order)) key (compact_text (order_data order))
 
 -- memory ran out before the service was asked: nothing was done or written
-abbrev pub HasNotBegun : {E : Type 0} → Come Talk E → Come Talk E → Result Bool RunFault → Type 0
+abbrev pub HasNotBegun : {E : Type 0} → Call Talk E → Call Talk E → Result Bool RunFault → Type 0
 HasNotBegun old new result = (new ≡ old) × (result ≡ Err fault.Memory)
 
 -- the service was sent the order, in a body that a desk reads as the order, and answered
-abbrev pub HasAnsweredOrder : {E : Type 0} → (E → Given) → ℕ → List ℕ → Order → Come Talk E → Come Talk E → Result Bool RunFault → Type 0
+abbrev pub HasAnsweredOrder : {E : Type 0} → (E → Given) → ℕ → List ℕ → Order → Call Talk E → Call Talk E → Result Bool RunFault → Type 0
 HasAnsweredOrder taken number key order old new result =
     HasNotBegun old new result
     ⊎ (IsSaid (order_verb order) (compact_text (order_data order)) (Stock order)
     × HasAnsweredInput taken (Some number) (input_of (key, order)) (order_request key order) most_answer old new result)
 
 -- a row without an order gets its line and its reason, and the service isn't asked
-pub record HasToldBadRow {E : Type 0} (taken : E → Given) (number : ℕ) (old new : Come Talk E) (result : Result Bool RunFault) : Type 0 where
+pub record HasToldBadRow {E : Type 0} (taken : E → Given) (number : ℕ) (old new : Call Talk E) (result : Result Bool RunFault) : Type 0 where
   pub same : new.keeper ≡ old.keeper
   pub line : HasToldLine (bad_line number) old.sent new.sent result
   pub reason : HasToldRow taken result None old.errors new.errors
 
-abbrev pub HasAnsweredAsks : {E : Type 0} → (E → Given) → ℕ → Option (List ℕ × Order) → Come Talk E → Come Talk E → Result Bool RunFault → Type 0
+abbrev pub HasAnsweredAsks : {E : Type 0} → (E → Given) → ℕ → Option (List ℕ × Order) → Call Talk E → Call Talk E → Result Bool RunFault → Type 0
 HasAnsweredAsks taken number None old new result = HasToldBadRow taken number old new result
 HasAnsweredAsks taken number (Some asked) old new result = HasAnsweredOrder taken number asked.0 asked.1 old new result
 
-abbrev pub HasAnsweredRow : {E : Type 0} → (E → Given) → ℕ → Row → Come Talk E → Come Talk E → Result Bool RunFault → Type 0
+abbrev pub HasAnsweredRow : {E : Type 0} → (E → Given) → ℕ → Row → Call Talk E → Call Talk E → Result Bool RunFault → Type 0
 HasAnsweredRow taken number row old new result = HasAnsweredAsks taken number (row_asks row) old new result

@@ -7,8 +7,8 @@ use Rattle.imp_fields.specs.Characters.{is_printable}
 use Rattle.reports.specs.declared.form.Form.{Form}
 use Rattle.station_core.specs.Ends.{HasCause, HasSent}
 use Rattle.station_core.specs.Given.{Given}
-use Rattle.stock_list.specs.declared.answer.RunFault.{RunFault}
-use Rattle.stock_list.specs.declared.answer.RunFault.TheVariants as fault
+use Rattle.cli_run.specs.declared.fault.RunFault.{RunFault}
+use Rattle.cli_run.specs.declared.fault.RunFault.TheVariants as fault
 use Rattle.desk_client.specs.Again.{Talk, IsAnswered, IsAskedUntil}
 use Rattle.desk_client.specs.Ended.{behind, ends_in}
 use Rattle.desk_client.specs.Front.{IsBegun}

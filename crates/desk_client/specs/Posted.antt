@@ -5,11 +5,11 @@ use Rattle.serde_json.specs.Read.{read, max_depth}
 use Rattle.desk_commands.specs.Verb.{word}
 use Rattle.desk_commands.specs.declared.verb.Verb.{Verb}
 use Rattle.station_core.specs.Given.{Given}
-use Rattle.stock_list.specs.declared.answer.RunFault.{RunFault}
+use Rattle.cli_run.specs.declared.fault.RunFault.{RunFault}
 use Rattle.cli_run.specs.ActLine.{IsActAsked, IsFrame, IsWired, IsWritten}
 use Rattle.cli_run.specs.Acts.{is_blank, HasNotHeard, HasSkipped}
-use Rattle.cli_run.specs.declared.asked.Asked.{Asked}
-use Rattle.stock_list.specs.Come.{Come}
+use Rattle.cli_run.specs.declared.request.Request.{Request}
+use Rattle.cli_run.specs.Ends.{Call}
 use Rattle.desk_client.specs.Again.{Talk}
 use Rattle.desk_client.specs.Heard.{HasAnswered}
 use Rattle.desk_client.specs.Request.{command_request, most_answer, telegram_request}
@@ -47,20 +47,20 @@ abbrev pub IsPosted : Data → List ℕ → Type 0
 IsPosted d request = IsPostedCommand d request ⊎ (IsPostedTelegram d request ⊎ IsNoPost d)
 
 -- the line has this request, which was answered with its content sent to the service
-pub record HasHeardLine {E : Type 0} (taken : E → Given) (number : ℕ) (line : List ℕ) (old new : Come Talk E)
+pub record HasHeardLine {E : Type 0} (taken : E → Given) (number : ℕ) (line : List ℕ) (old new : Call Talk E)
     (result : Result Bool RunFault) : Type 0 where
-  pub asks : Asked
+  pub asks : Request
   pub request : List ℕ
   pub asked : IsActAsked line asks
   pub posted : (d : Data) → IsWritten line d → IsPosted d request
   pub answer : HasAnswered taken (Some number) asks request most_answer old new result
 
-abbrev pub HasHeardValue : {E : Type 0} → (E → Given) → ℕ → List ℕ → Come Talk E → Come Talk E → Result Bool RunFault → Type 0
+abbrev pub HasHeardValue : {E : Type 0} → (E → Given) → ℕ → List ℕ → Call Talk E → Call Talk E → Result Bool RunFault → Type 0
 HasHeardValue taken number line old new result =
     HasNotHeard old new result ⊎ HasHeardLine taken number line old new result
 
 -- The line with this number was answered. An empty line is skipped.
-abbrev pub HasAnsweredLine : {E : Type 0} → (E → Given) → ℕ → List ℕ → Come Talk E → Come Talk E → Result Bool RunFault → Type 0
+abbrev pub HasAnsweredLine : {E : Type 0} → (E → Given) → ℕ → List ℕ → Call Talk E → Call Talk E → Result Bool RunFault → Type 0
 HasAnsweredLine taken number line old new result =
     HasSkipped line old new result
     ⊎ ((is_blank line ≡ false) × HasHeardValue taken number line old new result)

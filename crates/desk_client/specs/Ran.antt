@@ -2,16 +2,16 @@
 use Rattle.std.specs.Prelude.{Bool, List, None, Option, Result, ℕ}
 use Rattle.desk_commands.specs.declared.verb.Verb.{Verb}
 use Rattle.station_core.specs.Given.{Given}
-use Rattle.stock_list.specs.declared.answer.RunFault.{RunFault}
-use Rattle.stock_list.specs.Come.{Come}
-use Rattle.cli_run.specs.declared.asked.Asked.{Asked}
+use Rattle.cli_run.specs.declared.fault.RunFault.{RunFault}
+use Rattle.cli_run.specs.Ends.{Call}
+use Rattle.cli_run.specs.declared.request.Request.{Request}
 use Rattle.desk_client.specs.Again.{talked, Talk}
 use Rattle.desk_client.specs.Heard.{HasAnswered}
 use Rattle.desk_client.specs.Posted.{request_by}
 use Rattle.desk_client.specs.Request.{most_answer}
 
 -- the request in a text was answered by sending that text, under the verb and the key of a command
-abbrev pub HasAnsweredText : {S E : Type 0} → (S → Talk) → (E → Given) → Option (Verb × List ℕ) → List ℕ → Asked
-    → Come S E → Come S E → Result Bool RunFault → Type 0
+abbrev pub HasAnsweredText : {S E : Type 0} → (S → Talk) → (E → Given) → Option (Verb × List ℕ) → List ℕ → Request
+    → Call S E → Call S E → Result Bool RunFault → Type 0
 HasAnsweredText talk taken head text asks old new result =
     HasAnswered taken None asks (request_by head text) most_answer (talked talk old) (talked talk new) result

@@ -1,7 +1,7 @@
 -- The exit status of a call to a service, and its fault line.
 use Rattle.std.specs.Prelude.{ℕ, ◌==◌, Bool, true, false, List, [], ◌∷◌, ◌++◌, codes, decimal, Option, Some, None, Result, Ok, Err, if◌then◌else◌}
-use Rattle.stock_list.specs.declared.answer.RunFault.{RunFault}
-use Rattle.stock_list.specs.declared.answer.RunFault.TheVariants as fault
+use Rattle.cli_run.specs.declared.fault.RunFault.{RunFault}
+use Rattle.cli_run.specs.declared.fault.RunFault.TheVariants as fault
 use Rattle.desk_client.specs.declared.ask.AskFault.{AskFault}
 use Rattle.desk_client.specs.declared.ask.AskFault.TheVariants as vain
 use Rattle.desk_client.specs.declared.connect.LastTry.{LastTry}

@@ -8,12 +8,11 @@ use crate::ask::Ask;
 use crate::line::answer_asked;
 use crate::lines::{answer_line, question_by};
 use crate::rows::answer_row;
-use cli_run::{Answering, Asked};
+use cli_run::{Answering, LineCount, Request, RowPlace, RunFault};
 use csv::ByteRecord;
 use desk_commands::Verb;
 use station_core::{ByteOut, Key};
 use std::alloc::Global;
-use stock_list::{LineCount, RowPlace, RunFault};
 
 /// The way of a service: each input is sent as a question.
 #[derive(Clone, Copy)]
@@ -64,7 +63,7 @@ impl<S: Ask, E: ByteOut> Answering<S, E> for ByService {
         errors: &mut E,
         head: Option<(Verb, Key)>,
         text: &[u8],
-        asked: &Asked<'_>,
+        asked: &Request<'_>,
     ) -> Result<bool, RunFault> {
         let question = question_by(head, text);
         answer_asked(alloc, desk, writer, errors, None, asked, &question)

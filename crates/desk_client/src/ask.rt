@@ -1,6 +1,6 @@
 //! Sending a question, in up to three tries.
 ghost use Rattle.std.specs.Prelude.{◌≡◌};
-ghost use Rattle.desk_client.specs.Asked.{by_time, HasAsked, HasRead, HasSent, HasUnderstood};
+ghost use Rattle.desk_client.specs.Try.{by_time, HasAsked, HasRead, HasSent, HasUnderstood};
 ghost use Rattle.desk_client.specs.Again.{is_vain, last_of, talk, Talk, IsRefusedOrTalked, HasTried, HasTriedTwice, HasTriedThrice, IsAnswered};
 ghost use Rattle.desk_client.specs.Looks.{shown, HasAskedRows};
 ghost use Rattle.desk_client.specs.Request.{most_of, request_of};
@@ -13,10 +13,10 @@ use crate::question::{Question, most_of, request_of};
 use crate::reading::{read_all, read_more};
 use crate::report::show_answer;
 use crate::whole::{Found, found_in};
+use cli_run::RunFault;
 use reports::{Form, Listing};
 use station_core::{ByteIn, ByteOut, send};
 use std::alloc::Global;
-use stock_list::RunFault;
 
 /// The reason why a question wasn't answered.
 #[derive(Clone, Copy)]

@@ -1,7 +1,7 @@
 //! Laws of the lines, and of whole answers.
 ghost use Rattle.std.specs.Prelude.{◌≡◌, ◌⊎◌, ◌++◌, ◌≤◌, [], ℕ, List, Some, None, length, true, false};
 ghost use Rattle.station_core.specs.declared.answer.Answer.{Answer};
-ghost use Rattle.stock_list.specs.Lines.{answer_text};
+ghost use Rattle.cli_run.specs.Requests.{answer_text};
 ghost use Rattle.http_desk.specs.Reply.{answer_reply};
 ghost use Rattle.desk_client.specs.Law.{HasFew, reply_line};
 ghost use Rattle.desk_client.specs.Ended.{has_end};

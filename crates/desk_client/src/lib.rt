@@ -4,6 +4,7 @@
 mod answering;
 mod ask;
 mod connect;
+mod content;
 mod ended;
 mod front;
 mod laws;
@@ -18,13 +19,12 @@ mod report;
 mod rows;
 mod run;
 mod status;
-mod told;
 mod whole;
 
 pub use ask::{Ask, AskFault, Response, Until};
 pub use connect::{Connect, LastTry, RemoteDesk};
+pub use content::{Content, content_of};
 pub use laws::{lines_law, request_law, whole_law};
 pub use question::Question;
 pub use run::ask_command;
 pub use status::end_asked;
-pub use told::{Told, told_answer};

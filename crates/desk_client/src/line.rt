@@ -1,20 +1,22 @@
 //! The line of an answer.
 ghost use Rattle.std.specs.Prelude.{◌≡◌, Err};
 ghost use Rattle.cli_run.specs.Explained.{reason_head, HasToldWhy};
-ghost use Rattle.stock_list.specs.Come.{come};
-ghost use Rattle.cli_run.specs.declared.asked.Asked.{Asked as AnyAsked};
+ghost use Rattle.cli_run.specs.Ends.{call};
+ghost use Rattle.cli_run.specs.declared.request.Request.{Request as AnyRequest};
 ghost use Rattle.desk_client.specs.Heard.{body_of, is_late, service_fault, HasAnswered, HasAnsweredInput, HasHeard, HasUnderstoodLine};
 ghost use Rattle.desk_client.specs.Request.{most_of, request_of};
 
 use crate::ask::{Ask, AskFault, Response};
+use crate::content::{Content, content_of};
 use crate::question::Question;
-use crate::told::{Told, told_answer};
-use cli_run::{Asked, answer_bad, answer_bad_line, answer_refusal, named_line, tell_refusal};
+use cli_run::{
+    Request, RunFault, answer_bad, answer_bad_line, answer_refusal, named_line, send_line,
+    tell_refusal,
+};
 use imp_fields::Why;
 use shipment_machine::{Detail, Refusal};
 use station_core::{ByteOut, Input};
 use std::alloc::Global;
-use stock_list::{RunFault, send_line};
 
 /// The only answer that refuses a telegram as unreadable although it was read: the date of the
 /// flight on its second line isn't an existing day.
@@ -53,9 +55,9 @@ pub(crate) fn service_fault(fault: AskFault) -> RunFault
 fn heard_of(alloc: Global, answer: &Response) -> Result<Heard, RunFault>
     ensures { HasUnderstoodLine answer.now result }
 {
-    match told_answer(alloc, answer.status, answer.body()) {
-        Ok(Told::Line { good, text }) => Ok(Heard { good, text }),
-        Ok(Told::Nothing) => Err(RunFault::Store),
+    match content_of(alloc, answer.status, answer.body()) {
+        Ok(Content::Line { good, text }) => Ok(Heard { good, text }),
+        Ok(Content::Nothing) => Err(RunFault::Store),
         Err(_) => Err(RunFault::Memory),
     }
 }
@@ -80,7 +82,7 @@ fn tell_late<E: ByteOut>(
     text: &str,
 )
     ensures { HasToldWhy E.taken (is_late input.now text.now)
-        (reason_head number (AnyAsked.Input input.now)) errors.old errors.new }
+        (reason_head number (AnyRequest.Input input.now)) errors.old errors.new }
 {
     if !matches!(input, Input::Wire(_)) || text != LATE {
         return;
@@ -112,8 +114,8 @@ pub(crate) fn answer_input<S: Ask, W: ByteOut, E: ByteOut>(
     question: &Question<'_>,
 ) -> Result<bool, RunFault>
     ensures answered { HasAnsweredInput E.taken number input.now (request_of question.now)
-        (most_of question.now) (come (S.talk service.old) (W.taken output.old) errors.old)
-        (come (S.talk service.new) (W.taken output.new) errors.new) result }
+        (most_of question.now) (call (S.talk service.old) (W.taken output.old) errors.old)
+        (call (S.talk service.new) (W.taken output.new) errors.new) result }
     ensures unread { result ≡ Err RunFault.Read → ⊥ }
 {
     let heard = hear(alloc, service, question)?;
@@ -134,20 +136,20 @@ pub(crate) fn answer_asked<S: Ask, W: ByteOut, E: ByteOut>(
     output: &mut W,
     errors: &mut E,
     number: Option<u64>,
-    asked: &Asked<'_>,
+    asked: &Request<'_>,
     question: &Question<'_>,
 ) -> Result<bool, RunFault>
     ensures answered { HasAnswered E.taken number asked.now (request_of question.now)
-        (most_of question.now) (come (S.talk service.old) (W.taken output.old) errors.old)
-        (come (S.talk service.new) (W.taken output.new) errors.new) result }
+        (most_of question.now) (call (S.talk service.old) (W.taken output.old) errors.old)
+        (call (S.talk service.new) (W.taken output.new) errors.new) result }
     ensures unread { result ≡ Err RunFault.Read → ⊥ }
 {
     match asked {
-        Asked::Input(input) => {
+        Request::Input(input) => {
             answer_input(alloc, service, output, errors, number, input, question)
         }
-        Asked::Refused(refusal) => answer_refusal(alloc, output, errors, number, refusal),
-        Asked::BadLine(text) => answer_bad_line(alloc, output, errors, number, text),
-        Asked::Bad { verb, body } => answer_bad(alloc, output, errors, *verb, body),
+        Request::Refused(refusal) => answer_refusal(alloc, output, errors, number, refusal),
+        Request::BadLine(text) => answer_bad_line(alloc, output, errors, number, text),
+        Request::Bad { verb, body } => answer_bad(alloc, output, errors, *verb, body),
     }
 }

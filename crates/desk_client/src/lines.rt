@@ -3,7 +3,7 @@ ghost use Rattle.std.specs.Prelude.{◌≡◌, Err, IfOk, IfSome, None, string_b
 ghost use Rattle.desk_commands.specs.Verb.{word};
 ghost use Rattle.serde_json.specs.Data.{Data};
 ghost use Rattle.serde_json.specs.View.{view};
-ghost use Rattle.stock_list.specs.Come.{come};
+ghost use Rattle.cli_run.specs.Ends.{call};
 ghost use Rattle.cli_run.specs.ActLine.{IsWritten};
 ghost use Rattle.desk_client.specs.Posted.{posted_request, request_by, HasAnsweredLine, HasHeardValue, IsPosted};
 ghost use Rattle.desk_client.specs.Request.{command_request, most_answer, most_of, request_of};
@@ -11,12 +11,11 @@ ghost use Rattle.desk_client.specs.Request.{command_request, most_answer, most_o
 use crate::ask::Ask;
 use crate::line::answer_asked;
 use crate::question::Question;
-use cli_run::{frame, is_blank, line_asked, line_value, wired};
+use cli_run::{RunFault, frame, is_blank, line_asked, line_value, wired};
 use desk_commands::Verb;
 use serde_json::Value;
 use station_core::{ByteOut, Key};
 use std::alloc::{AllocError, Global};
-use stock_list::RunFault;
 
 /// The content of a line for the service: a body under the verb and the key of a command, or a
 /// telegram.
@@ -99,8 +98,8 @@ fn answer_value<S: Ask, W: ByteOut, E: ByteOut>(
     requires some { IfSome value.now (λ v. IsWritten line.now (view v)) }
     requires none { value.now ≡ None → (d : Data) → ¬ (IsWritten line.now d) }
     ensures answered { HasHeardValue E.taken number line.now
-        (come (S.talk service.old) (W.taken output.old) errors.old)
-        (come (S.talk service.new) (W.taken output.new) errors.new) result }
+        (call (S.talk service.old) (W.taken output.old) errors.old)
+        (call (S.talk service.new) (W.taken output.new) errors.new) result }
     ensures unread { result ≡ Err RunFault.Read → ⊥ }
 {
     let Ok(asked) = line_asked(alloc, value, line) else {
@@ -131,8 +130,8 @@ pub(crate) fn answer_line<S: Ask, W: ByteOut, E: ByteOut>(
     line: &[u8],
 ) -> Result<bool, RunFault>
     ensures answered { HasAnsweredLine E.taken number line.now
-        (come (S.talk service.old) (W.taken output.old) errors.old)
-        (come (S.talk service.new) (W.taken output.new) errors.new) result }
+        (call (S.talk service.old) (W.taken output.old) errors.old)
+        (call (S.talk service.new) (W.taken output.new) errors.new) result }
     ensures unread { result ≡ Err RunFault.Read → ⊥ }
 {
     if is_blank(line) {

@@ -10,10 +10,9 @@ use crate::ended::behind;
 use crate::line::service_fault;
 use crate::question::Question;
 use awb_number::Awb;
-use cli_run::{send_part, send_word};
+use cli_run::{RunFault, send_part, send_word};
 use station_core::ByteOut;
 use std::alloc::Global;
-use stock_list::RunFault;
 
 /// The answer of a desk for an unknown number.
 const UNKNOWN_BODY: &[u8] = b"{\"detail\":\"\",\"refused\":404}";

@@ -11,11 +11,10 @@ use crate::ended::ends_in;
 use crate::line::service_fault;
 use crate::printing::{PrintFault, print_report};
 use crate::whole::is_of_form;
-use cli_run::send_part;
+use cli_run::{RunFault, send_part};
 use reports::Form;
 use station_core::{ByteIn, ByteOut};
 use std::alloc::Global;
-use stock_list::RunFault;
 
 fn show_rows<W: ByteOut>(answer: &Response, form: Form, output: &mut W) -> Result<bool, RunFault>
     ensures { HasShownRows form answer.now (W.taken output.old) (W.taken output.new) result }

@@ -1,7 +1,7 @@
 //! The rows of a stock list.
 ghost use Rattle.std.specs.Prelude.{◌≡◌, Err};
 ghost use Rattle.csv.specs.Records.{fields_of};
-ghost use Rattle.stock_list.specs.Come.{come};
+ghost use Rattle.cli_run.specs.Ends.{call};
 ghost use Rattle.desk_client.specs.ListRows.{HasAnsweredOrder, HasAnsweredRow};
 
 use crate::ask::Ask;
@@ -9,11 +9,11 @@ use crate::line::answer_input;
 use crate::order::{order_body, verb_of};
 use crate::question::Question;
 use agent_stock::Order;
+use cli_run::{RowPlace, RunFault, answer_bad_row, read_row};
 use csv::ByteRecord;
 use desk_commands::Command;
 use station_core::{ByteOut, Input, Key};
 use std::alloc::Global;
-use stock_list::{RowPlace, RunFault, answer_bad_row, read_row};
 
 /// Sends an order to the service under its key, and writes the line of its answer.
 fn answer_order<S: Ask, W: ByteOut, E: ByteOut>(
@@ -26,8 +26,8 @@ fn answer_order<S: Ask, W: ByteOut, E: ByteOut>(
     order: Order,
 ) -> Result<bool, RunFault>
     ensures answered { HasAnsweredOrder E.taken number key order
-        (come (S.talk service.old) (W.taken output.old) errors.old)
-        (come (S.talk service.new) (W.taken output.new) errors.new) result }
+        (call (S.talk service.old) (W.taken output.old) errors.old)
+        (call (S.talk service.new) (W.taken output.new) errors.new) result }
     ensures unread { result ≡ Err RunFault.Read → ⊥ }
 {
     let Ok(body) = order_body(alloc, &order) else {
@@ -60,8 +60,8 @@ pub(crate) fn answer_row<S: Ask, W: ByteOut, E: ByteOut>(
     row: &ByteRecord,
 ) -> Result<bool, RunFault>
     ensures answered { HasAnsweredRow E.taken place.number (fields_of row.now)
-        (come (S.talk service.old) (W.taken output.old) errors.old)
-        (come (S.talk service.new) (W.taken output.new) errors.new) result }
+        (call (S.talk service.old) (W.taken output.old) errors.old)
+        (call (S.talk service.new) (W.taken output.new) errors.new) result }
     ensures unread { result ≡ Err RunFault.Read → ⊥ }
 {
     match read_row(row) {

@@ -1,18 +1,17 @@
 //! Running a command of the command line with a service.
-ghost use Rattle.stock_list.specs.Come.{come};
+ghost use Rattle.cli_run.specs.Ends.{call};
 ghost use Rattle.desk_client.specs.Done.{HasDone};
 
 use crate::answering::ByService;
 use crate::ask::Ask;
 use crate::looks::{ask_history, ask_number};
 use crate::question::Question;
-use cli_run::{Inputs, answer_acts, answer_input, answer_list, answer_takes};
+use cli_run::{Inputs, RunFault, answer_acts, answer_input, answer_list, answer_takes};
 use cli_words::LineCommand;
 use reports::{Listing, Report};
 use station_core::ByteOut;
 use std::alloc::Global;
 use std::io::Read;
-use stock_list::RunFault;
 
 /// Runs a command of the command line with a service, on the inputs of a reader, and writes what
 /// the command writes over a file. For `init`, `migrate`, `serve` and `read` it does nothing.
@@ -35,8 +34,8 @@ pub fn ask_command<S: Ask, I: Inputs + Read, W: ByteOut, E: ByteOut>(
     errors: &mut E,
 ) -> Result<bool, RunFault>
     ensures { HasDone command.now S.talk I.given I.turned E.taken (I.remaining reader.old)
-        (come service.old (W.taken output.old) errors.old, reader.old)
-        (come service.new (W.taken output.new) errors.new, reader.new) result }
+        (call service.old (W.taken output.old) errors.old, reader.old)
+        (call service.new (W.taken output.new) errors.new, reader.new) result }
 {
     let way = ByService;
     match command {

@@ -5,10 +5,9 @@ ghost use Rattle.desk_client.specs.Status.{fault_line, fault_text, fault_why, la
 
 use crate::ask::AskFault;
 use crate::connect::LastTry;
-use cli_run::{send_part, tell_line, tell_word};
+use cli_run::{RunFault, send_part, tell_line, tell_word};
 use itoa::Buffer;
 use station_core::ByteOut;
-use stock_list::RunFault;
 
 const REFUSED: &str =
     "connection refused; start the service on this port, or pass its port to --at";

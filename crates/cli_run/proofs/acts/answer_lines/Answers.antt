@@ -1,6 +1,6 @@
 use Rattle.std.proofs.Common.{arith, rules, ◌≡◌, ◌+◌, ◌<◌, ap, refl, sym, subst, ℕ, List, [], ◌∷◌, ◌++◌, length, Some, Ok, Err}
-use Rattle.stock_list.specs.Come.{come}
-use Rattle.stock_list.proofs.InTurn.{answered_more, length_more, passed_items}
+use Rattle.cli_run.specs.Ends.{call}
+use Rattle.cli_run.proofs.InTurn.{answered_more, length_more, passed_items}
 use Rattle.cli_run.specs.InTurn.{kept_lines}
 use Rattle.cli_run.proofs.Lines.{known_start, known_more, known_end, known_first, Read}
 use Rattle.cli_run.proofs.acts.answer_lines.Goals as goal
@@ -20,15 +20,15 @@ loop-number-preserved g c =
     let some : 0 < length line = search rules in
     let read : Read a b line = subst (Read a b) (sym c.as_slice.ensures.value) c.in-Ok.ensures.read in
     let Step = g.P.Answering.answered_line c.args.way.now in
-    let mid = come c.loop-number.desk (g.W.ByteOut.taken c.loop-number.writer) c.loop-number.errors in
-    let new = come c.answer_line.new.desk (g.W.ByteOut.taken c.answer_line.new.writer) c.answer_line.new.errors in
+    let mid = call c.loop-number.desk (g.W.ByteOut.taken c.loop-number.writer) c.loop-number.errors in
+    let new = call c.answer_line.new.desk (g.W.ByteOut.taken c.answer_line.new.writer) c.answer_line.new.errors in
     let step = subst (λ (k : ℕ). Step k line mid new (Ok c.in_ok-accepted.accepted)) inv.lines.1 c.in_ok-accepted.ensures.answered in
     record {
       lines = (
         lines ++ line ∷ [],
         omega (arith, inv.lines.1, length_more lines line),
         known_more (g.R.Read.remaining c.args.reader) a b lines line inv.lines.2 read some,
-        answered_more Step 1 lines line (come c.args.desk.now (g.W.ByteOut.taken c.args.writer.now) c.args.errors.now) mid new c.loop-number.good c.in_ok-accepted.accepted inv.lines.3 step,
+        answered_more Step 1 lines line (call c.args.desk.now (g.W.ByteOut.taken c.args.writer.now) c.args.errors.now) mid new c.loop-number.good c.in_ok-accepted.accepted inv.lines.3 step,
       );
     }
 
@@ -48,13 +48,13 @@ returns-in_err-accepted g c =
     let some : 0 < length line = search rules in
     let read : Read a b line = subst (Read a b) (sym c.as_slice.ensures.value) c.in-Ok.ensures.read in
     let Step = g.P.Answering.answered_line c.args.way.now in
-    let mid = come c.loop-number.desk (g.W.ByteOut.taken c.loop-number.writer) c.loop-number.errors in
-    let new = come c.answer_line.new.desk (g.W.ByteOut.taken c.answer_line.new.writer) c.answer_line.new.errors in
+    let mid = call c.loop-number.desk (g.W.ByteOut.taken c.loop-number.writer) c.loop-number.errors in
+    let new = call c.answer_line.new.desk (g.W.ByteOut.taken c.answer_line.new.writer) c.answer_line.new.errors in
     let e = c.in_err-accepted.field-0.0 in
     let number_is : c.loop-number.number ≡ length lines + 1 = omega (arith, inv.lines.1) in
     let step = subst (λ (k : ℕ). Step k line mid new (Err e)) number_is c.in_err-accepted.ensures.answered in
     let left = g.R.Read.remaining c.args.reader in
-    passed_items Step kept_lines left (come c.args.desk.now (g.W.ByteOut.taken c.args.writer.now) c.args.errors.now) new c.from_residual.result e c.from_residual.ensures.1 (
+    passed_items Step kept_lines left (call c.args.desk.now (g.W.ByteOut.taken c.args.writer.now) c.args.errors.now) new c.from_residual.result e c.from_residual.ensures.1 (
       lines,
       (
         Some line,

@@ -1,6 +1,6 @@
 use Rattle.std.proofs.Common.{◌≡◌, ◌+◌, List, ℕ, length, IfSome}
-use Rattle.stock_list.specs.Come.{come}
-use Rattle.stock_list.specs.InTurn.{AreAnswered}
+use Rattle.cli_run.specs.Ends.{call}
+use Rattle.cli_run.specs.InTurn.{AreAnswered}
 use Rattle.cli_run.proofs.Lines.{Known}
 use Rattle.cli_run.proofs.acts.answer_lines.Given as goal
 
@@ -11,5 +11,5 @@ invariant-loop-number g l =
       lines : (lines : List (List ℕ)) × (l.number ≡ 1 + length lines)
           × IfSome (g.R.Read.remaining l.fn.reader) (Known (g.R.Read.remaining l.reader) lines)
           × AreAnswered (g.P.Answering.answered_line l.fn.way) 1 lines
-          (come l.fn.desk (g.W.ByteOut.taken l.fn.writer) l.fn.errors) (come l.desk (g.W.ByteOut.taken l.writer) l.errors) l.good;
+          (call l.fn.desk (g.W.ByteOut.taken l.fn.writer) l.fn.errors) (call l.desk (g.W.ByteOut.taken l.writer) l.errors) l.good;
     }

@@ -2,26 +2,26 @@ use Rattle.std.proofs.Common.{refl, sym, subst, true, [], ◌∷◌, ◌++◌}
 use Rattle.std.specs.Prelude.{codes}
 use Rattle.input_reasons.specs.Reason.{is_unread}
 use Rattle.station_core.specs.Texts.{refusal_text}
-use Rattle.stock_list.specs.Come.{come}
-use Rattle.cli_run.specs.declared.asked.Asked.{Asked}
-use Rattle.cli_run.specs.declared.asked.Asked.TheVariants as asked
-use Rattle.cli_run.specs.Asked.{numbered}
+use Rattle.cli_run.specs.Ends.{call}
+use Rattle.cli_run.specs.declared.request.Request.{Request}
+use Rattle.cli_run.specs.declared.request.Request.TheVariants as asked
+use Rattle.cli_run.specs.Requests.{numbered}
 use Rattle.cli_run.specs.Answered.{HasAnswered}
 use Rattle.cli_run.proofs.Unanswered.{unasked}
 use Rattle.cli_run.proofs.answer.answer_asked.Goals as goal
 
 pub returns-in-Input : goal.returns-in-Input
 returns-in-Input g c =
-    let old = come c.args.keeper.now (g.O.ByteOut.taken c.args.writer.now) c.args.errors.now in
-    let new = come c.answer_input.new.keeper (g.O.ByteOut.taken c.answer_input.new.writer) c.answer_input.new.errors in
-    subst (λ (a : Asked). HasAnswered g.K.Keeper.keeping c.args.at g.E.ByteOut.taken c.args.number a old new c.answer_input.result) (sym c.in-Input.is) c.answer_input.ensures
+    let old = call c.args.keeper.now (g.O.ByteOut.taken c.args.writer.now) c.args.errors.now in
+    let new = call c.answer_input.new.keeper (g.O.ByteOut.taken c.answer_input.new.writer) c.answer_input.new.errors in
+    subst (λ (a : Request). HasAnswered g.K.Keeper.keeping c.args.at g.E.ByteOut.taken c.args.number a old new c.answer_input.result) (sym c.in-Input.is) c.answer_input.ensures
 
 pub returns-in-Refused : goal.returns-in-Refused
 returns-in-Refused g c =
     let k = g.K.Keeper.keeping in
     let old = g.O.ByteOut.taken c.args.writer.now in
     let new = g.O.ByteOut.taken c.answer_refusal.new.writer in
-    subst (λ (a : Asked). HasAnswered k c.args.at g.E.ByteOut.taken c.args.number a (come c.args.keeper.now old c.args.errors.now) (come c.args.keeper.now new c.answer_refusal.new.errors) c.answer_refusal.result) (sym c.in-Refused.is)
+    subst (λ (a : Request). HasAnswered k c.args.at g.E.ByteOut.taken c.args.number a (call c.args.keeper.now old c.args.errors.now) (call c.args.keeper.now new c.answer_refusal.new.errors) c.answer_refusal.result) (sym c.in-Refused.is)
     (unasked k c.args.at g.E.ByteOut.taken c.args.number c.args.keeper.now (old, c.args.errors.now) (new, c.answer_refusal.new.errors) (asked.Refused c.in-Refused.refusal) (numbered c.args.number (refusal_text c.in-Refused.refusal ++ 10 ∷ [])) (is_unread c.in-Refused.refusal)
     (λ s. refl) (λ s. refl) (λ s. refl) c.answer_refusal.result (λ shut. shut) (λ s. refl) c.answer_refusal.ensures)
 
@@ -30,7 +30,7 @@ returns-in-Bad g c =
     let k = g.K.Keeper.keeping in
     let old = g.O.ByteOut.taken c.args.writer.now in
     let new = g.O.ByteOut.taken c.answer_bad.new.writer in
-    subst (λ (a : Asked). HasAnswered k c.args.at g.E.ByteOut.taken c.args.number a (come c.args.keeper.now old c.args.errors.now) (come c.args.keeper.now new c.answer_bad.new.errors) c.answer_bad.result) (sym c.in-Bad.is)
+    subst (λ (a : Request). HasAnswered k c.args.at g.E.ByteOut.taken c.args.number a (call c.args.keeper.now old c.args.errors.now) (call c.args.keeper.now new c.answer_bad.new.errors) c.answer_bad.result) (sym c.in-Bad.is)
     (unasked k c.args.at g.E.ByteOut.taken c.args.number c.args.keeper.now (old, c.args.errors.now) (new, c.answer_bad.new.errors) (asked.Bad c.in-Bad.verb c.in-Bad.body) (codes "body bad\n") true
     (λ s. refl) (λ s. refl) (λ s. refl) c.answer_bad.result (λ shut. shut) (λ s. refl) c.answer_bad.ensures)
 
@@ -39,6 +39,6 @@ returns-in-BadLine g c =
     let k = g.K.Keeper.keeping in
     let old = g.O.ByteOut.taken c.args.writer.now in
     let new = g.O.ByteOut.taken c.answer_bad_line.new.writer in
-    subst (λ (a : Asked). HasAnswered k c.args.at g.E.ByteOut.taken c.args.number a (come c.args.keeper.now old c.args.errors.now) (come c.args.keeper.now new c.answer_bad_line.new.errors) c.answer_bad_line.result) (sym c.in-BadLine.is)
+    subst (λ (a : Request). HasAnswered k c.args.at g.E.ByteOut.taken c.args.number a (call c.args.keeper.now old c.args.errors.now) (call c.args.keeper.now new c.answer_bad_line.new.errors) c.answer_bad_line.result) (sym c.in-BadLine.is)
     (unasked k c.args.at g.E.ByteOut.taken c.args.number c.args.keeper.now (old, c.args.errors.now) (new, c.answer_bad_line.new.errors) (asked.BadLine c.in-BadLine.text) (numbered c.args.number (codes "bad\n")) true
     (λ s. refl) (λ s. refl) (λ s. refl) c.answer_bad_line.result (λ shut. shut) (λ s. refl) c.answer_bad_line.ensures)

@@ -1,8 +1,8 @@
 use Rattle.std.proofs.Common.{rules, refl, Err}
-use Rattle.stock_list.specs.declared.answer.RunFault.TheVariants as fault
-use Rattle.stock_list.specs.Come.{come}
-use Rattle.stock_list.specs.Ended.{kept_by}
-use Rattle.cli_run.specs.declared.asked.Asked.TheVariants as asked
+use Rattle.cli_run.specs.declared.fault.RunFault.TheVariants as fault
+use Rattle.cli_run.specs.Ends.{call}
+use Rattle.cli_run.specs.Faults.{kept_by}
+use Rattle.cli_run.specs.declared.request.Request.TheVariants as asked
 use Rattle.cli_run.proofs.Reasons.{explained_stop}
 use Rattle.cli_run.proofs.Unanswered.{not_acted, shut_after}
 use Rattle.cli_run.proofs.answer.answer_input.Goals as goal
@@ -16,15 +16,15 @@ returns-in-Err g c =
       breaks = λ works. shut_after c.in-Err.fault c.keeper_fault.result _ c.keeper_fault.ensures (c.in-Err.ensures.fault works) (c.in-Err.ensures.breaks works);
       answered = search rules;
       stopped = λ s keeps works sound.
-          not_acted c.args.number s c.args.input.now c.args.at c.in-Err.fault c.keeper_fault.result sent.bytes (kept_by k c.answer_one.new.keeper)
-          c.keeper_fault.ensures (c.in-Err.ensures.answers s keeps works sound) (c.in-Err.ensures.leaves s keeps works sound);
+          not_acted _ s _ c.args.input.now c.args.at c.in-Err.fault c.keeper_fault.result sent.bytes (kept_by k c.answer_one.new.keeper)
+          refl c.keeper_fault.ensures (c.in-Err.ensures.answers s keeps works sound) (c.in-Err.ensures.leaves s keeps works sound);
       unread = search rules;
       writing = search rules;
       unwritten = search rules;
       same = search rules;
       reopen = search rules;
       explained = explained_stop c.args.number k (asked.Input c.args.input.now) c.args.at g.E.ByteOut.taken
-          (come c.args.keeper.now sent c.args.errors.now) (come c.answer_one.new.keeper sent c.args.errors.now) _ c.keeper_fault.result refl refl;
+          (call c.args.keeper.now sent c.args.errors.now) (call c.answer_one.new.keeper sent c.args.errors.now) _ c.keeper_fault.result refl refl;
     }
 
 -- memory ran out for the line
@@ -43,5 +43,5 @@ returns-in_default g c =
       same = search rules;
       reopen = search rules;
       explained = explained_stop c.args.number k (asked.Input c.args.input.now) c.args.at g.E.ByteOut.taken
-          (come c.args.keeper.now sent c.args.errors.now) (come c.answer_one.new.keeper sent c.args.errors.now) (Err fault.Memory) fault.Memory refl refl;
+          (call c.args.keeper.now sent c.args.errors.now) (call c.answer_one.new.keeper sent c.args.errors.now) (Err fault.Memory) fault.Memory refl refl;
     }

@@ -1,5 +1,5 @@
 use Rattle.std.proofs.Common.{rules, inl, inr}
-use Rattle.stock_list.specs.Come.{come}
+use Rattle.cli_run.specs.Ends.{call}
 use Rattle.cli_run.proofs.Ran.{each_heard, not_received, passed_on}
 use Rattle.cli_run.proofs.input.answer_input.Goals as goal
 
@@ -19,7 +19,7 @@ returns-in-Ok g c = record {
 
 pub returns-in_err-bytes : goal.returns-in_err-bytes
 returns-in_err-bytes g c = record {
-  answered = inr (not_received (come c.args.desk.now (g.O.ByteOut.taken c.args.writer.now) c.args.errors.now) c.from_residual.result
+  answered = inr (not_received (call c.args.desk.now (g.O.ByteOut.taken c.args.writer.now) c.args.errors.now) c.from_residual.result
       c.in_err-bytes.field-0.0 c.from_residual.ensures.1 c.in_err-bytes.ensures.fault);
   read_cause = search rules;
   read_told = passed_on c.from_residual.result c.in_err-bytes.field-0.0 _ c.from_residual.ensures.1 c.in_err-bytes.ensures.told;

@@ -1,8 +1,8 @@
 use Rattle.std.proofs.Common.{◌∙◌, refl, sym, inr, true, None, []}
-use Rattle.stock_list.specs.Come.{come}
-use Rattle.stock_list.specs.Lines.{stock_rows}
-use Rattle.stock_list.proofs.InTurn.{none_first, told_items}
-use Rattle.stock_list.proofs.Told.{told_read, told_whole}
+use Rattle.cli_run.specs.Ends.{call}
+use Rattle.cli_run.specs.Rows.{stock_rows}
+use Rattle.cli_run.proofs.InTurn.{none_first, told_items}
+use Rattle.cli_run.proofs.ToldBy.{told_read, told_whole}
 use Rattle.cli_run.proofs.rows.answer_list.Goals as goal
 
 -- where memory ran out before the first row
@@ -12,8 +12,8 @@ returns-in_default-clause-answered g c = ([], (None, none_first stock_rows (g.R.
 pub returns-clause-answered : goal.returns-clause-answered
 returns-clause-answered g c =
     rw c.told_by.ensures (told_items (g.P.Answering.answered_row c.args.way.now) stock_rows (g.R.Read.remaining c.args.reader.now)
-    (come c.args.desk.now (g.W.ByteOut.taken c.args.writer.now) c.args.errors.now)
-    (come c.answer_rows-ended.new.desk (g.W.ByteOut.taken c.answer_rows-ended.new.writer) c.answer_rows-ended.new.errors) c.answer_rows-ended.result c.has_failed.result
+    (call c.args.desk.now (g.W.ByteOut.taken c.args.writer.now) c.args.errors.now)
+    (call c.answer_rows-ended.new.desk (g.W.ByteOut.taken c.answer_rows-ended.new.writer) c.answer_rows-ended.new.errors) c.answer_rows-ended.result c.has_failed.result
     (rw c.in-Ok.ensures at c.answer_rows-ended.ensures))
 
 pub returns-clause-read : goal.returns-clause-read

@@ -1,10 +1,10 @@
 use Rattle.std.proofs.Common.{rules, arith, ◌≡◌, ◌∙◌, ap, sym, refl, inl, inr, ℕ, ◌+◌, ◌<◌, ◌≤◌, List, [], ◌∷◌, ◌++◌, length, Some, None, Ok, Err, subst, Fits, w64}
 use Rattle.csv.specs.Records.{fields_of}
-use Rattle.stock_list.specs.Come.{come}
-use Rattle.stock_list.specs.Ended.{IsReadersFault}
-use Rattle.stock_list.specs.Lines.{Row, stock_rows}
-use Rattle.stock_list.proofs.InTurn.{answered_more, passed_items}
-use Rattle.stock_list.proofs.More.{known_start, known_more, known_end, known_first, counted_more, readers_fault}
+use Rattle.cli_run.specs.Ends.{call}
+use Rattle.cli_run.specs.Faults.{IsReadersFault}
+use Rattle.cli_run.specs.Rows.{Row, stock_rows}
+use Rattle.cli_run.proofs.InTurn.{answered_more, passed_items}
+use Rattle.cli_run.proofs.MoreRows.{known_start, known_more, known_end, known_first, counted_more, readers_fault}
 use Rattle.cli_run.proofs.rows.answer_rows.Goals as goal
 
 pub loop-row-init : goal.loop-row-init
@@ -43,8 +43,8 @@ loop-row-preserved g c =
     let goes = rw (c.in-Some.is) at c.next.ensures.goes.on tt in
     let fewer : c.next.new.self.left < c.loop-row.row-iterator.left = goes.2 in
     let Step = g.P.Answering.answered_row c.args.way.now in
-    let mid = come c.loop-row.desk (g.W.ByteOut.taken c.loop-row.writer) c.loop-row.errors in
-    let new = come c.answer_row.new.desk (g.W.ByteOut.taken c.answer_row.new.writer) c.answer_row.new.errors in
+    let mid = call c.loop-row.desk (g.W.ByteOut.taken c.loop-row.writer) c.loop-row.errors in
+    let new = call c.answer_row.new.desk (g.W.ByteOut.taken c.answer_row.new.writer) c.answer_row.new.errors in
     let number_is : c.loop-row.number + 1 ≡ 1 + length rows = omega (arith, inv.rows.1) in
     let answered = subst (λ (k : ℕ). Step k f mid new (Ok c.in_ok-accepted-in-Ok.accepted)) number_is c.in_ok-accepted-in-Ok.ensures.answered in
     record {
@@ -57,7 +57,7 @@ loop-row-preserved g c =
         rows ++ f ∷ [],
         counted_more c.loop-row.number rows f inv.rows.1,
         known_more g.R.Read.remaining c.loop-row.row-iterator.rdr c.next.new.self.rdr f rows (g.R.Read.remaining c.args.reader) inv.config step.0 inv.rows.2,
-        answered_more Step 1 rows f (come c.args.desk.now (g.W.ByteOut.taken c.args.writer.now) c.args.errors.now) mid new c.loop-row.good c.in_ok-accepted-in-Ok.accepted inv.rows.3 answered,
+        answered_more Step 1 rows f (call c.args.desk.now (g.W.ByteOut.taken c.args.writer.now) c.args.errors.now) mid new c.loop-row.good c.in_ok-accepted-in-Ok.accepted inv.rows.3 answered,
       );
     }
 
@@ -87,12 +87,12 @@ returns-in_err-accepted-in-Ok g c =
     let step = rw (c.in-Some.is, c.in-Ok.is) at ((c.next.ensures.steps inv.left inv.trim).0 inv.ready) in
     let known = known_more g.R.Read.remaining c.loop-row.row-iterator.rdr c.next.new.self.rdr f rows (g.R.Read.remaining c.args.reader) inv.config step.0 inv.rows.2 in
     let Step = g.P.Answering.answered_row c.args.way.now in
-    let mid = come c.loop-row.desk (g.W.ByteOut.taken c.loop-row.writer) c.loop-row.errors in
-    let new = come c.answer_row.new.desk (g.W.ByteOut.taken c.answer_row.new.writer) c.answer_row.new.errors in
+    let mid = call c.loop-row.desk (g.W.ByteOut.taken c.loop-row.writer) c.loop-row.errors in
+    let new = call c.answer_row.new.desk (g.W.ByteOut.taken c.answer_row.new.writer) c.answer_row.new.errors in
     let e = c.in_err-accepted-in-Ok.field-0.0 in
     let number_is : c.loop-row.number + 1 ≡ length rows + 1 = omega (arith, inv.rows.1) in
     let answered = subst (λ (k : ℕ). Step k f mid new (Err e)) number_is c.in_err-accepted-in-Ok.ensures.answered in
-    passed_items Step stock_rows (g.R.Read.remaining c.args.reader) (come c.args.desk.now (g.W.ByteOut.taken c.args.writer.now) c.args.errors.now) new
+    passed_items Step stock_rows (g.R.Read.remaining c.args.reader) (call c.args.desk.now (g.W.ByteOut.taken c.args.writer.now) c.args.errors.now) new
     c.from_residual.result e c.from_residual.ensures.1 (
       rows,
       (

@@ -1,10 +1,10 @@
 use Rattle.std.proofs.Common.{◌≡◌, List, ◌+◌, ◌<◌, ◌≤◌, length, IfSome}
 use Rattle.csv.specs.Reading.{Ready, default_config}
 use Rattle.csv.specs.declared.reader.Trim.TheVariants as trim
-use Rattle.stock_list.specs.Come.{come}
-use Rattle.stock_list.specs.InTurn.{AreAnswered}
-use Rattle.stock_list.specs.Lines.{Row}
-use Rattle.stock_list.proofs.More.{Known}
+use Rattle.cli_run.specs.Ends.{call}
+use Rattle.cli_run.specs.InTurn.{AreAnswered}
+use Rattle.cli_run.specs.Rows.{Row}
+use Rattle.cli_run.proofs.MoreRows.{Known}
 use Rattle.cli_run.proofs.rows.answer_rows.Given as goal
 
 -- the rows so far were answered, and take the text to what the reader has left
@@ -18,5 +18,5 @@ invariant-loop-row g l =
       counted : l.number + l.row-iterator.left ≤ 18446744073709551615;
       rows : (rows : List Row) × (l.number ≡ length rows) × IfSome (g.R.Read.remaining l.fn.reader) (Known g.R.Read.remaining l.row-iterator.rdr rows)
           × AreAnswered (g.P.Answering.answered_row l.fn.way) 1 rows
-          (come l.fn.desk (g.W.ByteOut.taken l.fn.writer) l.fn.errors) (come l.desk (g.W.ByteOut.taken l.writer) l.errors) l.good;
+          (call l.fn.desk (g.W.ByteOut.taken l.fn.writer) l.fn.errors) (call l.desk (g.W.ByteOut.taken l.writer) l.errors) l.good;
     }

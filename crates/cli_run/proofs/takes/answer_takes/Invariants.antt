@@ -1,5 +1,5 @@
 use Rattle.std.proofs.Common.{None}
-use Rattle.stock_list.specs.Come.{come}
+use Rattle.cli_run.specs.Ends.{call}
 use Rattle.cli_run.specs.InTurn.{AreMade}
 use Rattle.cli_run.specs.Takes.{HasTakenNext}
 use Rattle.cli_run.proofs.takes.answer_takes.Given as goal
@@ -9,5 +9,5 @@ abbrev pub invariant-loop-turn : goal.invariant-loop-turn
 invariant-loop-turn g l =
     record {
       made : AreMade (HasTakenNext (g.P.Answering.answered l.fn.way None) g.I.ByteIn.given g.I.Inputs.turned) l._turn
-          (come l.fn.desk (g.W.ByteOut.taken l.fn.writer) l.fn.errors, l.fn.reader) (come l.desk (g.W.ByteOut.taken l.writer) l.errors, l.reader) l.good;
+          (call l.fn.desk (g.W.ByteOut.taken l.fn.writer) l.fn.errors, l.fn.reader) (call l.desk (g.W.ByteOut.taken l.writer) l.errors, l.reader) l.good;
     }

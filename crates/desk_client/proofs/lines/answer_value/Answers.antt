@@ -1,5 +1,5 @@
 use Rattle.serde_json.specs.View.{view}
-use Rattle.stock_list.specs.Come.{come}
+use Rattle.cli_run.specs.Ends.{call}
 use Rattle.desk_client.specs.Posted.{posted_request}
 use Rattle.desk_client.specs.Request.{most_of, request_of}
 use Rattle.desk_client.proofs.Posts.{heard_line, posted_of}
@@ -9,8 +9,8 @@ pub returns-clause-answered : goal.returns-clause-answered
 returns-clause-answered g c =
     let request = posted_request c.in-Ok-line_posted.posted in
     heard_line g.E.ByteOut.taken c.args.number c.args.line.now
-    (come (g.S.Ask.talk c.args.service.now) (g.W.ByteOut.taken c.args.output.now) c.args.errors.now)
-    (come (g.S.Ask.talk c.answer_asked.new.service) (g.W.ByteOut.taken c.answer_asked.new.output) c.answer_asked.new.errors) c.answer_asked.result c.in-Ok.asked
+    (call (g.S.Ask.talk c.args.service.now) (g.W.ByteOut.taken c.args.output.now) c.args.errors.now)
+    (call (g.S.Ask.talk c.answer_asked.new.service) (g.W.ByteOut.taken c.answer_asked.new.output) c.answer_asked.new.errors) c.answer_asked.result c.in-Ok.asked
     request (request_of c.question_of-question.result) (most_of c.question_of-question.result) c.in-Ok.ensures
     (posted_of view c.args.value.now c.args.line.now request c.requires.some c.requires.none c.in-Ok-line_posted.ensures)
     c.question_of-question.ensures.request c.question_of-question.ensures.most c.answer_asked.ensures.answered

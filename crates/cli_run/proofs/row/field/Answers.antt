@@ -1,0 +1,7 @@
+use Rattle.std.proofs.Common.{sym}
+use Rattle.cli_run.proofs.RowFields.{there}
+use Rattle.csv.specs.Records.{fields_of}
+use Rattle.cli_run.proofs.row.field.Goals as goal
+
+pub unreachable-requires : goal.unreachable-requires
+unreachable-requires c = there (fields_of c.args.row.now) c.args.place c.requires (sym c.in-None.ensures.value)

@@ -1,9 +1,0 @@
-pub mod Row
-pub mod Come
-pub mod Lines
-pub mod Ended
-pub mod InTurn
-pub mod Shut
-pub mod Law
-pub mod Reasons
-pub mod Answered
