@@ -1,7 +1,8 @@
 -- Where a question ends without an answer.
-use Rattle.std.proofs.Common.{◌≡◌, refl, sym, subst, ℕ, ◌≤◌, Bool, true, false, List, ◌++◌, drop, length, Option, Result, Ok, Err}
+use Rattle.std.proofs.Common.{◌≡◌, ◌∙◌, refl, sym, subst, inr, ℕ, ◌≤◌, Bool, true, false, List, ◌++◌, drop, length, Option, Result, Ok, Err}
 use Rattle.station_core.specs.Given.{Given}
 use Rattle.reports.specs.declared.form.Form.{Form}
+use Rattle.desk_client.specs.Again.{Talk, HasTriedThrice, IsAskedUntil}
 use Rattle.desk_client.specs.Try.{by_time, HasAsked, HasRead, HasSent, HasTaken, HasUnderstood}
 use Rattle.cli_run.specs.Came.{HasCome}
 use Rattle.desk_client.specs.Request.{most_row_bytes}
@@ -17,37 +18,19 @@ pub request_sent : (until : Until) (request : List ℕ) (sent_old sent_new read_
     → sent_new.bytes ≡ sent_old.bytes ++ request → HasRead until read_old read_new r → HasAsked until request sent_old sent_new read_old read_new r
 request_sent until request sent_old sent_new read_old read_new (Ok a) sent read = (sent, read)
 request_sent until request sent_old sent_new read_old read_new (Err fault.Write) sent read = absurd read
-request_sent until request sent_old sent_new read_old read_new (Err fault.Read) sent read = (sent, read)
-request_sent until request sent_old sent_new read_old read_new (Err fault.Memory) sent read = (sent, read)
-request_sent until request sent_old sent_new read_old read_new (Err fault.Cut) sent read = (sent, read)
-request_sent until request sent_old sent_new read_old read_new (Err fault.Refused) sent read = (sent, read)
-request_sent until request sent_old sent_new read_old read_new (Err fault.Foreign) sent read = (sent, read)
-request_sent until request sent_old sent_new read_old read_new (Err fault.Long) sent read = (sent, read)
-request_sent until request sent_old sent_new read_old read_new (Err fault.Late) sent read = (sent, read)
+request_sent until request sent_old sent_new read_old read_new (Err _) sent read = (sent, read)
 
 -- the request didn't go out whole, and nothing was read
 pub not_sent : (until : Until) (request : List ℕ) (sent_old sent_new read_old : Given) (e : AskFault)
     → HasSent request sent_old sent_new (Err e) → HasAsked until request sent_old sent_new read_old read_old (Err e)
 not_sent until request sent_old sent_new read_old fault.Write sent = (sent.0, sent.1, refl)
-not_sent until request sent_old sent_new read_old fault.Read sent = absurd sent
-not_sent until request sent_old sent_new read_old fault.Memory sent = absurd sent
-not_sent until request sent_old sent_new read_old fault.Cut sent = absurd sent
-not_sent until request sent_old sent_new read_old fault.Refused sent = absurd sent
-not_sent until request sent_old sent_new read_old fault.Foreign sent = absurd sent
-not_sent until request sent_old sent_new read_old fault.Long sent = absurd sent
-not_sent until request sent_old sent_new read_old fault.Late sent = absurd sent
+not_sent until request sent_old sent_new read_old _ sent = absurd sent
 
 -- a reader whose time ran out has failed
 pub timed : (until : Until) (request : List ℕ) (sent_old sent_new read_old read_new : Given) (late : Bool) (e : AskFault)
     → HasAsked until request sent_old sent_new read_old read_new (Err e) → HasAsked until request sent_old sent_new read_old read_new (Err (by_time late e))
 timed until request sent_old sent_new read_old read_new true fault.Read asked = asked
-timed until request sent_old sent_new read_old read_new true fault.Refused asked = asked
-timed until request sent_old sent_new read_old read_new true fault.Write asked = asked
-timed until request sent_old sent_new read_old read_new true fault.Late asked = asked
-timed until request sent_old sent_new read_old read_new true fault.Memory asked = asked
-timed until request sent_old sent_new read_old read_new true fault.Cut asked = asked
-timed until request sent_old sent_new read_old read_new true fault.Long asked = asked
-timed until request sent_old sent_new read_old read_new true fault.Foreign asked = asked
+timed until request sent_old sent_new read_old read_new true _ asked = asked
 timed until request sent_old sent_new read_old read_new false e asked = asked
 
 -- an answer to a question for rows that came whole
@@ -63,8 +46,11 @@ rows_read f old new came (Ok a) come (few, is, within, whole, none) =
 rows_read f old new came (Err fault.Cut) come is = (came, come, is)
 rows_read f old new came (Err fault.Foreign) come is = (came, come, is)
 rows_read f old new came (Err fault.Long) come is = (came, come, is)
-rows_read f old new came (Err fault.Read) come is = absurd is
-rows_read f old new came (Err fault.Late) come is = absurd is
-rows_read f old new came (Err fault.Write) come is = absurd is
-rows_read f old new came (Err fault.Memory) come is = absurd is
-rows_read f old new came (Err fault.Refused) come is = absurd is
+rows_read f old new came (Err _) come is = absurd is
+
+-- the tries of a request are those of its question
+pub asked : (until u : Until) (request bytes items : List ℕ) (old new : Talk) (result : Result Response AskFault) → u ≡ until → bytes ≡ items → items ≡ request
+    → HasTriedThrice u bytes old new result → IsAskedUntil until request old new result
+asked until u request bytes items old new result until_is bytes_are items_are tried =
+    let same : HasTriedThrice u request old new result = subst (λ (b : List ℕ). HasTriedThrice u b old new result) (bytes_are ∙ items_are) tried in
+    inr (subst (λ (v : Until). HasTriedThrice v request old new result) until_is same)

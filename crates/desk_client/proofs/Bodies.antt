@@ -1,5 +1,5 @@
 -- What a body is, by what its head tells of its length.
-use Rattle.std.proofs.Common.{arith, ◌≡◌, ◌∙◌, ap, sym, subst, ℕ, ◌+◌, ◌<◌, ◌||◌, true, false, Some, None, Option, List, [], ◌∷◌, ◌++◌, length, length-append, codes}
+use Rattle.std.proofs.Common.{arith, ◌≡◌, ◌∙◌, ap, sym, subst, ℕ, ◌<◌, ◌||◌, true, false, Some, None, Option, List, [], ◌∷◌, ◌++◌, length, length-append, codes}
 use Rattle.http_desk.specs.Digits.{number_told}
 use Rattle.http_desk.specs.Request.{values_of}
 use Rattle.reports.specs.declared.form.Form.TheVariants as form
@@ -13,11 +13,8 @@ parts fields = values_of (codes "transfer-encoding") fields
 abbrev lengths : List (List ℕ × List ℕ) → List (List ℕ)
 lengths fields = values_of (codes "content-length") fields
 
-some_is : (x y : ℕ) → ◌≡◌ {A = Option ℕ} (Some x) (Some y) → x ≡ y
+pub some_is : (x y : ℕ) → ◌≡◌ {A = Option ℕ} (Some x) (Some y) → x ≡ y
 some_is x y e = cc e
-
-too_long : (a b c n : ℕ) → n < a → b ≡ a + c → n ≡ b → ⊥
-too_long a b c n less sum is = omega (arith, less, sum, is)
 
 -- by one length
 pub as_told : (value body : List ℕ) (told len : ℕ) → number_told value ≡ Some told → len ≡ length body → told ≡ len → IsExtent (value ∷ []) body extent.Whole
@@ -28,7 +25,7 @@ less_than_told value body told len is len_is less = (told, is, subst (λ (n : �
 
 pub more_than_told : (value body : List ℕ) (told len : ℕ) → number_told value ≡ Some told → len ≡ length body → told < len → IsExtent (value ∷ []) body extent.Never
 more_than_told value body told len is len_is less more long =
-    too_long (length body) (length (body ++ more)) (length more) told (subst (λ (n : ℕ). told < n) len_is less) (length-append body more) (some_is told (length (body ++ more)) (sym is ∙ long))
+    omega (arith, less, len_is, length-append body more, some_is told (length (body ++ more)) (sym is ∙ long))
 
 pub untold : (value body : List ℕ) → number_told value ≡ None → IsExtent (value ∷ []) body extent.Never
 untold value body is more long = let no : None ≡ Some (length (body ++ more)) = sym is ∙ long in cc no

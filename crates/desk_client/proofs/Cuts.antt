@@ -1,6 +1,7 @@
 -- A whole answer is one, and no beginning of another.
-use Rattle.std.proofs.Common.{arith, ◌≡◌, ◌∙◌, ap, sym, subst, inl, inr, ℕ, ◌+◌, ◌||◌, Bool, true, false, refl, Some, Option, List, [], ◌∷◌, ◌++◌, length, map, codes, length-append}
+use Rattle.std.proofs.Common.{arith, ◌≡◌, ◌∙◌, ap, sym, subst, inl, inr, ℕ, ◌||◌, true, false, List, [], ◌∷◌, ◌++◌, length, map, codes, length-append}
 use Rattle.std.specs.Prelude.{◌⊎◌}
+use Rattle.std.proofs.Math.Bool.{or-true}
 use Rattle.std.proofs.lemmas.List.{nil_from_length}
 use Rattle.httparse.specs.Grammar.{ResponseHead, status_code}
 use Rattle.httparse.specs.Spans.{name_and_value}
@@ -10,21 +11,16 @@ use Rattle.reports.specs.declared.form.Form.{Form}
 use Rattle.reports.specs.declared.form.Form.TheVariants as form
 use Rattle.desk_client.specs.Ended.{has_end}
 use Rattle.desk_client.specs.Whole.{has_media, IsAsLong, IsCutShort, IsReport, IsTooShort, IsWhole}
+use Rattle.desk_client.proofs.Bodies.{some_is}
 
 abbrev lengths_of : ResponseHead → List (List ℕ)
 lengths_of h = values_of (codes "content-length") (map name_and_value h.fields)
-
-some_is : (x y : ℕ) → ◌≡◌ {A = Option ℕ} (Some x) (Some y) → x ≡ y
-some_is x y e = cc e
-
-none_more : (b m : ℕ) → b ≡ b + m → m ≡ 0
-none_more b m e = omega (arith, e)
 
 by_lengths : (lengths : List (List ℕ)) (body more : List ℕ) → IsAsLong lengths body → IsAsLong lengths (body ++ more) → (more ≡ []) ⊎ (has_end body ≡ true)
 by_lengths [] body more short long = inr short
 by_lengths (value ∷ []) body more short long =
     let same : length body ≡ length (body ++ more) = some_is (length body) (length (body ++ more)) (sym short ∙ long) in
-    inl (nil_from_length more (none_more (length body) (length more) (same ∙ length-append body more)))
+    inl (nil_from_length more (omega (arith, same, length-append body more)))
 by_lengths (value ∷ other ∷ values) body more short long = absurd short
 
 pub one : (bytes : List ℕ) (s t : ℕ) (b c : List ℕ) → IsWhole bytes s b → IsWhole bytes t c → (s ≡ t) × (b ≡ c)
@@ -38,13 +34,9 @@ cut front more s t b c x y =
     let long : IsAsLong (lengths_of y.head) (b ++ more) = subst (λ l. IsAsLong (lengths_of y.head) l) (sym same.1) y.whole.long in
     by_lengths (lengths_of x.head) b more x.whole.long (subst (λ h. IsAsLong (lengths_of h) (b ++ more)) (sym same.0) long)
 
-or_true : (b : Bool) → b || true ≡ true
-or_true true = refl
-or_true false = refl
-
 rows_of : (f : Form) (fields : List (List ℕ × List ℕ)) → has_media f fields ≡ true → has_media form.Text fields || has_media form.Json fields ≡ true
 rows_of form.Text fields is = ap (λ b. b || has_media form.Json fields) is
-rows_of form.Json fields is = ap (λ b. has_media form.Text fields || b) is ∙ or_true (has_media form.Text fields)
+rows_of form.Json fields is = ap (λ b. has_media form.Text fields || b) is ∙ or-true (has_media form.Text fields)
 
 -- a report whose rest has come
 pub report_whole : (f : Form) (bytes body more : List ℕ) → IsReport f bytes body → has_end (body ++ more) ≡ true → IsWhole (bytes ++ more) 200 (body ++ more)

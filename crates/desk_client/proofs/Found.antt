@@ -1,51 +1,28 @@
 -- What bytes are of a whole answer.
-use Rattle.std.proofs.Common.{arith, ◌≡◌, ◌∙◌, ap, sym, subst, inl, inr, ℕ, ◌<◌, ◌≤◌, true, false, Some, Option, List, [], ◌∷◌, ◌++◌, drop, take, length, map, length-take, length-drop, ◌-◌}
+use Rattle.std.proofs.Common.{arith, ◌≡◌, ◌∙◌, ap, sym, subst, inr, ℕ, ◌≤◌, true, false, List, [], ◌∷◌, ◌++◌, drop, take, length, map, length-take, length-drop, ◌-◌}
 use Rattle.std.proofs.lemmas.List.{length-map}
 use Rattle.std.proofs.Math.Seq.{take-length}
-use Rattle.httparse.specs.Grammar.{Field, ResponseHead, ReadsResponse, HasNoResponse, MayBecomeResponse, status_code}
-use Rattle.httparse.specs.Spans.{header_bytes, name_and_value, IsResponseOf, ResponseOverflows}
+use Rattle.httparse.specs.Grammar.{Field, ResponseHead, ReadsResponse}
+use Rattle.httparse.specs.Spans.{header_bytes, name_and_value, IsResponseOf}
 use Rattle.httparse.specs.declared.spans.HeaderSpan.{HeaderSpan}
 use Rattle.httparse.specs.declared.spans.ResponseSpans.{ResponseSpans}
 use Rattle.httparse.proofs.GrammarLemmas.{response_prefix_free, response_unique}
-use Rattle.desk_client.specs.Whole.{most_fields, IsWholeBody, IsWhole, IsShortBody, IsTooShort, IsAsLong, IsExtentOf, IsFound}
+use Rattle.desk_client.specs.Whole.{most_fields, IsWholeBody, IsShortBody, IsTooShort, IsAsLong, IsExtentOf, IsFound}
 use Rattle.desk_client.specs.declared.whole.Extent.TheVariants as extent
 use Rattle.desk_client.specs.declared.whole.Found.TheVariants as found
+use Rattle.desk_client.proofs.Bodies.{some_is}
 
 abbrev Fields : Type 0
 Fields = List (List ℕ × List ℕ)
 
-some_is : (x y : ℕ) → ◌≡◌ {A = Option ℕ} (Some x) (Some y) → x ≡ y
-some_is x y e = cc e
-
-not_less : (n m : ℕ) → n < m → m ≡ n → ⊥
-not_less n m less is = omega (arith, less, is)
-
-over : (n : ℕ) → n ≤ most_fields → most_fields < n → ⊥
-over n few more = omega (arith, few, more)
-
 short_isnt_whole : (lengths : List (List ℕ)) (body : List ℕ) → IsTooShort lengths body → IsAsLong lengths body → ⊥
 short_isnt_whole [] body short long = let wrong : false ≡ true = sym short ∙ long in cc wrong
-short_isnt_whole (value ∷ []) body (n, told, less) long = not_less (length body) n less (some_is n (length body) (sym told ∙ long))
+short_isnt_whole (value ∷ []) body (n, told, less) long = omega (arith, less, some_is n (length body) (sym told ∙ long))
 short_isnt_whole (value ∷ other ∷ values) body short long = short
 
 -- the fields that were found are as few as there was room for
 pub few_fields : (told : Fields) (fields : List Field) → told ≡ map name_and_value fields → length told ≤ most_fields → length fields ≤ most_fields
 few_fields told fields is few = subst (λ (n : ℕ). n ≤ most_fields) (ap length is ∙ length-map fields name_and_value) few
-
--- a whole answer
-pub whole : (bytes body : List ℕ) (told : Fields) (h : ResponseHead) (status : ℕ) → ReadsResponse bytes h body → told ≡ map name_and_value h.fields → length told ≤ most_fields
-    → status ≡ status_code h → IsWholeBody told body → IsWhole bytes status body
-whole bytes body told h status reads is few status_is all = record {
-  head = h;
-  reads = reads;
-  few = few_fields told h.fields is few;
-  status_is = status_is;
-  whole = subst (λ (fs : Fields). IsWholeBody fs body) is all;
-}
-
--- one that ends within its head
-pub cut_head : (bytes : List ℕ) → HasNoResponse bytes → MayBecomeResponse bytes → IsFound bytes found.Cut
-cut_head bytes none may = (λ status body whole. none whole.head body whole.reads, inl (none, may))
 
 -- one that ends within its body
 pub cut_body : (bytes body : List ℕ) (told : Fields) (h : ResponseHead) → ReadsResponse bytes h body → told ≡ map name_and_value h.fields → length told ≤ most_fields
@@ -69,10 +46,6 @@ never_body bytes body told h reads is never more status other whole =
     subst (λ (fs : Fields). IsWholeBody fs (body ++ more)) (sym is) (subst (λ (b : List ℕ). IsWholeBody (map name_and_value h.fields) b) (sym same.1) (subst (λ (k : ResponseHead). IsWholeBody (map name_and_value k.fields) other) (sym same.0) whole.whole)) in
     never more all
 
--- no answer, by its head
-pub never_head : (bytes : List ℕ) → ResponseOverflows most_fields bytes → IsFound bytes found.Foreign
-never_head bytes overflows more status body whole = over (length whole.head.fields) whole.few (overflows more whole.head body whole.reads)
-
 -- the same by what the parser answered
 
 abbrev told_by : List ℕ → List HeaderSpan → ResponseSpans → Fields
@@ -88,12 +61,6 @@ behind bytes spans = take (length bytes - spans.len) (drop spans.len bytes)
 
 pub behind_is : (bytes : List ℕ) (spans : ResponseSpans) → behind bytes spans ≡ drop spans.len bytes
 behind_is bytes spans = ap (λ (n : ℕ). take n (drop spans.len bytes)) (sym (length-drop spans.len bytes)) ∙ take-length (drop spans.len bytes)
-
-pub parsed_whole : (bytes : List ℕ) (headers : List HeaderSpan) (spans : ResponseSpans) → IsResponseOf bytes headers spans → length headers ≤ most_fields
-    → IsWholeBody (told_by bytes headers spans) (behind bytes spans) → IsWhole bytes spans.code (drop spans.len bytes)
-parsed_whole bytes headers spans (h, at) room all =
-    whole bytes (drop spans.len bytes) (told_by bytes headers spans) h spans.code at.reads at.fields (few_told bytes headers spans room) at.code
-    (subst (λ (b : List ℕ). IsWholeBody (told_by bytes headers spans) b) (behind_is bytes spans) all)
 
 pub parsed_short : (bytes : List ℕ) (headers : List HeaderSpan) (spans : ResponseSpans) → IsResponseOf bytes headers spans → length headers ≤ most_fields
     → IsShortBody (told_by bytes headers spans) (behind bytes spans) → IsFound bytes found.Cut

@@ -15,4 +15,3 @@ pub mod RowsPrinted
 pub mod RowsAsked
 pub mod Tails
 pub mod Telling
-pub mod Trying

@@ -33,17 +33,10 @@ pub serial_digits : (number text : List ℕ) (k : ℕ) → number ≡ number_tex
 serial_digits number text k is cut = cut ∙ ap (λ (l : List ℕ). take 7 (drop 4 l)) is
 
 pub run_same : (n m : ℕ) (p q s t : List ℕ) → n ≡ m → p ≡ q → s ≡ t → run_object n p s ≡ run_object m q t
-run_same n m p q s t count prefix serial =
-    ap (λ (x : ℕ). run_object x p s) count
-    ∙ ap (λ (x : List ℕ). run_object m x s) prefix
-    ∙ ap (λ (x : List ℕ). run_object m q x) serial
+run_same n m p q s t count prefix serial = λ i. run_object (count i) (prefix i) (serial i)
 
 pub agents_same : (a b : List ℕ) (n m : ℕ) (p q s t : List ℕ) → a ≡ b → n ≡ m → p ≡ q → s ≡ t → agents_object a n p s ≡ agents_object b m q t
-agents_same a b n m p q s t agent count prefix serial =
-    ap (λ (x : List ℕ). agents_object x n p s) agent
-    ∙ ap (λ (x : ℕ). agents_object b x p s) count
-    ∙ ap (λ (x : List ℕ). agents_object b m x s) prefix
-    ∙ ap (λ (x : List ℕ). agents_object b m q x) serial
+agents_same a b n m p q s t agent count prefix serial = λ i. agents_object (agent i) (count i) (prefix i) (serial i)
 
 -- the body says the order
 pub says : (order : Order) → IsOrder order → IsBodyOf (order_verb order) (order_data order) (Stock order)

@@ -28,7 +28,7 @@ use Rattle.http_desk.proofs.Segments.{all_weaker}
 use Rattle.http_desk.specs.Routes.{Got, gets, Posted, posts, posted_command, posted_telegram, place_of}
 use Rattle.http_desk.specs.Request.{Head, HeadAsks, looks_up, sends, sends_body, place_asks, head_asks, key_of, length_in, within_length}
 use Rattle.http_desk.specs.Digits.{is_number}
-use Rattle.http_desk.specs.Answer.{head_of, HasHead}
+use Rattle.http_desk.specs.Answer.{HasHead}
 use Rattle.desk_client.specs.Request.{command_lines, key_line, command_head, telegram_head, get_request}
 use Rattle.desk_client.specs.Read.{IsRead}
 

@@ -4,7 +4,7 @@ use Rattle.station_core.specs.Given.{Given}
 use Rattle.cli_run.specs.declared.fault.RunFault.{RunFault}
 use Rattle.cli_run.specs.declared.fault.RunFault.TheVariants as run
 use Rattle.reports.specs.declared.form.Form.{Form}
-use Rattle.desk_client.specs.Again.{Talk, HasTried, HasTriedThrice, HasTriedTwice, IsRefused, HasTalked}
+use Rattle.desk_client.specs.Again.{Talk, HasTried, HasTriedThrice, IsRefused, HasTalked}
 use Rattle.desk_client.specs.Try.{HasTaken}
 use Rattle.desk_client.specs.Heard.{service_fault}
 use Rattle.desk_client.specs.Looks.{rows_request, shown, HasAskedRows, HasShownTaken, IsTakenRows}
@@ -12,7 +12,7 @@ use Rattle.desk_client.specs.declared.ask.Response.{Response}
 use Rattle.desk_client.specs.declared.ask.AskFault.{AskFault}
 use Rattle.desk_client.specs.declared.ask.AskFault.TheVariants as fault
 use Rattle.desk_client.specs.declared.ask.Until.TheVariants as until
-use Rattle.desk_client.proofs.Trying.{asked}
+use Rattle.desk_client.proofs.Asking.{asked}
 
 of_taken : (f : Form) (old new : Given) (a : Response) (begun : Option ℕ) → HasTaken (until.Rows f) old new a begun → IsTakenRows f a begun
 of_taken f old new a None taken = tt
@@ -26,14 +26,11 @@ of_try f request old new a tried =
     ⊎_elim (refused_none f old new a)
     (λ (talked : HasTalked (until.Rows f) request old new (Ok a)). of_taken f old.come new.come a a.begun talked.asked.1) tried.0
 
-of_two : (f : Form) (request : List ℕ) (old new : Talk) (a : Response) → HasTriedTwice (until.Rows f) request old new (Ok a) → IsTakenRows f a a.begun
-of_two f request old new a (inl (once, settled)) = of_try f request old new a once
-of_two f request old new a (inr (mid, (e, vain, once, more))) = of_try f request mid new a more
-
 -- an answer to a question for rows is whole, or a report that was begun
 pub taken_rows : (f : Form) (request : List ℕ) (old new : Talk) (a : Response) → HasTriedThrice (until.Rows f) request old new (Ok a) → IsTakenRows f a a.begun
 taken_rows f request old new a (inl (once, settled)) = of_try f request old new a once
-taken_rows f request old new a (inr (mid, (e, vain, once, more))) = of_two f request mid new a more
+taken_rows f request old new a (inr (mid, (e, vain, once, inl (again, settled)))) = of_try f request mid new a again
+taken_rows f request old new a (inr (mid, (e, vain, once, inr (next, (why, vainly, again, last))))) = of_try f request next new a last
 
 -- it came, and was printed so
 pub rows_shown : (f : Form) (path bytes items : List ℕ) (old mid new : Talk) (a : Response) (before after : Given) (result : Result Bool RunFault) → bytes ≡ items

@@ -18,13 +18,7 @@ use Rattle.desk_client.specs.declared.printing.PrintFault.TheVariants as print
 timed : (f : Form) (body : List ℕ) (read_old read_new old new : Given) (late : Bool) (e : AskFault) → HasPrintedBody f body read_old read_new old new (Err (print.Rest e))
     → HasPrintedBody f body read_old read_new old new (Err (print.Rest (by_time late e)))
 timed f body read_old read_new old new true fault.Read is = is
-timed f body read_old read_new old new true fault.Refused is = is
-timed f body read_old read_new old new true fault.Write is = is
-timed f body read_old read_new old new true fault.Late is = is
-timed f body read_old read_new old new true fault.Memory is = is
-timed f body read_old read_new old new true fault.Cut is = is
-timed f body read_old read_new old new true fault.Long is = is
-timed f body read_old read_new old new true fault.Foreign is = is
+timed f body read_old read_new old new true _ is = is
 timed f body read_old read_new old new false e is = is
 
 pub printed : (f : Form) (a : Response) (body : List ℕ) (talk_old talk_new : Talk) (old new : Given) (r : Result (Unit {0}) PrintFault) (result : Result Bool RunFault)
