@@ -28,14 +28,16 @@ module _ {D : Type 0} {g : Ghosts D} (stays : (it : FileStore D g) → IsTrue (v
       let copied = (ended.copied honest).0 in
       record {
         clean = copied.was_clean;
-        next = λ known files may other finds. ∥∥₁_map (copied.left _ may).both (λ held. subst (recovers conn.store) (sym (finds.holds _ held)) (stays conn.store copied.was_open));
+        live = λ files other finds. finds.1;
+        next = λ known files may other finds. ∥∥₁_map (copied.left _ may).both (λ held. subst (recovers conn.store) (sym (finds.0.holds _ held)) (stays conn.store copied.was_open));
       }
   whole_leads_on (Err it) ended honest numbered =
       let left = ended.left in
       record {
         clean = omega (arith, left.quiet.clean, honest);
+        live = λ files other finds. finds.1;
         next = λ known files may other finds.
-            ∥∥₁_map (next_run it numbered (left.sound honest) _ may (file_state other) (record { holds = finds.holds; reads = finds.reads })) (λ found. left.quiet.outcomes _ found);
+            ∥∥₁_map (next_run it numbered (left.sound honest) _ may (file_state other) (record { holds = finds.0.holds; reads = finds.0.reads })) (λ found. left.quiet.outcomes _ found);
       }
 
 -- files of which only the trees of a list are shown
@@ -49,13 +51,13 @@ module _ {D S : Type 0} (g : Ghosts D) (shown : trees.Ghosts S) (stays : (it : S
 
   -- what an opening found is what the list names
   listed_by : (files : Files D) (was : Held S) → (own_files g shown).finds objects files was → IsListedBy objects_taken (state shown was).committed.trees
-  listed_by files was finds = ap (λ (t : Trees). t catalog_tree) finds.reads ∙ catalog_rows finds.size (map wanted_of objects_taken) _
+  listed_by files was finds = ap (λ (t : Trees). t catalog_tree) finds.0.reads ∙ catalog_rows finds.0.size (map wanted_of objects_taken) _
 
   found_again : LeavesKnown shown (own_files g shown) objects conn → (files : Files D) (other : Held S) → (own_files g shown).finds objects files other
       → (db : Trees) → HoldsOwn (image_of g files) db → (state shown conn).may_leave db → (state shown conn).may_leave (state shown other).committed.trees
   found_again known files other finds db held may = subst (state shown conn).may_leave (sym (elim (known db may) [
-    | inl own ↦ finds.holds_station (subst ListsStation all_taken lists) db held own
-    | inr found ↦ finds.holds_own db held (subst (IsListedBy objects_taken) (sym found.3) (listed_by found.0 found.1 found.2))
+    | inl own ↦ finds.0.holds_station (subst ListsStation all_taken lists) db held own
+    | inr found ↦ finds.0.holds_own db held (subst (IsListedBy objects_taken) (sym found.3) (listed_by found.0 found.1 found.2))
   ])) may
 
   pub own_leads_on : (end : Result (Files D) (FileStore D g)) → HasEnded (own_files g shown) conn end → (own_files g shown).was_true end → LeadsOn shown (own_files g shown) objects conn end
@@ -63,12 +65,14 @@ module _ {D S : Type 0} (g : Ghosts D) (shown : trees.Ghosts S) (stays : (it : S
       let copied = ended.copied honest in
       record {
         clean = copied.was_clean;
+        live = λ files other finds. finds.1;
         next = λ known files may other finds. ∥∥₁_map (copied.left _ may).both (λ held. found_again known files other finds _ held (stays conn.store copied.was_open));
       }
   own_leads_on (Err it) ended honest =
       let left = ended.left in
       record {
         clean = left.clean honest;
+        live = λ files other finds. finds.1;
         next = λ known files may other finds. ∥∥₁_map (leaves_own {g = g} it left.numbers left.few left.low (left.sound honest) _ may) (λ found.
             found_again known files other finds found.0 found.2 (left.outcomes found.0 found.1));
       }

@@ -1,9 +1,9 @@
 -- The two files behind a store, as contracts see them.
 use Rattle.std.specs.Prelude.{◌≡◌, ◌⊎◌, IsTrue, Result, Ok, Err, IfErr, IfOk, List, length}
 use Rattle.sqlite.specs.Closing.{IsCopied}
-use Rattle.sqlite.specs.Files.{image_of, Finds, IsClosed}
+use Rattle.sqlite.specs.Files.{file_state, image_of, Finds, IsClosed}
 use Rattle.sqlite.specs.Held.{state, Held}
-use Rattle.sqlite.specs.State.{HasCleanDisk}
+use Rattle.sqlite.specs.State.{HasCleanDisk, IsLive}
 use Rattle.sqlite_disk.specs.declared.Disk.{Ghosts}
 use Rattle.sqlite_disk.specs.declared.Files.{Files}
 use Rattle.sqlite_store.specs.FileStore as store
@@ -33,7 +33,8 @@ pub record Backing (C F L : Type 0) : Type 1 where
   pub numbered : L → Type 0
   -- the possible contents of the files after the end, whether or not the power fails then
   pub may_hold : Result F L → F → Type 0
-  -- the connection was opened over these files by a list of trees, and shows what they hold
+  -- the connection was opened over these files by a list of trees, and shows what they hold, a
+  -- database
   pub finds : List Object → F → C → Type 0
   -- a list by which these files may be opened call after call
   pub lists : List Object → Type 0
@@ -54,10 +55,11 @@ abbrev pub LeavesKnown : {S F L : Type 0} → trees.Ghosts S → Backing (Held S
 LeavesKnown {S} {F} g b objects conn = (db : Trees) → (state g conn).may_leave db
     → IsOwn db ⊎ ((files : F) × (was : Held S) × b.finds objects files was × (db ≡ (state g was).committed.trees))
 
--- The next connection by the same list of trees finds what this one could leave.
+-- The next connection by the same list of trees shows a database, which this one could leave.
 pub record LeadsOn {S F L : Type 0} (g : trees.Ghosts S) (b : Backing (Held S) F L) (objects : List Object) (conn : Held S)
     (end : Result F L) : Type 0 where
   pub clean : HasCleanDisk (state g conn)
+  pub live : (files : F) (other : Held S) → b.finds objects files other → IsLive (state g other)
   pub next : LeavesKnown g b objects conn → (files : F) → b.may_hold end files → (other : Held S) → b.finds objects files other
       → ∥ (state g conn).may_leave (state g other).committed.trees ∥₁
 
@@ -84,7 +86,7 @@ module _ {D : Type 0} (g : Ghosts D) where
     left = λ conn it. IsClosed conn it;
     numbered = λ it. IsTrue (store.view it).is_numbered;
     may_hold = λ end files. may_hold_image end (image_of g files);
-    finds = λ _ files conn. Finds files conn;
+    finds = λ _ files conn. Finds files conn × IsLive (file_state conn);
     lists = λ _. Unit {0};
   }
 
@@ -96,6 +98,7 @@ module _ {D : Type 0} (g : Ghosts D) where
     left = λ conn it. IsClosedOwn (state shown conn) it;
     numbered = λ _. Unit {0};
     may_hold = λ end files. may_hold_image end (image_of g files);
-    finds = λ objects files conn. FindsOwn g files objects (length objects) (state shown conn);
+    finds = λ objects files conn. FindsOwn g files objects (length objects) (state shown conn)
+        × IsLive (state shown conn);
     lists = λ objects. ListsStation objects;
   }
