@@ -3,6 +3,8 @@ mod Ended
 mod EntryNames
 mod Once
 mod Opened
+mod Others
+mod OthersStay
 mod OwnFiles
 mod OwnListing
 mod OwnReading

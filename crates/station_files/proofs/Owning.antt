@@ -46,7 +46,7 @@ module _ (n : ℕ) (o : Object) where
       go Equal e rest = rw (id_same (n + 1)) refl
       go Greater e rest = rw (id_same (n + 1)) refl
 
-  other_found : (m : ℕ) (rows : List Row) → m ≢ n → find (has_rowid (pos (m + 1))) (put_row (object_row n o) rows) ≡ find (has_rowid (pos (m + 1))) rows
+  pub other_found : (m : ℕ) (rows : List Row) → m ≢ n → find (has_rowid (pos (m + 1))) (put_row (object_row n o) rows) ≡ find (has_rowid (pos (m + 1))) rows
   other_found m [] other = rw (id_other n m other) refl
   other_found m (r ∷ rows) other = go (value_cmp (rowid r) (Int (pos (n + 1)))) refl (other_found m rows other)
     where
@@ -94,7 +94,7 @@ rows_put from (suc at) t o (m ∷ numbers) rows is low apart =
 with_same : (trees : Trees) (n : ℕ) (es : List Row) → with_tree trees n es n ≡ es
 with_same trees n es = rw (eq-eqb n n refl) refl
 
-with_other : (trees : Trees) (n : ℕ) (es : List Row) (k : ℕ) → k ≢ n → with_tree trees n es k ≡ trees k
+pub with_other : (trees : Trees) (n : ℕ) (es : List Row) (k : ℕ) → k ≢ n → with_tree trees n es k ≡ trees k
 with_other trees n es k other = rw (ne_eqb k n other) refl
 
 set_same : {X : Type 0} (f : ℕ → X) (n : ℕ) (x : X) → set_at f n x n ≡ x
@@ -208,7 +208,7 @@ module _ (numbers : List ℕ) (apart : AreApart numbers) where
               ∙ sym (with_other (with_tree (own_trees numbers trees) t []) catalog_tree (put_row (object_row t o) (own_trees numbers trees catalog_tree)) k other)
         ])
 
-last : {X : Type 0} (xs : List X) → xs ≢ [] → length xs - 1 < length xs
+pub last : {X : Type 0} (xs : List X) → xs ≢ [] → length xs - 1 < length xs
 last [] some = absurd (some refl)
 last (x ∷ xs) some = omega arith
 

@@ -4,6 +4,8 @@ pub mod Beside
 pub mod ByList
 pub mod Connected
 pub mod Listed
+pub mod Others
+pub mod OthersStay
 pub mod Own
 pub mod OwnFiles
 pub mod OwnLaws

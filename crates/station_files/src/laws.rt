@@ -2,6 +2,7 @@
 ghost use Rattle.station_schema.specs.Own.{LiesInOrder};
 ghost use Rattle.station_files.specs.Backing.{own_files, whole_files, EndsLeadOn};
 ghost use Rattle.station_files.specs.ByList.{LeaveByList};
+ghost use Rattle.station_files.specs.OthersStay.{CallsSpareOthers};
 ghost use Rattle.station_files.specs.OwnFiles.{LeaveOwn};
 
 use crate::own_trees::OwnTrees;
@@ -39,3 +40,9 @@ pub fn own_files_lie_in_order<D: Disk>()
 {
     files_lie_in_order::<D>();
 }
+
+/// Any calls of a store that shows some trees of files leave the trees of other programs as they
+/// were at its opening, after a crash too.
+pub fn own_trees_spare_others<D: Disk>()
+    ensures { CallsSpareOthers D.Disk ⟦<OwnTrees<FileStore<D>> as Store>⟧ }
+{}

@@ -17,6 +17,7 @@ pub use beside::open_beside;
 pub use closing::FileBacked;
 pub use laws::{
     files_lead_on, files_leave_by_list, files_leave_own, own_files_lead_on, own_files_lie_in_order,
+    own_trees_spare_others,
 };
 pub use making::open_new;
 pub use opening::open_listed;

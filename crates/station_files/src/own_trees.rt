@@ -10,6 +10,7 @@ ghost use Rattle.sqlite_trees.specs.declared.error.StoreError.{StoreError as Fai
 ghost use Rattle.sqlite_trees.specs.declared.error.StoreError.TheVariants.{OutOfMemory};
 ghost use Rattle.sqlite_trees.specs.declared.store.Shape.TheVariants.{Absent};
 ghost use Rattle.sqlite.specs.Steps.{IsFresh};
+ghost use Rattle.station_files.specs.Others.{SparesOthers};
 ghost use Rattle.station_files.specs.Own.{as_numbered, number_inside, own_trees, own_view, renumbered, rows_from, AreApart, AreLaidOut, IsNumberOf, IsShown};
 ghost use Rattle.station_files.specs.OwnLaws.{GoBack};
 
@@ -291,8 +292,9 @@ impl<S: Alter> Store for OwnTrees<S> {
     ghost is_shielded = { λ it. S.Store.is_shielded it.store };
 
     ghost is_step = { λ old new tree.
-        S.Store.is_step old.store new.store (number_inside old.numbers.items tree)
-        ⊎ (new.store ≡ old.store) };
+        (S.Store.is_step old.store new.store (number_inside old.numbers.items tree)
+        ⊎ (new.store ≡ old.store)) × SparesOthers S.Store old.numbers.items old.store new.store
+        × (new.numbers ≡ old.numbers) };
 
     ghost blamed = { λ it. S.Store.blamed it.store };
 
@@ -377,6 +379,7 @@ impl<S: Alter> Store for OwnTrees<S> {
         self.store.get(number, id, row)
     }
 
+    #[tactic(auto, using(crate::proofs::Others::spares_set))]
     fn put(&mut self, table: u32, row: &Row) -> Result<(), StoreError> {
         let Some(number) = self.number_of(table) else {
             return Err(StoreError::OutOfMemory);
@@ -384,6 +387,7 @@ impl<S: Alter> Store for OwnTrees<S> {
         self.store.put(number, row)
     }
 
+    #[tactic(auto, using(crate::proofs::Others::spares_set))]
     fn delete(&mut self, table: u32, id: i64) -> Result<(), StoreError> {
         let Some(number) = self.number_of(table) else {
             return Err(StoreError::OutOfMemory);
@@ -391,6 +395,7 @@ impl<S: Alter> Store for OwnTrees<S> {
         self.store.delete(number, id)
     }
 
+    #[tactic(auto, using(crate::proofs::Others::spares_set))]
     fn insert(&mut self, index: u32, entry: &Row) -> Result<(), StoreError> {
         let Some(number) = self.number_of(index) else {
             return Err(StoreError::OutOfMemory);
@@ -398,6 +403,7 @@ impl<S: Alter> Store for OwnTrees<S> {
         self.store.insert(number, entry)
     }
 
+    #[tactic(auto, using(crate::proofs::Others::spares_set))]
     fn remove(&mut self, index: u32, entry: &Row) -> Result<(), StoreError> {
         let Some(number) = self.number_of(index) else {
             return Err(StoreError::OutOfMemory);

@@ -1,10 +1,11 @@
-use Rattle.std.proofs.Common.{Bool, true, false, ap, List, ℕ}
+use Rattle.std.proofs.Common.{Bool, true, false, ap, List, ℕ, refl, rules}
 use Rattle.std.proofs.lemmas.Result.{on_ok_weaker, IfOk-weaker}
 use Rattle.sqlite_value.specs.Order.{Row}
 use Rattle.sqlite_trees.specs.View.{Advances, View}
 use Rattle.station_files.specs.Own.{own_view}
 use Rattle.station_files.specs.declared.layout.Layout.{Layout}
 use Rattle.station_files.proofs.Owning.{shown, stays, stays_after}
+use Rattle.station_files.proofs.Others.{keeps, spares_after}
 use Rattle.station_files.proofs.own_trees.OwnTreesStore.next.Goals as goal
 
 advances : (numbers : List ℕ) (layouts before : List Layout) (a b : View) (cursor : ℕ) (row : Row) (found : Bool) → Advances a b cursor row found
@@ -20,3 +21,6 @@ returns-clause-ok g c =
 
 pub invariant_of-self : goal.invariant_of-self
 invariant_of-self g c = record { inside = shown c.args.self.now.inside (g.S.Store.view c.next.new.self) c.next.ensures.quiet.clean (stays_after c.next.result (on_ok_weaker c.next.result (λ h clean. stays (h clean).same) c.next.ensures.moves) c.next.ensures.err) }
+
+pub returns-clause-step : goal.returns-clause-step
+returns-clause-step g c = (search rules, spares_after g.S.Store _ _ _ c.next.ensures.quiet c.next.result (on_ok_weaker c.next.result (λ h clean. keeps _ _ _ (h clean).same) c.next.ensures.moves) c.next.ensures.err, refl)

@@ -1,9 +1,10 @@
-use Rattle.std.proofs.Common.{ap, ap₂, sym, ◌∙◌}
+use Rattle.std.proofs.Common.{ap, ap₂, sym, ◌∙◌, refl, rules}
 use Rattle.std.proofs.lemmas.Result.{on_ok_weaker}
 use Rattle.sqlite_trees.specs.Tree.{order_of, sought}
 use Rattle.sqlite_trees.specs.View.{with_cursor}
 use Rattle.station_files.specs.Own.{own_view}
 use Rattle.station_files.proofs.Owning.{rows_inside, shown, stays, stays_after}
+use Rattle.station_files.proofs.Others.{keeps, spares_after}
 use Rattle.station_files.proofs.own_trees.OwnTreesStore.seek.Goals as goal
 
 pub returns-clause-ok : goal.returns-clause-ok
@@ -19,3 +20,6 @@ returns-clause-ok g c =
 
 pub invariant_of-self : goal.invariant_of-self
 invariant_of-self g c = record { inside = shown c.args.self.now.inside (g.S.Store.view c.seek.new.self) c.seek.ensures.quiet.clean (stays_after c.seek.result (on_ok_weaker c.seek.result (λ h clean. stays (h clean)) c.seek.ensures.ok) c.seek.ensures.err) }
+
+pub returns-clause-step : goal.returns-clause-step
+returns-clause-step g c = (search rules, spares_after g.S.Store _ _ _ c.seek.ensures.quiet c.seek.result (on_ok_weaker c.seek.result (λ h clean. keeps _ _ _ (h clean)) c.seek.ensures.ok) c.seek.ensures.err, refl)
