@@ -1,12 +1,21 @@
 -- Files that are opened behind a call that read them.
-use Rattle.std.proofs.Common.{◌∙◌, subst, inl, inr, arith}
+use Rattle.std.proofs.Common.{◌≡◌, ◌≢◌, ◌%◌, ◌∙◌, IsTrue, List, false, ap, sym, subst, subst₂, inl, inr, arith}
 use Rattle.sqlite_disk.specs.declared.Disk.{Ghosts}
+use Rattle.sqlite_disk.specs.declared.Files.{Files}
 use Rattle.sqlite_pages.specs.PageMap.{PageMap}
-use Rattle.sqlite_pool.specs.Stored.{Recovers, RecoversAs}
+use Rattle.sqlite_pool.proofs.ResealLemmas.{adopts_of, plain_adopts}
+use Rattle.sqlite_pool.specs.Stored.{stored_size, IsUnreadable, Recovers, RecoversAs}
 use Rattle.sqlite_pool.specs.StoredLaws.{carried, readable, RecoversAs-from}
+use Rattle.sqlite_store.proofs.StoreLemmas.{pair}
 use Rattle.sqlite_store.specs.Unopened.{image, state_of, Opens}
 use Rattle.sqlite_store.specs.declared.store.open.Unopened.{Unopened}
+use Rattle.sqlite_trees.specs.declared.schema.Object.{Object}
+use Rattle.sqlite_wal.specs.PageSize.{bytes_of}
+use Rattle.sqlite_wal.specs.Recovery.{Image}
 use Rattle.sqlite_wal.specs.State.{State}
+use Rattle.sqlite.proofs.FileLemmas.{stays_something, stored_used}
+use Rattle.sqlite.specs.Files.{image_of, BeginsWell, IsKept}
+use Rattle.station_files.specs.Listed.{IsUnopened}
 
 module _ {D : Type 0} {g : Ghosts D} (old mid : Unopened D g) (new : State) (pages : PageMap) where
   -- both calls leave what they found
@@ -25,4 +34,28 @@ module _ {D : Type 0} {g : Ghosts D} (old mid : Unopened D g) (new : State) (pag
                     unread = λ unreadable. absurd (readable size (image old) pages before unreadable);
                   }
             ];
+      }
+
+-- an opening that gave up leaves the files as the library's own opening does
+module _ {D : Type 0} {g : Ghosts D} (files : Files D) (objects : List Object) (fresh : Unopened D g) (u : IsUnopened files objects fresh) (clean : IsTrue (state_of fresh).is_clean) (new : State) (kept : Opens fresh new) where
+  pub kept_files : (left : Image) → new.may_leave left → IsKept g files new.page_size left
+  kept_files left may =
+      let start = image_of g files in
+      let now = new.page_size in
+      let sized : now ≡ bytes_of u.size = kept.size ∙ u.sized in
+      let whole : stored_size now ≡ bytes_of u.size = ap stored_size sized ∙ stored_used u.size false in
+      let well : BeginsWell (stored_size now) start = subst (λ n. BeginsWell n start) (sym whole) (u.begins clean) in
+      let one = kept.crash left may in
+      let plain : now % 16 ≢ 8 = λ h. omega (arith, u.size.aligned, h, sized) in
+      let alike = λ (same : RecoversAs (state_of fresh).page_size (image fresh) left). subst₂ (λ n i. RecoversAs n i left) (sym kept.size) u.seen same in
+      let stands = λ (same : RecoversAs (state_of fresh).page_size (image fresh) left). let now_alike = alike same in
+      pair (inl now_alike) (λ pages found. adopts_of now left pages (carried now start left now_alike pages (plain_adopts now start pages plain found))) in
+      let unread = λ (bad : IsUnreadable now start). u.left left (one.unread (subst₂ IsUnreadable kept.size (sym u.seen) bad)) in
+      record {
+        same = elim one.same [ inl was ↦ inl (u.left left was) | inr same ↦ inr (stands same) ];
+        unread = unread;
+        something = λ other. elim one.same [
+          | inl was ↦ absurd (other (u.left left was))
+          | inr same ↦ stays_something now start left (omega (arith, u.size.smallest, whole)) well (stands same) (λ bad. other (unread bad))
+        ];
       }

@@ -16,8 +16,7 @@ ghost use Rattle.station_files.specs.Beside.{AreBeside};
 ghost use Rattle.station_files.specs.Own.{as_numbered, own_trees};
 ghost use Rattle.station_files.specs.OwnFiles.{FindsOwn, IsReadByTheirs, SparesOwn};
 
-use crate::first_page::{begins_plain, named_size};
-use crate::opening::with_list;
+use crate::opening::unopened;
 use crate::own_listing::are_beside;
 use crate::own_trees::OwnTrees;
 use crate::tree_list::all_trees;
@@ -148,7 +147,7 @@ fn open_all<D: Disk>(
 /// without checksums, and their numbers.
 fn store_beside<D: Disk>(
     alloc: Global,
-    mut files: Files<D>,
+    files: Files<D>,
     options: Options,
     objects: &[Object<'_>],
     made: usize,
@@ -164,19 +163,12 @@ fn store_beside<D: Disk>(
     ensures spared { IfErr result (λ left. IsCleanLeft left
         → SparesOwn files (take made objects.now) left) }
 {
-    let Some(size) = named_size(&mut files) else {
-        return Err(Leftover::Files(files));
-    };
-    if !begins_plain(alloc, &mut files, size) {
-        return Err(Leftover::Files(files));
-    }
-    let unopened = match with_list(alloc, files, size, options, &[]) {
-        Ok(unopened) => unopened,
-        Err(left) => return Err(Leftover::Files(left)),
-    };
-    match open_all(alloc, unopened, objects, made) {
-        Ok(found) => Ok(found),
-        Err(left) => Err(Leftover::Unopened(left)),
+    match unopened(alloc, files, options, &[]) {
+        Ok(unopened) => match open_all(alloc, unopened, objects, made) {
+            Ok(found) => Ok(found),
+            Err(left) => Err(Leftover::Unopened(left)),
+        },
+        Err(left) => Err(Leftover::Files(left)),
     }
 }
 

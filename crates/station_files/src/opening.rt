@@ -1,6 +1,8 @@
 //! Opening files by a list of their trees.
 ghost use Rattle.std.specs.Prelude.{◌≡◌, false, IsTrue, IfErr, IfOk};
+ghost use Rattle.sqlite_wal.specs.Files.{outcomes};
 ghost use Rattle.sqlite_wal.specs.PageSize.{bytes_of};
+ghost use Rattle.sqlite_wal.specs.Recovery.{Image};
 ghost use Rattle.sqlite_store.specs.FileStore.{view, is_shielded};
 ghost use Rattle.sqlite_store.specs.Unopened.{files_of, state_of, wanted_by};
 ghost use Rattle.sqlite_store.specs.Catalog.{Describes};
@@ -11,7 +13,7 @@ ghost use Rattle.sqlite.specs.Steps.{IsFresh};
 ghost use Rattle.sqlite.specs.Files.{file_state, Finds, IsCleanLeft, IsOpened};
 ghost use Rattle.station_files.specs.ByList.{FindsByList};
 ghost use Rattle.station_files.specs.Connected.{IsOver, Spares};
-ghost use Rattle.station_files.specs.Listed.{IsReadByList};
+ghost use Rattle.station_files.specs.Listed.{IsReadByList, IsUnopened};
 ghost use Rattle.station_files.specs.Spared.{SparesFiles};
 
 use crate::first_page::{begins_plain, named_size};
@@ -46,11 +48,37 @@ pub(crate) fn with_list<D: Disk>(
     }
 }
 
+/// Returns files with a list of their trees, ready to be opened. Returns the files if their pages
+/// have checksums, or they name no page size, or memory or the disk fails.
+pub(crate) fn unopened<D: Disk>(
+    alloc: Global,
+    mut files: Files<D>,
+    options: Options,
+    objects: &[Object<'_>],
+) -> Result<Unopened<D>, Files<D>>
+    requires log { IsTrue (D.Disk.is_usable files.log) }
+    requires db { IsTrue (D.Disk.is_usable files.db) }
+    ensures unopened { IfOk result (IsUnopened files objects.now) }
+    ensures back { IfErr result (λ left. (at : Image) → outcomes D.Disk left.log left.db at
+        → outcomes D.Disk files.log files.db at) }
+{
+    let Some(size) = named_size(&mut files) else {
+        return Err(files);
+    };
+    if !begins_plain(alloc, &mut files, size) {
+        return Err(files);
+    }
+    match with_list(alloc, files, size, options, objects) {
+        Ok(it) => Ok(it),
+        Err(left) => Err(left),
+    }
+}
+
 /// Returns the store over two files with a database of exactly these trees, in this order, without
 /// checksums.
 fn store_by_list<D: Disk>(
     alloc: Global,
-    mut files: Files<D>,
+    files: Files<D>,
     options: Options,
     objects: &[Object<'_>],
 ) -> Result<FileStore<D>, Leftover<D>>
@@ -62,19 +90,12 @@ fn store_by_list<D: Disk>(
     ensures guarded { IfOk result (λ it. IsTrue (view it).is_clean → is_shielded it) }
     ensures spared { IfErr result (λ left. IsCleanLeft left → SparesFiles files objects.now left) }
 {
-    let Some(size) = named_size(&mut files) else {
-        return Err(Leftover::Files(files));
-    };
-    if !begins_plain(alloc, &mut files, size) {
-        return Err(Leftover::Files(files));
-    }
-    let unopened = match with_list(alloc, files, size, options, objects) {
-        Ok(unopened) => unopened,
-        Err(left) => return Err(Leftover::Files(left)),
-    };
-    match unopened.open_numbered() {
-        Ok(it) => Ok(it),
-        Err((_, left)) => Err(Leftover::Unopened(left)),
+    match unopened(alloc, files, options, objects) {
+        Ok(unopened) => match unopened.open_numbered() {
+            Ok(it) => Ok(it),
+            Err((_, left)) => Err(Leftover::Unopened(left)),
+        },
+        Err(left) => Err(Leftover::Files(left)),
     }
 }
 
