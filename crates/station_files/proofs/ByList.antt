@@ -1,4 +1,4 @@
--- What files hold by a list of their trees: found at an opening, and left by a crash and by a close.
+-- What files hold by a list of their trees: found at an opening, left by a crash and by a close.
 use Rattle.std.proofs.Common.{◌≡◌, ◌≤◌, false, Bool, ℕ, List, Some, Option, refl, sym, subst, inl, inr, arith}
 use Rattle.std.proofs.lemmas.Bool.{cases_eq}
 use Rattle.std.proofs.Math.Logic.{∥∥₁_elim, ∥∥₁_map}

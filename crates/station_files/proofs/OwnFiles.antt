@@ -42,7 +42,8 @@ use Rattle.station_files.proofs.SameReading.{same_reading}
 use Rattle.station_files.proofs.StationTrees.{same_rows}
 use Rattle.station_files.specs.StationTrees.{ListsStation}
 
--- what files with these pages hold by this list, all of it or some of its trees, is what the pages read as by it
+-- what files with these pages hold by this list, all of it or some of its trees, is what the
+-- pages read as by it
 module _ (image : Image) (objects : List Object) (size : ℕ) (pages : PageMap) (plain : size % 16 ≢ 8) (found : Recovers size image pages)
     (sized : (n : ℕ) → HoldsPages n image → n ≡ size) where
   once : (held : PageMap) (n : ℕ) → n ≡ size → Adopts n image held → read_by size objects pages ≡ read_by size objects held

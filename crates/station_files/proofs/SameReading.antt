@@ -1,4 +1,4 @@
--- Two lists with the same rows read the same pages alike, in whatever order the pages list the trees.
+-- Two lists with the same rows read the same pages alike, whatever the order of trees in the pages.
 use Rattle.std.proofs.Common.{◌≡◌, ℕ, zero, suc, ◌+◌, true, cond, ◌&&◌, List, [], ◌∷◌, ◌++◌, map, pos, get_or, refl, sym, ap, ◌∙◌, inl, inr, arith, eq-eqb, ne_eqb, lt-ltb, le-ltb}
 use Rattle.std.proofs.lemmas.Bool.{cases_eq}
 use Rattle.std.proofs.Math.Path.{fun_ext}

@@ -29,8 +29,8 @@ within [] t name h = absurd (cc)
 within (o ∷ objects) zero name h = omega arith
 within (o ∷ objects) (suc t) name h = omega (arith, within objects t name h)
 
--- rows that are shown under one number, of two lists of a file's trees, are the same if their names,
--- shapes and REAL columns are
+-- rows that are shown under one number, of two lists of a file's trees, are the same if their
+-- names, shapes and REAL columns are
 module _ (size : ℕ) (pages : PageMap) (xs ys : List Wanted) (one : IsFile size xs pages) (two : IsFile size ys pages) where
   same_row : (m n at : ℕ) (a b : List ℕ) (first second : Row) (name : List ℕ × ℕ × ℕ) → AreLow a → AreLow b → row_at 0 a (listed_from 0 xs) at ≡ Some first → row_at 0 b (listed_from 0 ys) at ≡ Some second
       → IsNamed m name first → IsNamed n name second → (0 < name.1) × (name.1 < 3) → IsWorded first → second ≡ first

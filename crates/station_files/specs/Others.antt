@@ -6,7 +6,7 @@ use Rattle.sqlite_trees.specs.Tree.{Trees}
 use Rattle.sqlite_trees.specs.View.{Snapshot, View, IsClean}
 use Rattle.sqlite_trees.specs.declared.store.Store.{Ghosts}
 
--- a tree without these numbers, besides the list of all trees and the version
+-- a tree that has none of these numbers, and is neither the list of all trees nor the version
 pub record IsOther (numbers : List ℕ) (t : ℕ) : Type 0 where
   pub apart : (s : ℕ) → s < length numbers → slice_index numbers s ≢ t
   pub unlisting : t ≢ catalog_tree
@@ -23,11 +23,12 @@ Shows v db = ((v.is_broken ≡ false) × (db ≡ v.trees))
     ⊎ (IsTrue v.is_open × ((m : Snapshot) × Has v.marks m × (db ≡ m.trees)))
 
 module _ {S : Type 0} (g : Ghosts S) where
-  -- or leaves after a crash
+  -- a database that a store shows, can go back to, or leaves after a crash
   abbrev pub MayShow : S → Trees → Type 0
   MayShow it db = Shows (g.view it) db ⊎ g.recovers it db
 
-  -- A call leaves the trees without these numbers as they were.
+  -- A call leaves the trees without these numbers as they were: each database that the store may
+  -- show next has those of one that it might show before.
   pub record SparesOthers (numbers : List ℕ) (old new : S) : Type 0 where
     pub clean : IsClean (g.view new) → IsClean (g.view old)
     pub others : IsClean (g.view new) → (db : Trees) → MayShow new db

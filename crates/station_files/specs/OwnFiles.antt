@@ -32,9 +32,10 @@ pub record HoldsOwnAlone (image : Image) (db : Trees) : Type 0 where
   pub both : ∥ HoldsOwn image db ∥₁
   pub alone : ∥ HoldsOwn (record image { log = [] }) db ∥₁
 
--- The files recover to the pages of a sound file of the first trees of a list and of others, which
--- belong to other tables. The last commit is what the pages mean, read only for the trees of this
--- list; it is the only database that these list, or of a station, if they name its trees.
+-- The files recover to the pages of a sound file, which has the first `made` trees of a list and
+-- trees of other tables. The last commit is what the pages mean, read for the trees of the list
+-- alone. The files hold no other database with exactly these trees; if they are a station's, the
+-- files hold no other database of a station.
 pub record FindsOwn {D : Type 0} (g : Ghosts D) (files : Files D) (objects : List Object) (made : ℕ) (s : State) : Type 0 where
   pub honest : AreClean g files.log files.db
   pub size : ℕ
