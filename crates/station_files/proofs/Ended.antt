@@ -56,8 +56,9 @@ module _ {D S : Type 0} (g : Ghosts D) (shown : trees.Ghosts S) (stays : (it : S
   found_again : LeavesKnown shown (own_files g shown) objects conn → (files : Files D) (other : Held S) → (own_files g shown).finds objects files other
       → (db : Trees) → HoldsOwn (image_of g files) db → (state shown conn).may_leave db → (state shown conn).may_leave (state shown other).committed.trees
   found_again known files other finds db held may = subst (state shown conn).may_leave (sym (elim (known db may) [
-    | inl own ↦ finds.0.holds_station (subst ListsStation all_taken lists) db held own
-    | inr found ↦ finds.0.holds_own db held (subst (IsListedBy objects_taken) (sym found.3) (listed_by found.0 found.1 found.2))
+    | inl whole ↦ absurd whole
+    | inr (inl own) ↦ finds.0.holds_station (subst ListsStation all_taken lists) db held own
+    | inr (inr found) ↦ finds.0.holds_own db held (subst (IsListedBy objects_taken) (sym found.3) (listed_by found.0 found.1 found.2))
   ])) may
 
   pub own_leads_on : (end : Result (Files D) (FileStore D g)) → HasEnded (own_files g shown) conn end → (own_files g shown).was_true end → LeadsOn shown (own_files g shown) objects conn end

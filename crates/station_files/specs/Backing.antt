@@ -38,6 +38,8 @@ pub record Backing (C F L : Type 0) : Type 1 where
   pub finds : List Object → F → C → Type 0
   -- a list by which these files may be opened call after call
   pub lists : List Object → Type 0
+  -- an opening shows all the trees of the files
+  pub is_whole : Type 0
 
 -- The end of a connection. Its last commit was copied, if the disk returned what was written; or a
 -- store is left.
@@ -50,10 +52,11 @@ pub record IsGivenBack {C F L : Type 0} (b : Backing C F L) (conn : C) (it : L) 
   pub left : b.left conn it
   pub numbered : b.was_true (Err it) → b.numbered it
 
--- Each database that the connection may leave is a station's, or what an opening by the list found.
+-- The files are shown whole, or each database that the connection may leave is a station's, or what
+-- an opening by the list found.
 abbrev pub LeavesKnown : {S F L : Type 0} → trees.Ghosts S → Backing (Held S) F L → List Object → Held S → Type 0
 LeavesKnown {S} {F} g b objects conn = (db : Trees) → (state g conn).may_leave db
-    → IsOwn db ⊎ ((files : F) × (was : Held S) × b.finds objects files was × (db ≡ (state g was).committed.trees))
+    → b.is_whole ⊎ (IsOwn db ⊎ ((files : F) × (was : Held S) × b.finds objects files was × (db ≡ (state g was).committed.trees)))
 
 -- The next connection by the same list of trees shows a database, which this one could leave.
 pub record LeadsOn {S F L : Type 0} (g : trees.Ghosts S) (b : Backing (Held S) F L) (objects : List Object) (conn : Held S)
@@ -88,6 +91,7 @@ module _ {D : Type 0} (g : Ghosts D) where
     may_hold = λ end files. may_hold_image end (image_of g files);
     finds = λ _ files conn. Finds files conn × IsLive (file_state conn);
     lists = λ _. Unit {0};
+    is_whole = Unit {0};
   }
 
   -- files of which a store with these ghosts shows the trees of a list
@@ -101,4 +105,5 @@ module _ {D : Type 0} (g : Ghosts D) where
     finds = λ objects files conn. FindsOwn g files objects (length objects) (state shown conn)
         × IsLive (state shown conn);
     lists = λ objects. ListsStation objects;
+    is_whole = ⊥;
   }
