@@ -1,15 +1,23 @@
 -- Calls of the program over one file: from one to the next, and all of them.
 use Rattle.std.proofs.Common.{◌<◌, ◌≤◌, length, ◌≡◌, ◌⊎◌, ℕ, zero, suc, ◌+◌, Bool, true, false, IsTrue, inl, inr, Option, Some, None, Result, Ok, Err, List, [], ◌∷◌, ◌++◌, take, All, refl, sym, ap, subst, ◌∙◌, arith}
-use Rattle.std.specs.Prelude.{IfErr, OnOk}
+use Rattle.std.specs.Prelude.{Contains, IfErr, OnErr, OnOk}
+use Rattle.std.specs.List.{AllByRecursion}
 use Rattle.std.proofs.Math.Logic.{∥∥₁_elim, ∥∥₁_map}
 use Rattle.std.proofs.lemmas.Bool.{cases_Bool, cases_lt}
 use Rattle.shipment_machine.proofs.Conserved.{is_conserved}
 use Rattle.shipment_machine.proofs.Shown.{are_balances}
-use Rattle.sqlite.specs.Effect.{Database}
+use Rattle.sqlite.specs.Effect.{Database, IsDatabase}
+use Rattle.sqlite.specs.Order.{Row}
+use Rattle.sqlite.specs.Schema.{Schema}
+use Rattle.sqlite.specs.Table.{Table}
 use Rattle.sqlite.specs.Held.{state, Held}
 use Rattle.sqlite.specs.State as conn
+use Rattle.sqlite_catalog.proofs.ReadLemmas.{lists_once}
+use Rattle.sqlite_catalog.specs.Listing.{IsSound}
+use Rattle.sqlite_tied.specs.Compute.{everything}
 use Rattle.sqlite_trees.specs.declared.schema.Object.{Object}
 use Rattle.sqlite_trees.specs.declared.store.Store.{Ghosts}
+use Rattle.sqlite_trees.specs.Objects.{catalog_tree}
 use Rattle.sqlite_trees.specs.Tree.{Trees}
 use Rattle.station_days.specs.Date.{LocalMinute}
 use Rattle.station_core.specs.declared.answer.Answer.{Answer}
@@ -17,22 +25,31 @@ use Rattle.station_core.specs.declared.answer.ActFault.TheVariants as fault
 use Rattle.station_core.specs.declared.input.Input.{Input}
 use Rattle.station_core.specs.Keeping.{Keeping, KeepsSound}
 use Rattle.station_core.specs.Retries.{RetryEvent, World, after_events, world_after, ActsOnce}
-use Rattle.station_core.specs.Step.{State, IsLawfulState, step, after_all}
+use Rattle.station_core.specs.Step.{State, IsLawfulState, step, after_all, opening}
 use Rattle.station_files.specs.Backing.{Backing, HasEnded, LeadsOn, LeavesKnown}
-use Rattle.station_schema.specs.Own.{IsOwn}
-use Rattle.station_tables.specs.Attached.{connection_in}
+use Rattle.station_schema.proofs.Owned.{owned, owned_old}
 use Rattle.station_schema.specs.Connection.{connection_view}
-use Rattle.station_tables.specs.Called.{GoesOn, HasFound, HasMade, HasReleased}
+use Rattle.station_schema.specs.Own.{IsOwn, LiesInOrder}
+use Rattle.station_schema.specs.Schema.{no_schema, old_schema, station_schema, waybill2}
+use Rattle.station_tables.specs.Attached.{connection_in, IsOldStateIn, IsStateIn, IsStateOf, IsTypedState}
+use Rattle.station_tables.specs.Called.{GoesOn, HasFound, HasMade, HasMoved, HasReleased}
+use Rattle.station_tables.specs.Migrated.{IsMigrated}
 use Rattle.station_tables.specs.Lives.{Life, AreCounted, AreLives, Counts, in_order, IsAfterLife, IsAfterLives}
 use Rattle.station_tables.specs.declared.fault.AttachFault.{AttachFault}
 use Rattle.station_tables.specs.declared.fault.AttachFault.TheVariants as attach
 use Rattle.station_tables.specs.declared.station.Station.{Station}
 use Rattle.cli_run.specs.declared.fault.RunFault.{RunFault}
+use Rattle.table_audits.proofs.Declared.{each_lawful}
+use Rattle.table_audits.proofs.LawfulTables.{lawful_each}
+use Rattle.table_load.specs.Held.{waybill_columns, waybill_name}
+use Rattle.table_load.specs.Raw.{found, found_at, no_table, rows_of, table_by_name}
+use Rattle.table_load.specs.Reading.{Reading}
 use Rattle.cli_words.specs.declared.line.LineCommand.{LineCommand}
+use Rattle.cli_words.specs.declared.line.LineCommand.TheVariants as command
 use Rattle.cli_run.specs.Done.{HasDone}
 use Rattle.cli_run.specs.Ends.{reached, Ends, Reached}
 use Rattle.cli_run.specs.Left.{station_fault, AsksAt, HasLeft}
-use Rattle.cli_run.specs.Place.{here_of, is_new}
+use Rattle.cli_run.specs.Place.{here_of, is_migration, is_new}
 use Rattle.cli_words.specs.declared.line.Line.{Line}
 use Rattle.desk_server.specs.Asked.{store_fault, HasServedInputs}
 use Rattle.desk_server.specs.Served.{Exchange, GoesOn as ServesOn, HaveServed}
@@ -40,10 +57,11 @@ use Rattle.cli_call.specs.declared.closing.FileEnd.{FileEnd}
 use Rattle.cli_call.specs.declared.ended.DeskFault.{DeskFault}
 use Rattle.cli_call.specs.declared.ended.DeskFault.TheVariants as told
 use Rattle.cli_call.specs.Service.{HasEndedService, HasServedStation}
-use Rattle.cli_call.specs.Ended.{attach_status, run_ended, status_of, HasNoStation}
+use Rattle.cli_call.specs.Ended.{run_ended, status_of, HasNoStation}
 use Rattle.line_opening.specs.Opened.{HasOpened}
+use Rattle.cli_call.specs.Migrated.{HasEndedMigration}
 use Rattle.cli_call.specs.Ran.{HasEndedCall, HasRunLine}
-use Rattle.cli_call.specs.OneFile.{makes_station, life_events, opened_by, opened_in, ran_in, WasTrue, AreCallsOn, AreEventsOf, AreInputsOf, AreLivesOf, AreVain, by_command, by_service, CallOn, DidOver, HaveLed, IsAfterCalls, IsLifeOf, last_of, NextOn, NoneLost, RunOn, VainOn}
+use Rattle.cli_call.specs.OneFile.{life_events, makes_station, ran_in, with_station, after_upgrade, after_init, AreBetween, AreEventsOf, AreInputsOf, AreLivesOf, AreRuns, Begins, by_command, by_service, by_upgrade, CallOn, DidOver, FailsIn, FindsIn, HaveLed, IsAfterCalls, IsFailedInit, IsLifeOf, IsNext, IsUpgrade, IsVain, last_of, MayBegin, NoneLost, OpenedOn, Reopens, RunOn, UpgradesIn, WasTrue}
 
 abbrev Inputs : Type 0
 Inputs = List (Input × LocalMinute)
@@ -218,12 +236,66 @@ kept_served k [] old new same = record {
 }
 kept_served k (one ∷ all) old new (mid, before, goes, has) = sound_twice k old mid new (kept_served k all old mid before) has.premise
 
+-- the state that a station's tables mean is lawful
+is_lawful : (db : Reading) (s : State) → IsStateOf db s → IsLawfulState s
+is_lawful db s in_ = subst IsLawfulState in_.means ((lawful_each in_.tables).0 (each_lawful db in_.tables in_.is_station)).1
+
+-- no station of version 2 is in a database whose schema has no table of its waybills
+abbrev IsBare : Schema → Type 0
+IsBare schema = table_by_name schema waybill_name ≡ None
+
+not_rows : (db : Database) (rows : List Row) → IsBare db.schema → found db waybill_name waybill_columns ≡ rows_of rows → ⊥
+not_rows db rows bare is = absurd (let never : no_table ≡ rows_of rows = sym (ap (found_at db.trees waybill_columns) bare) ∙ is in cc)
+
+is_bare : (db : Database) (s : State) → IsStateIn db s → IsBare db.schema → ⊥
+is_bare db s in_ bare = let held = in_.is_station.1.1.1.1.1.1.1.1.1.1.1.0.held in not_rows db held.rows bare held.found_is
+
+none_bare : IsBare no_schema
+unfolding everything
+none_bare = refl
+
+old_bare : IsBare old_schema
+unfolding everything
+old_bare = refl
+
+-- the two versions are declared differently
+new_waybills : table_by_name station_schema waybill_name ≡ Some waybill2
+unfolding everything
+new_waybills = refl
+
+two_versions : old_schema ≡ station_schema → ⊥
+two_versions same = absurd (let never : ◌≡◌ {A = Option Table} (Some waybill2) None = sym new_waybills ∙ subst IsBare same old_bare in cc)
+
+-- `init` makes a station
+init_is_new : {A : Type 0} (db : Option A) (c : LineCommand) → c ≡ command.Init → is_new db c ≡ true
+init_is_new None c is = refl
+init_is_new (Some path) c is = ap (is_new (Some path)) is
+
+given : {A B X : Type 0} (r : Result A B) → X → OnErr r X
+given (Ok a) x = tt
+given (Err e) x = x
+
+-- the connection that an upgrade returned
+abbrev moved_to : {C F : Type 0} → Result C (C × F) → C
+moved_to (Ok moved) = moved
+moved_to (Err none) = none.0
+
+-- the trees of a new or upgraded station, with a state that may be its first
+record IsBegun (May : State → Type 0) (db : Trees) : Type 0 where
+  pub own : IsOwn db
+  pub first : State
+  pub may : May first
+  pub typed : (schema : Schema) → IsTypedState (record { schema = schema; trees = db }) first
+  pub law : IsLawfulState first
+
 -- one call, and the next
 module _ {S F L I W E : Type 0} {g : Ghosts S} (b : Backing (Held S) F L) (trees : List Object) (k : Keeping (Station S g)) (e : Ends I W E)
+    (lies : LiesInOrder g)
     (settles : (it : S) (db : Trees) → IsTrue (g.view it).is_open → g.recovers it db → db ≡ (g.view it).committed)
     (closes : (ran : Held S) (end : Result F L) → HasEnded b ran end → b.was_true end → IfErr end b.numbered → LeadsOn g b trees ran end)
     (clean_is : (it : Station S g) → conn.HasCleanDisk (state g (connection_in it)) → k.is_clean it)
     (clean_was : (it : Station S g) → k.is_clean it → conn.HasCleanDisk (state g (connection_in it)))
+    (sound_is : (at : Held S) (it : Station S g) → HasFound g k at (Ok it) → conn.HasCleanDisk (state g (connection_in it)) → IsOwn (state g at).now.trees → k.is_sound it)
     (own : (last : Station S g) (ran : Held S) → k.is_sound last → HasReleased k last ran → conn.HasCleanDisk (state g ran) → (db : Trees) → (state g ran).may_leave db → IsOwn db)
     (lawful : (it : Station S g) (s : State) → k.is_sound it → k.may_find it (Some s) → IsLawfulState s)
     (left_of : (c : LineCommand) (here : List ℕ) (at : LocalMinute) (s : State) (old new : Station S g × Reached I W E) (r : Result Bool RunFault)
@@ -252,31 +324,55 @@ module _ {S F L I W E : Type 0} {g : Ghosts S} (b : Backing (Held S) F L) (trees
   listed status (Err it) given known honest = elim (cases_lt 1 status) [ inl more ↦ given more honest | inr few ↦ known few ]
 
   module _ (line : Line) (conn : Held S) (end : FileEnd F L) where
-    opens_in : (did : DidOver b k e line conn end) (o : Result (Station S g) (Held S × AttachFault)) → opened_in did ≡ o → HasOpened g k (is_new line.db line.command) conn (here_of line.station) o
-    opens_in (by_command ran) o is = subst (λ o. HasOpened g k (is_new line.db line.command) conn (here_of line.station) o) is (ran.has.called.called ran.runs).opens
-    opens_in (by_service served) o is = subst (λ o. HasOpened g k (is_new line.db line.command) conn (here_of line.station) o) is served.has.called.opens
+    abbrev Opened : Result (Station S g) (Held S × AttachFault) → Type 0
+    Opened o = HasOpened g k (is_new line.db line.command) conn (here_of line.station) o
+
+    opens_in : (did : DidOver b k e line conn end) (it : Station S g) → FindsIn did it → Opened (Ok it)
+    opens_in (by_command ran runs) it is = subst Opened is (ran.has.called.called runs).opens
+    opens_in (by_upgrade ran runs) it never = absurd never
+    opens_in (by_service served) it is = subst Opened is served.has.called.opens
+
+    moves_to : (r : Result (Held S) (Held S × AttachFault)) (old new : Reached I W E) (result : ℕ × Held S) → HasEndedMigration e.printed e.told r old new result → result.1 ≡ moved_to r
+    moves_to (Ok moved) old new result ended = ended.conn
+    moves_to (Err none) old new result ended = ended.conn
+
+    moves_in : (did : DidOver b k e line conn end) (r : Result (Held S) (Held S × AttachFault)) → UpgradesIn did r → HasMoved g conn r × ((ran_in did).1 ≡ moved_to r)
+    moves_in (by_command ran runs) r never = absurd never
+    moves_in (by_upgrade ran runs) r is =
+        let has = ran.has.called.migrated runs in
+        (subst (λ r. HasMoved g conn r) is has.moves, moves_to has.migrated ran.from ran.has.behind ran.has.ran has.ended ∙ ap moved_to is)
+    moves_in (by_service served) r never = absurd never
+
+    is_upgrade : (did : DidOver b k e line conn end) (r : Result (Held S) (Held S × AttachFault)) → UpgradesIn did r → is_migration line.command ≡ true
+    is_upgrade (by_command ran runs) r never = absurd never
+    is_upgrade (by_upgrade ran runs) r is = runs
+    is_upgrade (by_service served) r never = absurd never
+
+    -- a call that found no station returns the connection of its fault
+    fails_in : (did : DidOver b k e line conn end) (none : Held S × AttachFault) → FailsIn did none → (Opened (Err none) ⊎ UpgradesIn did (Err none)) × ((ran_in did).1 ≡ none.0)
+    fails_in (by_command ran runs) none is =
+        let has = ran.has.called.called runs in
+        let ended : HasNoStation e.told none ran.from ran.has.behind ran.has.ran = subst (λ o. HasEndedCall line k e ran.at o ran.from ran.has.behind ran.has.ran) is has.ended in
+        (inl (subst Opened is has.opens), ended.conn)
+    fails_in (by_upgrade ran runs) none is = (inr is, (moves_in (by_upgrade ran runs) (Err none) is).1)
+    fails_in (by_service served) none is =
+        let has = served.has.called in
+        let ended : HasEndedService k (e.printed, e.told) served.count has.all has.is_declared (Err none) (served.from, served.has.behind) served.has.ran =
+        subst (λ o. HasEndedService k (e.printed, e.told) served.count has.all has.is_declared o (served.from, served.has.behind) served.has.ran) is has.ended in
+        (inl (subst Opened is has.opens), ended.1.conn)
 
     closed_in : (did : DidOver b k e line conn end) → b.was_true end.files → ((ran_in did).0 ≤ 1 → IfErr end.files b.numbered) → LeadsOn g b trees (ran_in did).1 end.files
-    closed_in (by_command ran) honest numbered =
+    closed_in (by_command ran runs) honest numbered =
+        closes ran.has.ran.1 end.files ran.has.closed.ended honest (listed ran.has.ran.0 end.files ran.has.closed.numbered numbered honest)
+    closed_in (by_upgrade ran runs) honest numbered =
         closes ran.has.ran.1 end.files ran.has.closed.ended honest (listed ran.has.ran.0 end.files ran.has.closed.numbered numbered honest)
     closed_in (by_service served) honest numbered =
         closes served.has.ran.1 end.files served.has.closed.ended honest (listed served.has.ran.0 end.files served.has.closed.numbered numbered honest)
 
-    -- a call that found no station returns the connection of its fault
-    vain_in : (did : DidOver b k e line conn end) (none : Held S × AttachFault) → opened_in did ≡ Err none → ((ran_in did).1 ≡ none.0) × ((ran_in did).0 ≡ attach_status none.1)
-    vain_in (by_command ran) none is =
-        let has = ran.has.called.called ran.runs in
-        let ended : HasNoStation e.told none ran.from ran.has.behind ran.has.ran = subst (λ o. HasEndedCall line k e ran.at o ran.from ran.has.behind ran.has.ran) is has.ended in
-        (ended.conn, ended.status)
-    vain_in (by_service served) none is =
-        let has = served.has.called in
-        let ended : HasEndedService k (e.printed, e.told) served.count has.all has.is_declared (Err none) (served.from, served.has.behind) served.has.ran =
-        subst (λ o. HasEndedService k (e.printed, e.told) served.count has.all has.is_declared o (served.from, served.has.behind) served.has.ran) is has.ended in
-        (ended.1.conn, ended.1.status)
-
-    ends_in : (did : DidOver b k e line conn end) (station : Station S g) → opened_in did ≡ Ok station → Ran did station
-    ends_in (by_command ran) station is =
-        let has = ran.has.called.called ran.runs in
+    ends_in : (did : DidOver b k e line conn end) (station : Station S g) → FindsIn did station → Ran did station
+    ends_in (by_upgrade ran runs) station never = absurd never
+    ends_in (by_command ran runs) station is =
+        let has = ran.has.called.called runs in
         let run : HasRunLine line k e ran.at station ran.from ran.has.behind ran.has.ran = subst (λ o. HasEndedCall line k e ran.at o ran.from ran.has.behind ran.has.ran) is has.ended in
         record {
           last = run.last;
@@ -315,15 +411,13 @@ module _ {S F L I W E : Type 0} {g : Ghosts S} (b : Backing (Held S) F L) (trees
               };
         }
 
-  -- what the opening of a call found or made, and what it came to
-  opens_as : (c : CallOn b k e) (o : Result (Station S g) (Held S × AttachFault)) → opened_by c ≡ o → HasOpened g k (makes_station c) c.conn (here_of c.line.station) o
-  opens_as c o is = opens_in c.line c.conn c.end c.did o is
-
-  found_as : (c : CallOn b k e) (o : Result (Station S g) (Held S × AttachFault)) → opened_by c ≡ o → makes_station c ≡ false → HasFound g k c.conn o
-  found_as c o is old = subst (λ new. HasOpened g k new c.conn (here_of c.line.station) o) old (opens_as c o is)
+  -- what the opening of a run found or made
+  found_by : (c : RunOn b k e) → makes_station c.call ≡ false → HasFound g k c.call.conn (Ok c.station)
+  found_by c old =
+      subst (λ new. HasOpened g k new c.call.conn (here_of c.call.line.station) (Ok c.station)) old (opens_in c.call.line c.call.conn c.call.end c.call.did c.station c.found)
 
   works_by : (c : RunOn b k e) → k.is_broken c.station ≡ false
-  works_by c = go (makes_station c.call) (opens_as c.call (Ok c.station) c.found)
+  works_by c = go (makes_station c.call) (opens_in c.call.line c.call.conn c.call.end c.call.did c.station c.found)
     where
       go : (new : Bool) → HasOpened g k new c.call.conn (here_of c.call.line.station) (Ok c.station) → k.is_broken c.station ≡ false
       go true made = made.works
@@ -337,17 +431,13 @@ module _ {S F L I W E : Type 0} {g : Ghosts S} (b : Backing (Held S) F L) (trees
 
   -- what a run leaves is a station's
   leaves_own : (c : RunOn b k e) → WasTrue c.call → k.is_sound (ends_by c).last → LeavesKnown g b trees (ran_in c.call.did).1
-  leaves_own c honest sound db may = inl (own (ends_by c).last (ran_in c.call.did).1 sound (ends_by c).released (closed_by c.call honest).clean db may)
+  leaves_own c honest sound db may = inr (inl (own (ends_by c).last (ran_in c.call.did).1 sound (ends_by c).released (closed_by c.call honest).clean db may))
 
   last_clean : (c : RunOn b k e) → WasTrue c.call → k.is_clean (ends_by c).last
   last_clean c honest = clean_is _ ((ends_by c).released.clean (closed_by c.call honest).clean)
 
   station_clean : (c : RunOn b k e) → WasTrue c.call → conn.HasCleanDisk (state g (connection_in c.station))
   station_clean c honest = clean_was _ ((ends_by c).premise.clean (last_clean c honest))
-
-  -- in these files an opening finds only what a connection could leave
-  abbrev Has : Held S → F → Type 0
-  Has ran files = (other : Held S) → b.finds trees files other → ∥ (state g ran).may_leave (state g other).committed.trees ∥₁
 
   -- no station is made where there is one, and the connection is returned as it came
   left_alone : (conn : Held S) (here : List ℕ) (none : Held S × AttachFault) → HasMade g k conn here (Err none) → none.1 ≡ attach.Occupied → none.0 ≡ conn
@@ -356,34 +446,53 @@ module _ {S F L I W E : Type 0} {g : Ghosts S} (b : Backing (Held S) F L) (trees
     | inr outside ↦ ap (λ r. (fault_or none r).0) (made.occupied outside (made.taken occupied))
   ]
 
-  vain_true : (v : VainOn b trees k e) → b.was_true v.call.end.files → WasTrue v.call
-  vain_true v honest =
-      let status = (vain_in v.call.line v.call.conn v.call.end v.call.did v.none v.found).1 in
-      (honest, λ low. absurd (omega (arith, low, status, fault_status (told.Attach v.none.1))))
-
   -- a vain call leaves what it found
-  vain_leaves : (v : VainOn b trees k e) → b.was_true v.call.end.files → (db : Trees) → (state g (ran_in v.call.did).1).may_leave db → db ≡ (state g v.call.conn).committed.trees
-  vain_leaves v honest db may =
-      let same = (vain_in v.call.line v.call.conn v.call.end v.call.did v.none v.found).0 in
-      let clean = subst (λ (c : Held S). conn.HasCleanDisk (state g c)) same (closed_by v.call (vain_true v honest)).clean in
-      let there = subst (λ (c : Held S). (state g c).may_leave db) same may in
-      settles v.call.conn.store db v.reopens.opens.is_open (elim (cases_Bool (makes_station v.call)) [
-        | inl new ↦
-            let made = subst (λ new. HasOpened g k new v.call.conn (here_of v.call.line.station) (Err v.none)) new (opens_as v.call (Err v.none) v.found) in
-            subst (λ (c : Held S). (state g c).may_leave db) (left_alone v.call.conn (here_of v.call.line.station) v.none made (v.occupied new)) there
-        | inr old ↦ either ((found_as v.call (Err v.none) v.found old).unwritten_at_err.crash clean db there)
+  vain_leaves : (c : CallOn b k e) → IsVain c → conn.Opens (state g c.conn) → WasTrue c → (db : Trees) → (state g (ran_in c.did).1).may_leave db → db ≡ (state g c.conn).committed.trees
+  vain_leaves c vain opens honest db may =
+      let failed = fails_in c.line c.conn c.end c.did vain.none vain.failed in
+      let clean = subst (λ (h : Held S). conn.HasCleanDisk (state g h)) failed.1 (closed_by c honest).clean in
+      let there = subst (λ (h : Held S). (state g h).may_leave db) failed.1 may in
+      settles c.conn.store db opens.is_open (elim failed.0 [
+        | inl opened ↦ elim (cases_Bool (makes_station c)) [
+          | inl new ↦
+              let made = subst (λ new. HasOpened g k new c.conn (here_of c.line.station) (Err vain.none)) new opened in
+              subst (λ (h : Held S). (state g h).may_leave db) (left_alone c.conn (here_of c.line.station) vain.none made (vain.occupied new)) there
+          | inr old ↦
+              let found = subst (λ new. HasOpened g k new c.conn (here_of c.line.station) (Err vain.none)) old opened in
+              either (found.unwritten_at_err.crash clean db there)
+        ]
+        | inr moves ↦ either (((moves_in c.line c.conn c.end c.did (Err vain.none) moves).0.spares (vain.refused moves)).crash clean db there)
       ])
 
-  -- what an opening found
-  vain_known : (v : VainOn b trees k e) → b.was_true v.call.end.files → LeavesKnown g b trees (ran_in v.call.did).1
-  vain_known v honest db may = inr (v.reopens.files, v.call.conn, v.reopens.finds, vain_leaves v honest db may)
+  -- any database of files that are shown whole, one of a station, or what an opening found
+  abbrev Known : Trees → Type 0
+  Known db = b.is_whole ⊎ (IsOwn db ⊎ ((files : F) × (was : Held S) × b.finds trees files was × (db ≡ (state g was).committed.trees)))
 
-  through : (ran : Held S) (from : Result F L) (vs : List (VainOn b trees k e)) (files : F) → ((f : F) → b.may_hold from f → Has ran f) → AreVain from vs files → Has ran files
-  through ran from [] files base may = base files may
-  through ran from (v ∷ vs) files base (may, honest, rest) =
-      through ran v.call.end.files vs files (λ f may_f other finds.
-      ∥∥₁_elim ((closed_by v.call (vain_true v honest)).next (vain_known v honest) f may_f other finds) squash₁ (λ left.
-      subst (λ (db : Trees). ∥ (state g ran).may_leave db ∥₁) (sym (vain_leaves v honest _ left)) (base v.reopens.files may v.call.conn v.reopens.finds))) rest
+  -- a call leaves only such databases, of which P holds
+  abbrev Leaves : (Trees → Type 0) → CallOn b k e → Type 0
+  Leaves P c = (db : Trees) → (state g (ran_in c.did).1).may_leave db → P db × Known db
+
+  -- and P holds of what an opening of these files shows
+  abbrev Shows : (Trees → Type 0) → F → Type 0
+  Shows P files = (other : Held S) → b.finds trees files other → ∥ P (state g other).committed.trees ∥₁
+
+  shows_next : (P : Trees → Type 0) (c : CallOn b k e) → WasTrue c → Leaves P c → (files : F) → b.may_hold c.end.files files → Shows P files
+  shows_next P c honest leaves files may other finds =
+      ∥∥₁_map ((closed_by c honest).next (λ db left. (leaves db left).1) files may other finds) (λ left. (leaves (state g other).committed.trees left).0)
+
+  -- what each call of a kind keeps is kept through calls of that kind
+  through : (P : Trees → Type 0) (Kind : CallOn b k e → Type 0) → ((c : OpenedOn b trees k e) → Kind c.call → WasTrue c.call → P (state g c.call.conn).committed.trees → Leaves P c.call)
+      → (from : Result F L) (cs : List (OpenedOn b trees k e)) (files : F) → ((f : F) → b.may_hold from f → Shows P f)
+      → AllByRecursion (λ (c : OpenedOn b trees k e). Kind c.call) cs → AreBetween trees from cs files → Shows P files
+  through P Kind keeps from [] files base each may = base files may
+  through P Kind keeps from (c ∷ cs) files base (one, each) (may, honest, rest) =
+      through P Kind keeps c.call.end.files cs files (λ f may_f other finds.
+      ∥∥₁_elim (base c.reopens.files may c.call.conn c.reopens.finds) squash₁ (λ here. shows_next P c.call honest (keeps c one honest here) f may_f other finds)) each rest
+
+  keeps_vain : (P : Trees → Type 0) (c : OpenedOn b trees k e) → IsVain c.call → WasTrue c.call → P (state g c.call.conn).committed.trees → Leaves P c.call
+  keeps_vain P c vain honest here db may =
+      let same = vain_leaves c.call vain c.reopens.opens honest db may in
+      (subst P (sym same) here, inr (inr (c.reopens.files, c.call.conn, c.reopens.finds, same)))
 
   record Next (s : State) (c d : RunOn b k e) : Type 0 where
     pub mid : State
@@ -394,17 +503,18 @@ module _ {S F L I W E : Type 0} {g : Ghosts S} (b : Backing (Held S) F L) (trees
     pub of : IsLifeOf c life
     pub is : IsAfterLife s life mid
 
-  next : (s : State) (c : RunOn b k e) (n : NextOn b trees k e) → k.keeps c.station s → k.is_sound c.station → WasTrue c.call → AreVain c.call.end.files n.vain n.reopens.files → WasTrue n.run.call → ∥ Next s c n.run ∥₁
-  next s c n kept sound honest may honest_d =
-      let d = n.run in
+  next : (s : State) (c d : RunOn b k e) → IsNext trees IsVain c.call.end.files d → k.keeps c.station s → k.is_sound c.station → WasTrue c.call → WasTrue d.call → ∥ Next s c d ∥₁
+  next s c d n kept sound honest honest_d =
       let run = ends_by c in
       let ran = ran_in c.call.did in
       let last_sound = run.premise.still sound (last_clean c honest) in
       let lived = run.lived s kept (works_by c) last_sound in
       let closed = closed_by c.call honest in
-      ∥∥₁_map (through ran.1 c.call.end.files n.vain n.reopens.files (closed.next (leaves_own c honest last_sound)) may d.call.conn n.reopens.finds) (λ may_leave.
+      let Left = (state g ran.1).may_leave in
+      let leaves : Leaves Left c.call = λ db may. (may, leaves_own c honest last_sound db may) in
+      ∥∥₁_map (through Left IsVain (keeps_vain Left) c.call.end.files n.between n.reopens.files (shows_next Left c.call honest leaves) n.each n.hold d.call.conn n.reopens.finds) (λ may_leave.
       let shown = subst (λ (db : Database). (state g ran.1).may_leave db.trees) (sym n.reopens.opens.clean) may_leave in
-      let on = goes_on run.last ran.1 d.call.conn (Ok d.station) last_sound run.released closed.clean shown (found_as d.call (Ok d.station) d.found n.old) in
+      let on = goes_on run.last ran.1 d.call.conn (Ok d.station) last_sound run.released closed.clean shown (found_by d n.old) in
       let clean = station_clean d honest_d in
       let it = on.found clean in
       record {
@@ -417,7 +527,7 @@ module _ {S F L I W E : Type 0} {g : Ghosts S} (b : Backing (Held S) F L) (trees
         is = lived.is it.0 it.1;
       })
 
-  record Chain (s : State) (c : RunOn b k e) (ds : List (NextOn b trees k e)) : Type 0 where
+  record Chain (s : State) (c : RunOn b k e) (ds : List (RunOn b k e)) : Type 0 where
     pub last : State
     pub kept : k.keeps (last_of c ds).station last
     pub law : IsLawfulState last
@@ -425,15 +535,15 @@ module _ {S F L I W E : Type 0} {g : Ghosts S} (b : Backing (Held S) F L) (trees
     pub each : AreLivesOf c ds lives
     pub are : AreLives s lives last
 
-  first_true : (d : RunOn b k e) (ds : List (NextOn b trees k e)) → AreCallsOn d ds → WasTrue d.call
+  first_true : (d : RunOn b k e) (ds : List (RunOn b k e)) → AreRuns trees d ds → WasTrue d.call
   first_true d [] are = are
   first_true d (more ∷ ds) are = are.0
 
-  chain : (s : State) (c : RunOn b k e) (ds : List (NextOn b trees k e)) → k.keeps c.station s → k.is_sound c.station → IsLawfulState s → AreCallsOn c ds → ∥ Chain s c ds ∥₁
+  chain : (s : State) (c : RunOn b k e) (ds : List (RunOn b k e)) → k.keeps c.station s → k.is_sound c.station → IsLawfulState s → AreRuns trees c ds → ∥ Chain s c ds ∥₁
   chain s c [] kept sound law are = ∣ record { last = s; kept = kept; law = law; lives = []; each = tt; are = refl } ∣₁
   chain s c (d ∷ ds) kept sound law (honest, may, are) =
-      ∥∥₁_elim (next s c d kept sound honest may (first_true d.run ds are)) squash₁ (λ one.
-      ∥∥₁_map (chain one.mid d.run ds one.kept one.sound one.law are) (λ rest. record {
+      ∥∥₁_elim (next s c d may kept sound honest (first_true d ds are)) squash₁ (λ one.
+      ∥∥₁_map (chain one.mid d ds one.kept one.sound one.law are) (λ rest. record {
         last = rest.last;
         kept = rest.kept;
         law = rest.law;
@@ -442,11 +552,173 @@ module _ {S F L I W E : Type 0} {g : Ghosts S} (b : Backing (Held S) F L) (trees
         are = (one.mid, one.is, rest.are);
       }))
 
-  pub have_led : ((start : State) (events : List RetryEvent) → ActsOnce start events) → (first : State) (c : RunOn b k e) (ds : List (NextOn b trees k e)) → IsLawfulState first → k.keeps c.station first → k.is_sound c.station → AreCallsOn c ds → ∥ HaveLed first c ds ∥₁
-  have_led once first c ds law kept sound are = ∥∥₁_map (chain first c ds kept sound law are) (λ all. record {
-    last = all.last;
-    kept = all.kept;
-    lives = all.lives;
-    each = all.each;
-    are = after_calls once first all.lives all.last all.law all.are;
-  })
+  -- ---- the first run
+
+  record Started (May : State → Type 0) (run : RunOn b k e) : Type 0 where
+    pub first : State
+    pub may : May first
+    pub law : IsLawfulState first
+    pub kept : k.keeps run.station first
+    pub sound : k.is_sound run.station
+
+  -- a run that finds the tables of a new or upgraded station keeps its first state
+  started : (May : State → Type 0) (run : RunOn b k e) → WasTrue run.call → makes_station run.call ≡ false → conn.Opens (state g run.call.conn) → IsBegun May (state g run.call.conn).committed.trees → Started May run
+  started May run honest old opens begun =
+      let found = found_by run old in
+      let clean = station_clean run honest in
+      let sound = sound_is run.call.conn run.station found clean (subst (λ (db : Database). IsOwn db.trees) (sym opens.clean) begun.own) in
+      let it = found.found clean in
+      let typed = subst (λ (db : Database). IsTypedState db it.0) opens.clean (found.typed sound it.0 it.1) in
+      let same : it.0 ≡ begun.first = sym typed.means.1 ∙ (begun.typed (state g run.call.conn).committed.schema).means.1 in
+      record { first = begun.first; may = begun.may; law = begun.law; kept = subst (k.keeps run.station) same it.2; sound = sound }
+
+  -- the connection of a call that was just opened, over a database that is known
+  record IsShown (c : CallOn b k e) : Type 0 where
+    pub opens : conn.Opens (state g c.conn)
+    pub now : IsDatabase (state g c.conn).now
+    pub known : Known (state g c.conn).committed.trees
+
+  shown_by : (first : CallOn b k e) → WasTrue first → (c : CallOn b k e) → Reopens b trees k e c → IsShown c
+  shown_by first honest c re = record {
+    opens = re.opens;
+    now = ((closed_by first honest).live re.files c.conn re.finds re.opens.is_open).0;
+    known = inr (inr (re.files, c.conn, re.finds, refl));
+  }
+
+  -- After a first call, an opening shows what that call found, or a new or upgraded station.
+  abbrev Left : CallOn b k e → (State → Type 0) → Trees → Type 0
+  Left first May db = (IsShown first × (db ≡ (state g first.conn).committed.trees)) ⊎ IsBegun May db
+
+  known : (first : CallOn b k e) (May : State → Type 0) (db : Trees) → Left first May db → Left first May db × Known db
+  known first May db (inl (at, is)) = (inl (at, is), subst Known (sym is) at.known)
+  known first May db (inr begun) = (inr begun, inr (inl begun.own))
+
+  -- the same trees have one schema
+  same_now : (first c : CallOn b k e) → IsShown first → IsShown c → (state g c.conn).committed.trees ≡ (state g first.conn).committed.trees → (state g c.conn).now ≡ (state g first.conn).now
+  same_now first c at shown is =
+      let was = (state g first.conn).now in
+      let now = (state g c.conn).now in
+      let same : now.trees ≡ was.trees = ap (λ (db : Database). db.trees) shown.opens.clean ∙ is ∙ sym (ap (λ (db : Database). db.trees) at.opens.clean) in
+      let schema = lists_once (was.trees catalog_tree) now.schema was.schema (subst (IsSound now.schema) same shown.now).lists at.now.lists in
+      λ i. record { schema = schema i; trees = same i }
+
+  or_vain : (P : Trees → Type 0) (Kind : CallOn b k e → Type 0) → ((c : OpenedOn b trees k e) → Kind c.call → WasTrue c.call → P (state g c.call.conn).committed.trees → Leaves P c.call)
+      → (c : OpenedOn b trees k e) → IsVain c.call ⊎ Kind c.call → WasTrue c.call → P (state g c.call.conn).committed.trees → Leaves P c.call
+  or_vain P Kind keeps c (inl vain) honest here = keeps_vain P c vain honest here
+  or_vain P Kind keeps c (inr is) honest here = keeps c is honest here
+
+  begins : (first : CallOn b k e) → WasTrue first → (May : State → Type 0) → (IsShown first → IsBare (state g first.conn).now.schema) → (Kind : CallOn b k e → Type 0)
+      → ((c : OpenedOn b trees k e) → Kind c.call → WasTrue c.call → Left first May (state g c.call.conn).committed.trees → Leaves (Left first May) c.call) → Leaves (Left first May) first
+      → (run : RunOn b k e) → IsNext trees (λ c. IsVain c ⊎ Kind c) first.end.files run → WasTrue run.call → ∥ Started May run ∥₁
+  begins first honest May bare Kind keeps leaves run next honest_run =
+      ∥∥₁_map (through (Left first May) (λ c. IsVain c ⊎ Kind c) (or_vain (Left first May) Kind keeps) first.end.files next.between next.reopens.files
+      (shows_next (Left first May) first honest leaves) next.each next.hold run.call.conn next.reopens.finds) (λ shown. elim shown as (λ _. Started May run) [
+        | inl (at, is) ↦
+            let found = (found_by run next.old).found (station_clean run honest_run) in
+            let same = same_now first run.call at (shown_by first honest run.call next.reopens) is in
+            absurd (is_bare (state g first.conn).now found.0 (subst (λ db. IsStateIn db found.0) same found.1) (bare at))
+        | inr begun ↦ started May run honest_run next.old next.reopens.opens begun
+      ])
+
+  -- what an upgrade leaves of tables that mean a state
+  upgraded : (c : CallOn b k e) (up : IsUpgrade c) (s : State) → IsOldStateIn (state g c.conn).now s → WasTrue c → (Re : Type 0) → OnErr up.migrated Re → (db : Trees) → (state g (ran_in c.did).1).may_leave db
+      → (Re × (state g c.conn).may_leave db) ⊎ IsBegun (λ t. t ≡ s) db
+  upgraded c up s in_ honest Re re db may = go up.migrated up.upgrades re
+    where
+      begun : IsMigrated (state g c.conn).now db → IsBegun (λ t. t ≡ s) db
+      begun it = record { own = it.own; first = s; may = refl; typed = λ schema. record { means = it.means s in_ }; law = is_lawful _ s in_ }
+
+      go : (r : Result (Held S) (Held S × AttachFault)) → UpgradesIn c.did r → OnErr r Re → (Re × (state g c.conn).may_leave db) ⊎ IsBegun (λ t. t ≡ s) db
+      go (Ok moved) is re =
+          let moves = moves_in c.line c.conn c.end c.did (Ok moved) is in
+          let clean = subst (λ (h : Held S). conn.HasCleanDisk (state g h)) moves.1 (closed_by c honest).clean in
+          let has = moves.0.moved clean up.old lies in
+          inr (begun (subst (IsMigrated (state g c.conn).now) (sym (has.alone db (subst (λ (h : Held S). (state g h).may_leave db) moves.1 may))) has.migrated))
+      go (Err none) is re =
+          let moves = moves_in c.line c.conn c.end c.did (Err none) is in
+          let clean = subst (λ (h : Held S). conn.HasCleanDisk (state g h)) moves.1 (closed_by c honest).clean in
+          elim (moves.0.leaves clean up.old lies db (subst (λ (h : Held S). (state g h).may_leave db) moves.1 may)) [ inl was ↦ inl (re, was) | inr it ↦ inr (begun it) ]
+
+  -- what an `init` that failed leaves
+  init_leaves : (c : CallOn b k e) (airports : List (List ℕ)) → IsFailedInit c airports → conn.Opens (state g c.conn) → WasTrue c → (db : Trees) → (state g (ran_in c.did).1).may_leave db
+      → (db ≡ (state g c.conn).committed.trees) ⊎ IsBegun (λ t. (here : List ℕ) × Contains airports here × (t ≡ opening here)) db
+  init_leaves c airports init opens honest db may =
+      let failed = fails_in c.line c.conn c.end c.did init.none init.failed in
+      let clean = subst (λ (h : Held S). conn.HasCleanDisk (state g h)) failed.1 (closed_by c honest).clean in
+      let there = subst (λ (h : Held S). (state g h).may_leave db) failed.1 may in
+      elim failed.0 [
+        | inl opened ↦
+            let made = subst (λ new. HasOpened g k new c.conn (here_of c.line.station) (Err init.none)) (init_is_new c.line.db c.line.command init.init) opened in
+            elim (made.survives.crash clean db there) [
+              | inl was ↦ inl (settles c.conn.store db opens.is_open was)
+              | inr file ↦
+                  let it = file init.vacant in
+                  inr (record { own = it.own; first = opening (here_of c.line.station); may = (here_of c.line.station, init.here, refl); typed = λ schema. record { means = it.means }; law = it.lawful })
+            ]
+        | inr moves ↦ absurd (let never : true ≡ false = sym (is_upgrade c.line c.conn c.end c.did (Err init.none) moves) ∙ ap is_migration init.init in cc)
+      ]
+
+  -- the same, and the next upgrades
+  module _ (first : CallOn b k e) (honest : WasTrue first) (up : IsUpgrade first) (s : State) (means : IsOldStateIn (state g first.conn).now s)
+      (reopens : OnErr up.migrated (Reopens b trees k e first)) where
+    abbrev May : State → Type 0
+    May t = t ≡ s
+
+    upgrade_first : Leaves (Left first May) first
+    upgrade_first db may = known first May db (elim (upgraded first up s means honest (Reopens b trees k e first) reopens db may) [
+      | inl (re, was) ↦ inl (shown_by first honest first re, settles first.conn.store db re.opens.is_open was)
+      | inr begun ↦ inr begun
+    ])
+
+    upgrade_again : (c : OpenedOn b trees k e) → IsUpgrade c.call → WasTrue c.call → Left first May (state g c.call.conn).committed.trees → Leaves (Left first May) c.call
+    upgrade_again c again honest_c (inl (at, is)) db may =
+        let in_ = subst (λ db. IsOldStateIn db s) (sym (same_now first c.call at (shown_by first honest c.call c.reopens) is)) means in
+        known first May db (elim (upgraded c.call again s in_ honest_c (Unit {0}) (given again.migrated tt) db may) [
+          | inl (nothing, was) ↦ inl (at, settles c.call.conn.store db c.reopens.opens.is_open was ∙ is)
+          | inr begun ↦ inr begun
+        ])
+    upgrade_again c again honest_c (inr begun) db may =
+        let now = (state g c.call.conn).now in
+        let shown = shown_by first honest c.call c.reopens in
+        let is_own = subst (λ (db : Database). IsOwn db.trees) (sym shown.opens.clean) begun.own in
+        absurd (two_versions (sym (owned_old now again.old shown.now) ∙ owned now is_own shown.now))
+
+    upgrade_bare : IsShown first → IsBare (state g first.conn).now.schema
+    upgrade_bare at = subst IsBare (sym (owned_old (state g first.conn).now up.old at.now)) old_bare
+
+  module _ (first : CallOn b k e) (honest : WasTrue first) (airports : List (List ℕ)) (init : IsFailedInit first airports)
+      (opens : conn.Opens (state g first.conn)) (live : conn.IsLive (state g first.conn)) (whole : b.is_whole) where
+    abbrev MayMake : State → Type 0
+    MayMake t = (here : List ℕ) × Contains airports here × (t ≡ opening here)
+
+    init_first : Leaves (Left first MayMake) first
+    init_first db may = known first MayMake db (elim (init_leaves first airports init opens honest db may) [
+      | inl is ↦ inl (record { opens = opens; now = (live opens.is_open).0; known = inl whole }, is)
+      | inr begun ↦ inr begun
+    ])
+
+    init_again : (c : OpenedOn b trees k e) → IsFailedInit c.call airports → WasTrue c.call → Left first MayMake (state g c.call.conn).committed.trees → Leaves (Left first MayMake) c.call
+    init_again c again honest_c here db may = known first MayMake db (elim (init_leaves c.call airports again c.reopens.opens honest_c db may) [
+      | inl is ↦ subst (Left first MayMake) (sym is) here
+      | inr begun ↦ inr begun
+    ])
+
+  start : (run : RunOn b k e) (begins : Begins trees run) → WasTrue run.call → ∥ Started (MayBegin begins) run ∥₁
+  start run (with_station s law kept sound) honest = ∣ record { first = s; may = refl; law = law; kept = kept; sound = sound } ∣₁
+  start run (after_upgrade it) honest = begins it.first it.honest (λ t. t ≡ it.was) (upgrade_bare it.first it.honest it.upgrade it.was it.means it.reopens) IsUpgrade
+      (upgrade_again it.first it.honest it.upgrade it.was it.means it.reopens) (upgrade_first it.first it.honest it.upgrade it.was it.means it.reopens) run it.next honest
+  start run (after_init it) honest = begins it.first it.honest (λ t. (here : List ℕ) × Contains it.airports here × (t ≡ opening here)) (λ at. subst IsBare (sym it.init.vacant) none_bare) (λ c. IsFailedInit c it.airports)
+      (init_again it.first it.honest it.airports it.init it.opens.0 it.opens.1 it.whole) (init_first it.first it.honest it.airports it.init it.opens.0 it.opens.1 it.whole) run it.next honest
+
+  pub have_led : ((start : State) (events : List RetryEvent) → ActsOnce start events) → (run : RunOn b k e) (begins : Begins trees run) (runs : List (RunOn b k e)) → AreRuns trees run runs → ∥ HaveLed begins runs ∥₁
+  have_led once run begins runs are =
+      ∥∥₁_elim (start run begins (first_true run runs are)) squash₁ (λ it.
+      ∥∥₁_map (chain it.first run runs it.kept it.sound it.law are) (λ all. record {
+        first = it.first;
+        begun = it.may;
+        last = all.last;
+        kept = all.kept;
+        lives = all.lives;
+        each = all.each;
+        are = after_calls once it.first all.lives all.last all.law all.are;
+      }))

@@ -17,7 +17,8 @@ use Rattle.cli_call.specs.Ended.{HasTold}
 use Rattle.cli_call.specs.Ran.{HasCalled}
 
 -- A call with this status closed its file. After a fault the log stays, and nothing more is
--- reported. Otherwise the log is copied into the database file, if the disk is clean, or the
+-- reported; the store was opened by a list in the order of its trees, if the disk is clean
+-- (`numbered`). Otherwise the log is copied into the database file, if the disk is clean, or the
 -- store's fault is reported. If it isn't copied, the crash states of the store are those from
 -- before.
 pub record HasClosed {C F L E : Type 0} (b : Backing C F L) (conn : C) (told : E → Given) (old new : ℕ × E)

@@ -1,8 +1,8 @@
 -- Calls of the program over one file, one after another.
-use Rattle.std.specs.Prelude.{◌≤◌, ◌≡◌, ℕ, zero, suc, Bool, true, false, Result, Ok, Err, IfErr, Option, Some, None, length, List, [], ◌∷◌, ◌++◌, All}
+use Rattle.std.specs.Prelude.{◌≤◌, ◌≡◌, ◌≢◌, ◌⊎◌, ℕ, zero, suc, Bool, true, false, Result, Ok, Err, IfErr, OnErr, Option, Some, None, length, List, [], ◌∷◌, ◌++◌, All, Contains}
 use Rattle.std.specs.List.{AllByRecursion}
 use Rattle.sqlite.specs.Held.{state, Held}
-use Rattle.sqlite.specs.State.{Opens}
+use Rattle.sqlite.specs.State.{IsLive, Opens}
 use Rattle.sqlite_trees.specs.declared.schema.Object.{Object}
 use Rattle.sqlite_trees.specs.declared.store.Store.{Ghosts}
 use Rattle.station_days.specs.Date.{LocalMinute}
@@ -10,16 +10,20 @@ use Rattle.station_core.specs.declared.answer.ActFault.TheVariants as fault
 use Rattle.station_core.specs.declared.input.Input.{Input}
 use Rattle.station_core.specs.Keeping.{Keeping}
 use Rattle.station_core.specs.Retries.{RetryEvent, sent, cut_after, reopened, started, ActsOnce, committed}
-use Rattle.station_core.specs.Step.{State, IsLawfulState, after_all}
+use Rattle.station_core.specs.Step.{State, IsLawfulState, after_all, opening}
 use Rattle.station_files.specs.Backing.{Backing}
+use Rattle.station_schema.specs.Connection.{IsVacant}
+use Rattle.station_schema.specs.Own.{IsOldOwn}
+use Rattle.station_tables.specs.Attached.{IsOldStateIn}
 use Rattle.station_tables.specs.Lives.{Life, IsAfterLives}
 use Rattle.station_tables.specs.declared.fault.AttachFault.{AttachFault}
 use Rattle.station_tables.specs.declared.fault.AttachFault.TheVariants as attach
 use Rattle.station_tables.specs.declared.station.Station.{Station}
 use Rattle.cli_words.specs.declared.line.Line.{Line}
+use Rattle.cli_words.specs.declared.line.LineCommand.TheVariants as command
 use Rattle.cli_run.specs.Ends.{Ends, Reached}
 use Rattle.cli_run.specs.Left.{AsksAt}
-use Rattle.cli_run.specs.Place.{is_migration, is_new}
+use Rattle.cli_run.specs.Place.{here_of, is_migration, is_new}
 use Rattle.cli_call.specs.declared.closing.FileEnd.{FileEnd}
 use Rattle.desk_server.specs.Asked.{AreAskedBy, WasWritten}
 use Rattle.cli_call.specs.Closed.{HasCalledFile}
@@ -33,7 +37,6 @@ module _ {S F L I W E : Type 0} {g : Ghosts S} (b : Backing (Held S) F L) (k : K
     pub from : Reached I W E
     pub to : Reached I W E
     pub has : HasCalledFile b line k e at conn (from, to) end
-    pub runs : is_migration line.command ≡ false
 
   -- connections were served over a connection to a file, which was then closed
   pub record ServedOver : Type 0 where
@@ -42,32 +45,49 @@ module _ {S F L I W E : Type 0} {g : Ghosts S} (b : Backing (Held S) F L) (k : K
     pub to : W × E
     pub has : HasServedFile b line k (e.printed, e.told) count conn (from, to) end
 
-  -- one of the two
+  -- one of the two; a command line may be an upgrade
   pub data DidOver : Type 0 where
-    by_command : RanOver → DidOver
+    by_command : RanOver → is_migration line.command ≡ false → DidOver
+    by_upgrade : RanOver → is_migration line.command ≡ true → DidOver
     by_service : ServedOver → DidOver
 
 module _ {S F L I W E : Type 0} {g : Ghosts S} {b : Backing (Held S) F L} {k : Keeping (Station S g)} {e : Ends I W E}
     {line : Line} {conn : Held S} {end : FileEnd F L} where
-  -- the result of the opening
-  abbrev pub opened_in : DidOver b k e line conn end → Result (Station S g) (Held S × AttachFault)
-  opened_in (by_command ran) = (ran.has.called.called ran.runs).opened
-  opened_in (by_service served) = served.has.called.opened
+  -- the opening found this station or made it
+  abbrev pub FindsIn : DidOver b k e line conn end → Station S g → Type 0
+  FindsIn (by_command ran runs) it = (ran.has.called.called runs).opened ≡ Ok it
+  FindsIn (by_upgrade ran runs) it = ⊥
+  FindsIn (by_service served) it = served.has.called.opened ≡ Ok it
+
+  -- it returned this connection and this fault
+  abbrev pub FailsIn : DidOver b k e line conn end → Held S × AttachFault → Type 0
+  FailsIn (by_command ran runs) none = (ran.has.called.called runs).opened ≡ Err none
+  FailsIn (by_upgrade ran runs) none = (ran.has.called.migrated runs).migrated ≡ Err none
+  FailsIn (by_service served) none = served.has.called.opened ≡ Err none
+
+  -- the call was an upgrade with this result
+  abbrev pub UpgradesIn : DidOver b k e line conn end → Result (Held S) (Held S × AttachFault) → Type 0
+  UpgradesIn (by_command ran runs) result = ⊥
+  UpgradesIn (by_upgrade ran runs) result = (ran.has.called.migrated runs).migrated ≡ result
+  UpgradesIn (by_service served) result = ⊥
 
   -- the exit status before the file was closed, and its connection
   abbrev pub ran_in : DidOver b k e line conn end → ℕ × Held S
-  ran_in (by_command ran) = ran.has.ran
+  ran_in (by_command ran runs) = ran.has.ran
+  ran_in (by_upgrade ran runs) = ran.has.ran
   ran_in (by_service served) = served.has.ran
 
-  -- the inputs are those of the command, at its moment; or those of the connections that were
-  -- served, each at its moment, in their order
+  -- the inputs are those of the command, at its moment, an upgrade has none; or those of the
+  -- connections that were served, each at its moment, in their order
   abbrev pub AreInputsOf : DidOver b k e line conn end → List (Input × LocalMinute) → Type 0
-  AreInputsOf (by_command ran) inputs = AllByRecursion (AsksAt line.command ran.at) inputs
+  AreInputsOf (by_command ran runs) inputs = AllByRecursion (AsksAt line.command ran.at) inputs
+  AreInputsOf (by_upgrade ran runs) inputs = inputs ≡ []
   AreInputsOf (by_service served) inputs = AreAskedBy served.has.called.all inputs
 
   -- no write of a service's answer failed
   abbrev pub NoneLost : DidOver b k e line conn end → Type 0
-  NoneLost (by_command ran) = Unit {0}
+  NoneLost (by_command ran runs) = Unit {0}
+  NoneLost (by_upgrade ran runs) = Unit {0}
   NoneLost (by_service served) = All WasWritten served.has.called.all
 
 module _ {S F L I W E : Type 0} {g : Ghosts S} (b : Backing (Held S) F L) (k : Keeping (Station S g)) (e : Ends I W E) where
@@ -80,10 +100,6 @@ module _ {S F L I W E : Type 0} {g : Ghosts S} (b : Backing (Held S) F L) (k : K
     pub did : DidOver b k e line conn end
 
 module _ {S F L I W E : Type 0} {g : Ghosts S} {b : Backing (Held S) F L} {k : Keeping (Station S g)} {e : Ends I W E} where
-  -- the result of its opening
-  abbrev pub opened_by : CallOn b k e → Result (Station S g) (Held S × AttachFault)
-  opened_by call = opened_in call.did
-
   -- the call makes a station, as `init` does
   abbrev pub makes_station : CallOn b k e → Bool
   makes_station call = is_new call.line.db call.line.command
@@ -98,7 +114,7 @@ module _ {S F L I W E : Type 0} {g : Ghosts S} (b : Backing (Held S) F L) (k : K
   pub record RunOn : Type 0 where
     pub call : CallOn b k e
     pub station : Station S g
-    pub found : opened_by call ≡ Ok station
+    pub found : FindsIn call.did station
 
 -- The inputs of a life are those of its call. A call that succeeded answered all of them; a service
 -- did if no write of an answer failed.
@@ -116,46 +132,107 @@ module _ {S F L I W E : Type 0} {g : Ghosts S} (b : Backing (Held S) F L) (trees
     pub opens : Opens (state g call.conn)
     pub finds : b.finds trees files call.conn
 
-  -- A vain call: it found no station, or a fault stopped its opening; or it would have made a
-  -- station where there is one.
-  pub record VainOn : Type 0 where
+  -- a call that opened two files
+  pub record OpenedOn : Type 0 where
     pub call : CallOn b k e
     pub reopens : Reopens call
-    pub none : Held S × AttachFault
-    pub found : opened_by call ≡ Err none
-    pub occupied : makes_station call ≡ true → none.1 ≡ attach.Occupied
 
-  -- a run that found a station, after some vain calls
-  pub record NextOn : Type 0 where
-    pub vain : List VainOn
-    pub run : RunOn b k e
-    pub reopens : Reopens run.call
+module _ {S F L I W E : Type 0} {g : Ghosts S} {b : Backing (Held S) F L} {k : Keeping (Station S g)} {e : Ends I W E}
+    (call : CallOn b k e) where
+  -- A vain call: it found no station, or a fault stopped its opening. An `init` or an upgrade is
+  -- vain if it was refused.
+  pub record IsVain : Type 0 where
+    pub none : Held S × AttachFault
+    pub failed : FailsIn call.did none
+    pub occupied : makes_station call ≡ true → none.1 ≡ attach.Occupied
+    pub refused : UpgradesIn call.did (Err none) → none.1 ≢ attach.Store
+
+  -- an upgrade, however it ended, of a file whose tables a station of version 1 declared
+  pub record IsUpgrade : Type 0 where
+    pub migrated : Result (Held S) (Held S × AttachFault)
+    pub upgrades : UpgradesIn call.did migrated
+    pub old : IsOldOwn (state g call.conn).now.trees
+
+  -- an `init` at one of these airports that failed, over a database without tables
+  pub record IsFailedInit (airports : List (List ℕ)) : Type 0 where
+    pub none : Held S × AttachFault
+    pub failed : FailsIn call.did none
+    pub init : call.line.command ≡ command.Init
+    pub here : Contains airports (here_of call.line.station)
+    pub vacant : IsVacant g call.conn
+
+module _ {S F L I W E : Type 0} {g : Ghosts S} {b : Backing (Held S) F L} (trees : List Object) {k : Keeping (Station S g)}
+    {e : Ends I W E} where
+  -- Calls after the end of another, each of which finds in the files what the one before it may
+  -- have left there, and what they hold then. Nobody else wrote to them.
+  abbrev pub AreBetween : Result F L → List (OpenedOn b trees k e) → F → Type 0
+  AreBetween end [] files = b.may_hold end files
+  AreBetween end (call ∷ more) files =
+      b.may_hold end call.reopens.files × WasTrue call.call × AreBetween call.call.end.files more files
+
+  -- a run that found a station, after the end of another call and calls of a kind
+  pub record IsNext (Kind : CallOn b k e → Type 0) (end : Result F L) (run : RunOn b k e) : Type 0 where
+    pub between : List (OpenedOn b trees k e)
+    pub each : AllByRecursion (λ (it : OpenedOn b trees k e). Kind it.call) between
+    pub reopens : Reopens b trees k e run.call
+    pub hold : AreBetween end between reopens.files
     pub old : makes_station run.call ≡ false
 
-module _ {S F L I W E : Type 0} {g : Ghosts S} {b : Backing (Held S) F L} {trees : List Object} {k : Keeping (Station S g)}
-    {e : Ends I W E} where
-  -- vain calls, each of which finds in the files what the one before it may have left there, and
-  -- what they hold then
-  abbrev pub AreVain : Result F L → List (VainOn b trees k e) → F → Type 0
-  AreVain end [] files = b.may_hold end files
-  AreVain end (vain ∷ more) files =
-      b.may_hold end vain.reopens.files × b.was_true vain.call.end.files × AreVain vain.call.end.files more files
+  -- runs over one file, one after another and each after some vain calls
+  abbrev pub AreRuns : RunOn b k e → List (RunOn b k e) → Type 0
+  AreRuns c [] = WasTrue c.call
+  AreRuns c (d ∷ ds) = WasTrue c.call × IsNext IsVain c.call.end.files d × AreRuns d ds
 
-  -- Calls over one file, each after some vain ones. Each finds in the files what the one before
-  -- it may have left there: nobody else wrote to them.
-  abbrev pub AreCallsOn : RunOn b k e → List (NextOn b trees k e) → Type 0
-  AreCallsOn c [] = WasTrue c.call
-  AreCallsOn c (d ∷ ds) = WasTrue c.call × AreVain c.call.end.files d.vain d.reopens.files × AreCallsOn d.run ds
-
-  abbrev pub last_of : RunOn b k e → List (NextOn b trees k e) → RunOn b k e
+module _ {S F L I W E : Type 0} {g : Ghosts S} {b : Backing (Held S) F L} {k : Keeping (Station S g)} {e : Ends I W E} where
+  abbrev pub last_of : RunOn b k e → List (RunOn b k e) → RunOn b k e
   last_of c [] = c
-  last_of c (d ∷ ds) = last_of d.run ds
+  last_of c (d ∷ ds) = last_of d ds
 
-  -- the lives of the calls except the last one
-  abbrev pub AreLivesOf : RunOn b k e → List (NextOn b trees k e) → List Life → Type 0
-  AreLivesOf c (d ∷ ds) (life ∷ lives) = IsLifeOf c life × AreLivesOf d.run ds lives
+  -- the lives of the runs except the last one
+  abbrev pub AreLivesOf : RunOn b k e → List (RunOn b k e) → List Life → Type 0
+  AreLivesOf c (d ∷ ds) (life ∷ lives) = IsLifeOf c life × AreLivesOf d ds lives
   AreLivesOf c [] [] = Unit {0}
   AreLivesOf _ _ _ = ⊥
+
+module _ {S F L I W E : Type 0} {g : Ghosts S} {b : Backing (Held S) F L} (trees : List Object) {k : Keeping (Station S g)}
+    {e : Ends I W E} (run : RunOn b k e) where
+  -- The run comes after an upgrade of a file of version 1 whose tables mean this state, and perhaps
+  -- vain calls and more upgrades. An upgrade that succeeded may have opened the files differently.
+  pub record IsAfterUpgrade : Type 0 where
+    pub first : CallOn b k e
+    pub upgrade : IsUpgrade first
+    pub was : State
+    pub means : IsOldStateIn (state g first.conn).now was
+    pub reopens : OnErr upgrade.migrated (Reopens b trees k e first)
+    pub honest : WasTrue first
+    pub next : IsNext trees (λ it. IsVain it ⊎ IsUpgrade it) first.end.files run
+
+  -- The run comes after an `init` that failed, and perhaps vain calls and more such inits. The first
+  -- one may have started the database, and the calls show the files whole.
+  pub record IsAfterInit : Type 0 where
+    pub airports : List (List ℕ)
+    pub first : CallOn b k e
+    pub init : IsFailedInit first airports
+    pub opens : Opens (state g first.conn) × IsLive (state g first.conn)
+    pub whole : b.is_whole
+    pub honest : WasTrue first
+    pub next : IsNext trees (λ it. IsVain it ⊎ IsFailedInit it airports) first.end.files run
+
+  -- The first run: it finds or makes a sound station with this lawful state, or comes after an
+  -- upgrade, or after an `init` that failed.
+  pub data Begins : Type 0 where
+    with_station : (s : State) → IsLawfulState s → k.keeps run.station s → k.is_sound run.station → Begins
+    after_upgrade : IsAfterUpgrade → Begins
+    after_init : IsAfterInit → Begins
+
+module _ {S F L I W E : Type 0} {g : Ghosts S} {b : Backing (Held S) F L} {trees : List Object} {k : Keeping (Station S g)}
+    {e : Ends I W E} {run : RunOn b k e} where
+  -- it begins with that state, with the state of version 1, or with a new station at one of the
+  -- airports
+  abbrev pub MayBegin : Begins trees run → State → Type 0
+  MayBegin (with_station s law kept sound) first = first ≡ s
+  MayBegin (after_upgrade it) first = first ≡ it.was
+  MayBegin (after_init it) first = (here : List ℕ) × Contains it.airports here × (first ≡ opening here)
 
 -- The events of a life that answered this many inputs, and of the next opening; `more` means that
 -- one more was cut off after its commit.
@@ -183,20 +260,20 @@ pub record IsAfterCalls (first : State) (lives : List Life) (last : State) : Typ
   pub once : ActsOnce first events
   pub state : last ≡ after_all first (committed (started first) events)
 
--- the state of the last call's station, and the lives before it
+-- the state of the first run's station and of the last one's, and the lives between them
 pub record HaveLed {S F L I W E : Type 0} {g : Ghosts S} {b : Backing (Held S) F L} {trees : List Object} {k : Keeping (Station S g)}
-    {e : Ends I W E} (first : State) (c : RunOn b k e) (calls : List (NextOn b trees k e)) : Type 0 where
+    {e : Ends I W E} {run : RunOn b k e} (begins : Begins trees run) (runs : List (RunOn b k e)) : Type 0 where
+  pub first : State
+  pub begun : MayBegin begins first
   pub last : State
-  pub kept : k.keeps (last_of c calls).station last
+  pub kept : k.keeps (last_of run runs).station last
   pub lives : List Life
-  pub each : AreLivesOf c calls lives
+  pub each : AreLivesOf run runs lives
   pub are : IsAfterCalls first lives last
 
--- This holds of any number of calls, the first of which finds or makes a sound station with a lawful
--- state.
+-- this holds of any number of runs, however the first one begins
 abbrev pub CallsLead : {S F L I W E : Type 0} {g : Ghosts S} → Backing (Held S) F L → Keeping (Station S g) → Ends I W E
     → Type 0
 CallsLead b k e =
-    (trees : List Object) → b.lists trees → (first : State) (run : RunOn b k e) (runs : List (NextOn b trees k e))
-    → IsLawfulState first → k.keeps run.station first → k.is_sound run.station → AreCallsOn run runs
-    → ∥ HaveLed first run runs ∥₁
+    (trees : List Object) → b.lists trees → (run : RunOn b k e) (begins : Begins trees run) (runs : List (RunOn b k e))
+    → AreRuns trees run runs → ∥ HaveLed begins runs ∥₁

@@ -1,5 +1,6 @@
 //! Laws about the calls of the program over one file.
 ghost use Rattle.station_files.specs.Backing.{own_files, whole_files, EndsLeadOn};
+ghost use Rattle.station_schema.specs.Own.{LiesInOrder};
 ghost use Rattle.cli_run.specs.Ends.{ends};
 ghost use Rattle.cli_call.specs.Leaving.{LeavesInputs, LeavesServed};
 ghost use Rattle.cli_call.specs.OneFile.{CallsLead};
@@ -11,7 +12,10 @@ use sqlite_disk::{Disk, Files};
 use sqlite_trees::store::Store;
 use station_core::laws::retry_law;
 use station_core::{ByteOut, Keeper};
-use station_files::{FileBacked, OwnTrees, files_lead_on, own_files_lead_on};
+use station_files::{
+    FileBacked, OwnTrees, files_lead_on, own_files_lead_on, own_files_lie_in_order,
+};
+use station_schema::files_lie_in_order;
 use station_tables::{Station, next_call_law};
 use std::io::Read;
 
@@ -37,7 +41,7 @@ fn calls_law<F, L, S: Alter, I: Inputs + Read, W: ByteOut, E: ByteOut>()
 where
     Connection<S>: FileBacked<F, L>,
     ensures { EndsLeadOn S.Store ⟦<Connection<S> as FileBacked<F, L>>⟧.backing
-        → CallsLead ⟦<Connection<S> as FileBacked<F, L>>⟧.backing
+        → LiesInOrder S.Store → CallsLead ⟦<Connection<S> as FileBacked<F, L>>⟧.backing
         ⟦<Station<S> as Keeper>⟧.keeping (ends I.remaining I.given I.turned W.taken E.taken) }
 {
     left_over_store::<S, I, W, E>();
@@ -50,13 +54,14 @@ where
 /// each of which finds in the files what the one before it may have left there, the last call's
 /// station has the state after every input that was answered and, for each call whose store failed,
 /// perhaps one more. There the pieces and the tenths are conserved, and each accepted input acted
-/// once.
+/// once. The first call may be an upgrade, however it ended, or an `init` that failed.
 pub fn calls_over_file_law<D: Disk + Drop, I: Inputs + Read, W: ByteOut, E: ByteOut>()
     ensures { CallsLead (whole_files D.Disk) ⟦<Station<FileStore<D>> as Keeper>⟧.keeping
         (ends I.remaining I.given I.turned W.taken E.taken) }
 {
     calls_law::<Files<D>, FileStore<D>, FileStore<D>, I, W, E>();
     files_lead_on::<D>();
+    files_lie_in_order::<D>();
 }
 
 /// The same over a file of which the trees of a list are shown, if the list names the trees of a
@@ -68,4 +73,5 @@ pub fn calls_beside_law<D: Disk + Drop, I: Inputs + Read, W: ByteOut, E: ByteOut
 {
     calls_law::<Files<D>, FileStore<D>, OwnTrees<FileStore<D>>, I, W, E>();
     own_files_lead_on::<D>();
+    own_files_lie_in_order::<D>();
 }
