@@ -3,6 +3,7 @@
 use cli_call::DeskFault;
 use cli_run::RunFault;
 use sqlite::{Connection, Error, ErrorCode, File, FileStore, Options, Unknown};
+use sqlite_disk::Tally;
 use sqlite_wal::PageSize;
 use station_files::{OLD_TREES, OwnTrees, open_beside, open_listed, open_new, station_trees};
 use station_tables::AttachFault;
@@ -184,14 +185,14 @@ fn is_blank(rt: &HostRuntime, path: &str) -> io::Result<bool> {
     }
 }
 
-/// Returns the number of pages in the cache: a quarter of the file's. An opening finds each row by
+/// Returns the number of pages in the cache: a fifth of the file's. An opening finds each row by
 /// its key, so the keys must fit, or each look-up reads a page again.
 fn cache_for(rt: &HostRuntime, path: &str) -> usize {
     let pages = match fs::metadata(rt, path) {
         Ok(found) => found.len() / PAGE_LEN as u64,
         Err(_) => 0,
     };
-    (pages / 4).max(LEAST_CACHE).min(MOST_CACHE) as usize
+    (pages / 5).max(LEAST_CACHE).min(MOST_CACHE) as usize
 }
 
 /// Returns the options of a file: the size of the cache, and a random number for the salts of its
@@ -262,5 +263,17 @@ pub fn tell_unopened(rt: &HostRuntime, path: &str, fault: FileFault) {
             Err(error) => eprint!(rt; "{path}: {error}\n"),
         },
         FileFault::Store(code) => eprint!(rt; "{path}: {code}\n"),
+    };
+}
+
+/// Writes how the disk failed, after the line of a store's fault: a write found no room, or a read
+/// gave other bytes than were written. Writes nothing if the library saw neither.
+pub fn tell_disk(rt: &HostRuntime, path: &str, tally: Tally) {
+    let _told = if tally.caught > 0 {
+        eprint!(rt; "{path}: the disk returned other bytes than were written; restore a back-up\n")
+    } else if tally.refused > 0 {
+        eprint!(rt; "{path}: the disk is full; make room, and start again\n")
+    } else {
+        Ok(())
     };
 }

@@ -1,13 +1,14 @@
 //! Running a command line over its station, in memory or in a file.
 
-use crate::files::{FileConnection, make_file, open_file, tell_unopened};
+use crate::files::{FileConnection, make_file, open_file, tell_disk, tell_unopened};
 use cli_call::{
     DeskFault, FileEnd, Service, end, run_file, run_gathered, serve_file, serve_kept,
     tell_undeclared,
 };
 use cli_run::{Feed, RunFault, airport_of_line, is_migration, is_opening};
 use cli_words::Line;
-use sqlite::{Alter, Connection};
+use sqlite::{Alter, Connection, File, FileStore};
+use sqlite_disk::Files;
 use state_store::MapState;
 use station_core::{ByteOut, Counted, InputReader, Keeper};
 use station_days::Moment;
@@ -75,20 +76,18 @@ fn run_in_memory<R: InputReader + Drop>(
     }
 }
 
-/// Warns if the tables of the file are declared differently, and returns the exit status.
-fn end_file<F: Drop, L: Drop, E: ByteOut>(
-    line: &Line<'_>,
-    ended: FileEnd<F, L>,
-    errors: &mut E,
-) -> u8 {
+/// Warns if the tables of the file are declared differently.
+fn warn_undeclared<F, L, E: ByteOut>(line: &Line<'_>, ended: &FileEnd<F, L>, errors: &mut E) {
     if ended.status <= 1 && !ended.is_declared && !is_opening(line) {
         tell_undeclared(errors, line);
     }
-    ended.status
 }
 
-/// Returns the exit status of a service whose file was closed.
-fn end_served<F: Drop, L: Drop>(ended: FileEnd<F, L>) -> u8 {
+/// Returns the exit status of a call whose file was closed. If the disk failed, a line says how.
+fn end_file(rt: &HostRuntime, path: &str, ended: FileEnd<Files<File>, FileStore<File>>) -> u8 {
+    if let Err(store) = &ended.files {
+        tell_disk(rt, path, store.tally());
+    }
     ended.status
 }
 
@@ -99,7 +98,7 @@ fn run_in_file<F: Drop, L: Drop, S: Alter, R: InputReader + Drop>(
     line: &Line<'_>,
     conn: Connection<S>,
     task: Task<'_, R>,
-) -> u8
+) -> FileEnd<F, L>
 where
     Connection<S>: FileBacked<F, L>,
 {
@@ -110,12 +109,10 @@ where
         Task::Run { reader, at } => {
             let mut feed = Feed::new(reader);
             let ended = run_file(alloc, line, conn, &mut feed, &mut output, &mut errors, at);
-            end_file(line, ended, &mut errors)
+            warn_undeclared(line, &ended, &mut errors);
+            ended
         }
-        Task::Serve(service) => {
-            let ended = serve_file(&service, line, conn, &mut output, &mut errors);
-            end_served(ended)
-        }
+        Task::Serve(service) => serve_file(&service, line, conn, &mut output, &mut errors),
     }
 }
 
@@ -130,8 +127,10 @@ pub fn run_over<R: InputReader + Drop>(rt: &HostRuntime, line: &Line<'_>, task: 
         open_file(rt, path, is_migration(line))
     };
     match opened {
-        Ok(FileConnection::Whole(conn)) => run_in_file(rt, line, conn, task),
-        Ok(FileConnection::Beside(conn)) => run_in_file(rt, line, conn, task),
+        Ok(FileConnection::Whole(conn)) => { end_file(rt, path, run_in_file(rt, line, conn, task)) }
+        Ok(FileConnection::Beside(conn)) => {
+            end_file(rt, path, run_in_file(rt, line, conn, task))
+        }
         Err(fault) => {
             let status = end_call(rt, Err(fault.ended()));
             tell_unopened(rt, path, fault);

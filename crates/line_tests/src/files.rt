@@ -18,17 +18,30 @@ pub struct FileBytes {
     db: Vec<u8>,
 }
 
-#[derive(Drop)]
-enum Opened {
-    Whole(Connection<FileStore<Memory>>, &'static str),
-    Beside(Connection<OwnTrees<FileStore<Memory>>>),
+/// A disk that holds bytes.
+pub trait HeldDisk: Disk + Drop {
+    fn holding(alloc: Global, bytes: &[u8]) -> Option<Self>;
+
+    fn copied(&self, alloc: Global) -> Option<Vec<u8>>;
 }
 
-fn file_of(alloc: Global, bytes: &[u8]) -> Option<Memory> {
-    let mut file = Memory::new(alloc);
-    file.write_at(0, bytes).ok()?;
-    file.sync().ok()?;
-    Some(file)
+impl HeldDisk for Memory {
+    fn holding(alloc: Global, bytes: &[u8]) -> Option<Memory> {
+        let mut file = Memory::new(alloc);
+        file.write_at(0, bytes).ok()?;
+        file.sync().ok()?;
+        Some(file)
+    }
+
+    fn copied(&self, alloc: Global) -> Option<Vec<u8>> {
+        self.bytes().to_vec(alloc).ok()
+    }
+}
+
+#[derive(Drop)]
+enum Opened<D: HeldDisk> {
+    Whole(Connection<FileStore<D>>, &'static str),
+    Beside(Connection<OwnTrees<FileStore<D>>>),
 }
 
 impl FileBytes {
@@ -39,20 +52,20 @@ impl FileBytes {
         }
     }
 
-    fn files(&self, alloc: Global) -> Option<Files<Memory>> {
+    fn files<D: HeldDisk>(&self, alloc: Global) -> Option<Files<D>> {
         Some(Files {
-            log: file_of(alloc, self.log.as_slice())?,
-            db: file_of(alloc, self.db.as_slice())?,
+            log: D::holding(alloc, self.log.as_slice())?,
+            db: D::holding(alloc, self.db.as_slice())?,
         })
     }
 
-    fn take(&mut self, alloc: Global, files: &Files<Memory>) -> Option<()> {
-        self.log = files.log.bytes().to_vec(alloc).ok()?;
-        self.db = files.db.bytes().to_vec(alloc).ok()?;
+    fn take<D: HeldDisk>(&mut self, alloc: Global, files: &Files<D>) -> Option<()> {
+        self.log = files.log.copied(alloc)?;
+        self.db = files.db.copied(alloc)?;
         Some(())
     }
 
-    fn open_any(&self, alloc: Global) -> Option<Connection<FileStore<Memory>>> {
+    fn open_any<D: HeldDisk>(&self, alloc: Global) -> Option<Connection<FileStore<D>>> {
         let files = self.files(alloc)?;
         if !files.may_be_used() {
             return None;
@@ -61,7 +74,7 @@ impl FileBytes {
     }
 
     /// Opens the files by the first `made` trees of a station, in any order.
-    fn open_beside(&self, alloc: Global, made: usize) -> Option<Opened> {
+    fn open_beside<D: HeldDisk>(&self, alloc: Global, made: usize) -> Option<Opened<D>> {
         let files = self.files(alloc)?;
         if !files.may_be_used() {
             return None;
@@ -72,7 +85,7 @@ impl FileBytes {
         }
     }
 
-    fn open_in_order(&self, alloc: Global) -> Option<Opened> {
+    fn open_in_order<D: HeldDisk>(&self, alloc: Global) -> Option<Opened<D>> {
         let files = self.files(alloc)?;
         if !files.may_be_used() {
             return None;
@@ -83,7 +96,7 @@ impl FileBytes {
         }
     }
 
-    fn begin(&self, alloc: Global) -> Option<Opened> {
+    fn begin<D: HeldDisk>(&self, alloc: Global) -> Option<Opened<D>> {
         let files = self.files(alloc)?;
         if !files.may_be_used() {
             return None;
@@ -96,7 +109,7 @@ impl FileBytes {
     }
 
     /// Opens the files of a station, for `migrate` also one of version 1.
-    fn open_by_list(&self, alloc: Global, is_migration: bool) -> Option<Opened> {
+    fn open_by_list<D: HeldDisk>(&self, alloc: Global, is_migration: bool) -> Option<Opened<D>> {
         if let Some(opened) = self.open_in_order(alloc) {
             return Some(opened);
         }
@@ -110,7 +123,7 @@ impl FileBytes {
         }
     }
 
-    fn open(&self, alloc: Global, line: &Line<'_>) -> Option<Opened> {
+    fn open<D: HeldDisk>(&self, alloc: Global, line: &Line<'_>) -> Option<Opened<D>> {
         let opened = if is_opening(line) {
             self.begin(alloc)
         } else {
@@ -123,21 +136,26 @@ impl FileBytes {
     }
 }
 
-pub fn answer(alloc: Global, bytes: &mut FileBytes, asked: &str, text: &[u8]) -> Option<String> {
+pub fn answer<D: HeldDisk>(
+    alloc: Global,
+    bytes: &mut FileBytes,
+    asked: &str,
+    text: &[u8],
+) -> Option<String> {
     match asked {
         "new-files" => {
             *bytes = FileBytes::new(alloc);
             say(alloc, "made")
         }
-        "sql" => statements(alloc, bytes, shown(text)),
-        "call" => call(alloc, bytes, shown(text)),
+        "sql" => statements::<D>(alloc, bytes, shown(text)),
+        "call" => call::<D>(alloc, bytes, shown(text)),
         _ => None,
     }
 }
 
 /// Runs SQL statements like another program. Returns the number of rows that the last one wrote.
-fn statements(alloc: Global, bytes: &mut FileBytes, text: &str) -> Option<String> {
-    let mut conn = bytes.open_any(alloc)?;
+fn statements<D: HeldDisk>(alloc: Global, bytes: &mut FileBytes, text: &str) -> Option<String> {
+    let mut conn = bytes.open_any::<D>(alloc)?;
     let mut rows = 0;
     for statement in text.split("; ") {
         rows = conn.execute(statement, &[]).ok()?;
@@ -148,17 +166,22 @@ fn statements(alloc: Global, bytes: &mut FileBytes, text: &str) -> Option<String
 }
 
 /// Runs a call, and returns how the files were opened, and its end.
-fn call(alloc: Global, bytes: &mut FileBytes, text: &str) -> Option<String> {
+fn call<D: HeldDisk>(alloc: Global, bytes: &mut FileBytes, text: &str) -> Option<String> {
     let (first, input) = text.split_once('\n').unwrap_or((text, ""));
     let words = words_of(alloc, first)?;
     match parse_words(alloc, words.as_slice()) {
-        Ok(line) => run(alloc, bytes, &line, input),
+        Ok(line) => run::<D>(alloc, bytes, &line, input),
         Err(fault) => fault_said(alloc, &fault),
     }
 }
 
-fn run(alloc: Global, bytes: &mut FileBytes, line: &Line<'_>, input: &str) -> Option<String> {
-    let opened = bytes.open(alloc, line)?;
+fn run<D: HeldDisk>(
+    alloc: Global,
+    bytes: &mut FileBytes,
+    line: &Line<'_>,
+    input: &str,
+) -> Option<String> {
+    let opened = bytes.open::<D>(alloc, line)?;
     let mut feed = Feed::new(Parts::new(input, false));
     let mut output = Counted::new(Narrow::new(alloc, usize::MAX));
     let mut errors = Counted::new(Vec::new(alloc));

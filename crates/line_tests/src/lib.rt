@@ -10,8 +10,10 @@ mod files;
 mod samples;
 mod words;
 
-use desk::Desk;
+use desk::{Blank, Desk};
 use files::FileBytes;
+use sqlite::MemStore;
+use sqlite_disk::Memory;
 use std::alloc::Global;
 use std::io;
 use test_kit::{Answers, go_through_file};
@@ -30,14 +32,14 @@ pub const FILES: &[&str] = &[
 ];
 
 #[derive(Drop)]
-struct FileAnswers<'a> {
+struct FileAnswers<'a, S: Blank> {
     alloc: Global,
     file: &'a str,
-    desk: Desk,
+    desk: Desk<S>,
     bytes: FileBytes,
 }
 
-impl Answers for FileAnswers<'_> {
+impl<S: Blank> Answers for FileAnswers<'_, S> {
     fn answer(&mut self, asked: &str, text: &[u8]) -> Option<String> {
         match self.file {
             "words" => words::answer(self.alloc, asked, text),
@@ -48,20 +50,24 @@ impl Answers for FileAnswers<'_> {
                 asked,
                 text,
             ),
-            "files" => files::answer(self.alloc, &mut self.bytes, asked, text),
+            "files" => files::answer::<Memory>(self.alloc, &mut self.bytes, asked, text),
             "client" => client::answer(self.alloc, asked, text),
             _ => None,
         }
     }
 }
 
-/// Runs a file of cases like `go_through_file`.
-pub fn run_file(rt: &HostRuntime, file: &str) -> Result<bool, io::Error> {
-    let mut answers = FileAnswers {
+fn run_file_over<S: Blank>(rt: &HostRuntime, file: &str) -> Result<bool, io::Error> {
+    let mut answers: FileAnswers<'_, S> = FileAnswers {
         alloc: rt.alloc(),
         file,
         desk: Desk::new(),
         bytes: FileBytes::new(rt.alloc()),
     };
     go_through_file(rt, "lines", file, &mut answers)
+}
+
+/// Runs a file of cases like `go_through_file`.
+pub fn run_file(rt: &HostRuntime, file: &str) -> Result<bool, io::Error> {
+    run_file_over::<MemStore>(rt, file)
 }
