@@ -94,20 +94,22 @@ fn unless_refused<T>(error: &sqlite_std_file::OpenError) -> Result<Option<T>, Fi
     }
 }
 
-/// Opens a file with exactly the trees that `init` makes, in order, recovering its log once.
-/// Returns `None` for any other file.
+/// Opens a file with exactly the first `made` trees that `init` makes, in order, recovering its log
+/// once. Returns `None` for any other file.
 ///
 /// Fails if another program has the file open, or memory runs out.
 fn open_in_order(
     rt: &HostRuntime,
     path: &str,
+    made: usize,
 ) -> Result<Option<Connection<FileStore<File>>>, FileFault> {
     let options = options(rt, path)?;
     let files = match sqlite_std_file::open(rt, path, Unknown) {
         Ok(files) => files,
         Err(error) => return unless_refused(&error),
     };
-    match open_listed(rt.alloc(), files, options, &station_trees()) {
+    let trees = station_trees();
+    match open_listed(rt.alloc(), files, options, &trees[..made.min(trees.len())]) {
         Ok(mut conn) => {
             conn.set_clock(rt);
             Ok(Some(conn))
@@ -148,22 +150,32 @@ fn open_or_any(rt: &HostRuntime, path: &str, made: usize) -> Result<FileConnecti
     }
 }
 
-/// Opens a file with a database: first as one with the trees that `init` makes, in order, then in
-/// any order and with others, for `migrate` also those of version 1, and last, if its tables are
-/// declared differently, as the library does.
+/// Opens a file with the first `made` trees that `init` makes, in order if they are all that it
+/// has, and any other file as `open_or_any` does.
+fn open_first(rt: &HostRuntime, path: &str, made: usize) -> Result<FileConnection, FileFault> {
+    match open_in_order(rt, path, made)? {
+        Some(conn) => Ok(FileConnection::Whole(conn)),
+        None => open_or_any(rt, path, made),
+    }
+}
+
+/// Opens a file with a database: as one with the trees that `init` makes; for `migrate`, if it
+/// isn't one, with those of version 1; and last, if its tables are declared differently, as the
+/// library does.
 fn open(rt: &HostRuntime, path: &str, is_migration: bool) -> Result<FileConnection, FileFault> {
     if is_no_file(path) {
         return Ok(FileConnection::Whole(open_any(rt, path)?));
     }
-    if let Some(conn) = open_in_order(rt, path)? {
+    let all = station_trees().len();
+    if !is_migration {
+        return open_first(rt, path, all);
+    }
+    if let Some(conn) = open_in_order(rt, path, all)? {
         return Ok(FileConnection::Whole(conn));
     }
-    if !is_migration {
-        return open_or_any(rt, path, station_trees().len());
-    }
-    match open_among_others(rt, path, station_trees().len())? {
+    match open_among_others(rt, path, all)? {
         Some(conn) => Ok(FileConnection::Beside(conn)),
-        None => open_or_any(rt, path, OLD_TREES),
+        None => open_first(rt, path, OLD_TREES),
     }
 }
 
@@ -229,7 +241,7 @@ pub fn make_file(rt: &HostRuntime, path: &str) -> Result<FileConnection, FileFau
             conn.set_clock(rt);
             Ok(FileConnection::Whole(conn))
         }
-        Ok(None) => open_or_any(rt, path, 0),
+        Ok(None) => open_first(rt, path, 0),
         Err((ErrorCode::OutOfMemory, _left)) => Err(FileFault::Memory),
         Err((code, _left)) => Err(FileFault::Store(code)),
     }

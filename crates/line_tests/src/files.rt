@@ -85,12 +85,15 @@ impl FileBytes {
         }
     }
 
-    fn open_in_order<D: HeldDisk>(&self, alloc: Global) -> Option<Opened<D>> {
+    /// Opens the files by the first `made` trees of a station, in order.
+    fn open_in_order<D: HeldDisk>(&self, alloc: Global, made: usize) -> Option<Opened<D>> {
         let files = self.files(alloc)?;
         if !files.may_be_used() {
             return None;
         }
-        match open_listed(alloc, files, Options::new(7), &station_trees()) {
+        let trees = station_trees();
+        let first = &trees[..made.min(trees.len())];
+        match open_listed(alloc, files, Options::new(7), first) {
             Ok(conn) => Some(Opened::Whole(conn, "in order")),
             Err(_) => None,
         }
@@ -103,21 +106,25 @@ impl FileBytes {
         }
         match open_new(alloc, files, PageSize::new(1024)?, Options::new(7)) {
             Ok(Some(conn)) => Some(Opened::Whole(conn, "new")),
-            Ok(None) => self.open_beside(alloc, 0),
+            Ok(None) => self.open_first(alloc, 0),
             Err(_) => None,
+        }
+    }
+
+    fn open_first<D: HeldDisk>(&self, alloc: Global, made: usize) -> Option<Opened<D>> {
+        match self.open_in_order(alloc, made) {
+            Some(opened) => Some(opened),
+            None => self.open_beside(alloc, made),
         }
     }
 
     /// Opens the files of a station, for `migrate` also one of version 1.
     fn open_by_list<D: HeldDisk>(&self, alloc: Global, is_migration: bool) -> Option<Opened<D>> {
-        if let Some(opened) = self.open_in_order(alloc) {
-            return Some(opened);
-        }
-        if let Some(opened) = self.open_beside(alloc, station_trees().len()) {
+        if let Some(opened) = self.open_first(alloc, station_trees().len()) {
             return Some(opened);
         }
         if is_migration {
-            self.open_beside(alloc, OLD_TREES)
+            self.open_first(alloc, OLD_TREES)
         } else {
             None
         }
