@@ -4,11 +4,13 @@ use crate::words::{fault_said, words_of};
 use cli_call::{FileEnd, run_file};
 use cli_run::{Feed, is_migration, is_opening};
 use cli_words::{Line, parse_words};
-use sqlite::{Connection, FileStore, Files, Options};
+use sqlite::{Alter, Connection, FileStore, Files, Options};
 use sqlite_disk::{Disk, Memory};
 use sqlite_wal::PageSize;
 use station_core::Counted;
-use station_files::{OLD_TREES, OwnTrees, open_beside, open_listed, open_new, station_trees};
+use station_files::{
+    FileBacked, OLD_TREES, OwnTrees, open_beside, open_listed, open_new, station_trees,
+};
 use std::alloc::Global;
 use test_kit::{Narrow, say, shown};
 
@@ -36,12 +38,6 @@ impl HeldDisk for Memory {
     fn copied(&self, alloc: Global) -> Option<Vec<u8>> {
         self.bytes().to_vec(alloc).ok()
     }
-}
-
-#[derive(Drop)]
-enum Opened<D: HeldDisk> {
-    Whole(Connection<FileStore<D>>, &'static str),
-    Beside(Connection<OwnTrees<FileStore<D>>>),
 }
 
 impl FileBytes {
@@ -74,72 +70,40 @@ impl FileBytes {
     }
 
     /// Opens the files by the first `made` trees of a station, in any order.
-    fn open_beside<D: HeldDisk>(&self, alloc: Global, made: usize) -> Option<Opened<D>> {
+    fn open_beside<D: HeldDisk>(
+        &self,
+        alloc: Global,
+        made: usize,
+    ) -> Option<Connection<OwnTrees<FileStore<D>>>> {
         let files = self.files(alloc)?;
         if !files.may_be_used() {
             return None;
         }
-        match open_beside(alloc, files, Options::new(7), &station_trees(), made) {
-            Ok(conn) => Some(Opened::Beside(conn)),
-            Err(_) => None,
-        }
+        open_beside(alloc, files, Options::new(7), &station_trees(), made).ok()
     }
 
     /// Opens the files by the first `made` trees of a station, in order.
-    fn open_in_order<D: HeldDisk>(&self, alloc: Global, made: usize) -> Option<Opened<D>> {
+    fn open_in_order<D: HeldDisk>(
+        &self,
+        alloc: Global,
+        made: usize,
+    ) -> Option<Connection<FileStore<D>>> {
         let files = self.files(alloc)?;
         if !files.may_be_used() {
             return None;
         }
         let trees = station_trees();
         let first = &trees[..made.min(trees.len())];
-        match open_listed(alloc, files, Options::new(7), first) {
-            Ok(conn) => Some(Opened::Whole(conn, "in order")),
-            Err(_) => None,
-        }
+        open_listed(alloc, files, Options::new(7), first).ok()
     }
 
-    fn begin<D: HeldDisk>(&self, alloc: Global) -> Option<Opened<D>> {
+    /// Opens files without a database.
+    fn open_new<D: HeldDisk>(&self, alloc: Global) -> Option<Connection<FileStore<D>>> {
         let files = self.files(alloc)?;
         if !files.may_be_used() {
             return None;
         }
-        match open_new(alloc, files, PageSize::new(1024)?, Options::new(7)) {
-            Ok(Some(conn)) => Some(Opened::Whole(conn, "new")),
-            Ok(None) => self.open_first(alloc, 0),
-            Err(_) => None,
-        }
-    }
-
-    fn open_first<D: HeldDisk>(&self, alloc: Global, made: usize) -> Option<Opened<D>> {
-        match self.open_in_order(alloc, made) {
-            Some(opened) => Some(opened),
-            None => self.open_beside(alloc, made),
-        }
-    }
-
-    /// Opens the files of a station, for `migrate` also one of version 1.
-    fn open_by_list<D: HeldDisk>(&self, alloc: Global, is_migration: bool) -> Option<Opened<D>> {
-        if let Some(opened) = self.open_first(alloc, station_trees().len()) {
-            return Some(opened);
-        }
-        if is_migration {
-            self.open_first(alloc, OLD_TREES)
-        } else {
-            None
-        }
-    }
-
-    fn open<D: HeldDisk>(&self, alloc: Global, line: &Line<'_>) -> Option<Opened<D>> {
-        let opened = if is_opening(line) {
-            self.begin(alloc)
-        } else {
-            self.open_by_list(alloc, is_migration(line))
-        };
-        match opened {
-            Some(opened) => Some(opened),
-            None => Some(Opened::Whole(self.open_any(alloc)?, "library")),
-        }
+        open_new(alloc, files, PageSize::new(1024)?, Options::new(7)).ok()?
     }
 }
 
@@ -182,35 +146,26 @@ fn call<D: HeldDisk>(alloc: Global, bytes: &mut FileBytes, text: &str) -> Option
     }
 }
 
-fn run<D: HeldDisk>(
+/// Runs a call over a connection, and returns how the files were opened, its end, and the files.
+fn run_over<F: Drop, L: Drop, S: Alter + Drop>(
     alloc: Global,
-    bytes: &mut FileBytes,
     line: &Line<'_>,
     input: &str,
-) -> Option<String> {
-    let opened = bytes.open::<D>(alloc, line)?;
+    how: &str,
+    conn: Connection<S>,
+) -> Option<(String, Result<F, L>)>
+where
+    Connection<S>: FileBacked<F, L>,
+{
     let mut feed = Feed::new(Parts::new(input, false));
     let mut output = Counted::new(Narrow::new(alloc, usize::MAX));
     let mut errors = Counted::new(Vec::new(alloc));
     let at = now()?;
-    let (how, end) = match opened {
-        Opened::Whole(conn, how) => {
-            let end = run_file(alloc, line, conn, &mut feed, &mut output, &mut errors, at);
-            (how, end)
-        }
-        Opened::Beside(conn) => {
-            let end = run_file(alloc, line, conn, &mut feed, &mut output, &mut errors, at);
-            ("beside", end)
-        }
-    };
     let FileEnd {
         status,
         is_declared,
         files,
-    } = end;
-    if let Ok(files) = files {
-        bytes.take(alloc, &files)?;
-    }
+    } = run_file(alloc, line, conn, &mut feed, &mut output, &mut errors, at);
     let (taken, told) = (output.into_inner().into_taken(), errors.into_inner());
     let ended = ended_said(
         alloc,
@@ -219,5 +174,67 @@ fn run<D: HeldDisk>(
         shown(told.as_slice()),
     )?;
     let declared = if is_declared { "as init" } else { "otherwise" };
-    format!(in alloc; "{how}, {declared}: {ended}").ok()
+    let said = format!(in alloc; "{how}, {declared}: {ended}").ok()?;
+    Some((said, files))
+}
+
+/// Keeps the files of a call that closed them.
+fn keep<D: HeldDisk>(
+    alloc: Global,
+    bytes: &mut FileBytes,
+    ran: Option<(String, Result<Files<D>, FileStore<D>>)>,
+) -> Option<String> {
+    let (said, files) = ran?;
+    if let Ok(files) = files {
+        bytes.take(alloc, &files)?;
+    }
+    Some(said)
+}
+
+/// Runs a call over files with the first `made` trees of a station.
+fn run_first<D: HeldDisk>(
+    alloc: Global,
+    bytes: &mut FileBytes,
+    line: &Line<'_>,
+    input: &str,
+    made: usize,
+) -> Option<String> {
+    if let Some(conn) = bytes.open_in_order::<D>(alloc, made) {
+        return keep(alloc, bytes, run_over(alloc, line, input, "in order", conn));
+    }
+    let conn = bytes.open_beside::<D>(alloc, made)?;
+    keep(alloc, bytes, run_over(alloc, line, input, "beside", conn))
+}
+
+/// Runs a call over files that are opened by a list: for `migrate` also those of version 1.
+fn run_by_list<D: HeldDisk>(
+    alloc: Global,
+    bytes: &mut FileBytes,
+    line: &Line<'_>,
+    input: &str,
+) -> Option<String> {
+    if is_opening(line) {
+        return match bytes.open_new::<D>(alloc) {
+            Some(conn) => keep(alloc, bytes, run_over(alloc, line, input, "new", conn)),
+            None => run_first::<D>(alloc, bytes, line, input, 0),
+        };
+    }
+    let all = station_trees().len();
+    match run_first::<D>(alloc, bytes, line, input, all) {
+        None if is_migration(line) => run_first::<D>(alloc, bytes, line, input, OLD_TREES),
+        said => said,
+    }
+}
+
+fn run<D: HeldDisk>(
+    alloc: Global,
+    bytes: &mut FileBytes,
+    line: &Line<'_>,
+    input: &str,
+) -> Option<String> {
+    if let Some(said) = run_by_list::<D>(alloc, bytes, line, input) {
+        return Some(said);
+    }
+    let conn = bytes.open_any::<D>(alloc)?;
+    keep(alloc, bytes, run_over(alloc, line, input, "library", conn))
 }
