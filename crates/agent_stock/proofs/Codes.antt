@@ -1,11 +1,9 @@
 -- The length of an agent's code.
 use Rattle.std.proofs.Common.{◌≡◌, ◌≤◌, ℕ, Bool, true, false, ◌&&◌, nat_le, List, length, arith}
-use Rattle.std.proofs.lemmas.Bool.Decides.{nat_tests}
-use Rattle.std.specs.List.{list_all}
+use Rattle.agent_stock.proofs.Common.{nat_tests, list_all, is_agent_code}
 use Rattle.awb_number.specs.Digits.{is_letter_or_digit}
 use Rattle.std.specs.Str.{IsAscii}
 use Rattle.awb_number.specs.Ascii.{IsAscii-tested, ascii-letter_or_digit}
-use Rattle.agent_stock.specs.Code.{is_agent_code}
 
 middle : (n : ℕ) (a b : Bool) → (a && nat_le n 11 && b) ≡ true → n ≤ 11
 middle n true true h = grind (arith, nat_tests)

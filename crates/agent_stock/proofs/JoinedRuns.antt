@@ -1,13 +1,7 @@
 -- The maximal runs of a stock, with the numbers of one run more behind them.
 use Rattle.std.proofs.Common.{◌≡◌, ◌≢◌, ℕ, ◌+◌, ◌-◌, ◌<◌, ◌≤◌, ◌⊎◌, inl, inr, Bool, true, false, ◌||◌, Option, Some, None, List, [], ◌∷◌, ◌++◌, refl, sym, ap, ◌∙◌, subst, arith}
-use Rattle.std.specs.Prelude.{IsTrue, IsSome, is_some}
-use Rattle.std.specs.List.{AllByRecursion, list_any}
+use Rattle.agent_stock.proofs.Common.{IsTrue, IsSome, is_some, AllByRecursion, list_any, prefix_of, serial_of, Holders, is_among, Holder, StockRun, IsMaximalRun, AreApart, AreStockRuns, IsNoneFrom, with_run, GoesOn}
 use Rattle.std.proofs.lemmas.Bool.{and_parts, and_from, or_left, or_right, cases_lt, cond-true, cond-false, le-leb, leb-true, lt-ltb, ltb-true}
-use Rattle.awb_number.specs.Number.{prefix_of, serial_of}
-use Rattle.agent_stock.specs.Stock.{Holders, is_among}
-use Rattle.agent_stock.specs.declared.stock.Holder.{Holder}
-use Rattle.agent_stock.specs.declared.runs.StockRun.{StockRun}
-use Rattle.agent_stock.specs.Runs.{IsMaximalRun, AreApart, AreStockRuns, IsNoneFrom, with_run, GoesOn}
 
 covered : (row : StockRun) (q : ℕ) → IsTrue (is_among row.first row.count q) → (row.first ≤ q) × (q < row.first + row.count)
 covered row q h =

@@ -1,17 +1,11 @@
 -- The numbers of a map in key order, each as a row of one.
 use Rattle.std.proofs.Common.{◌≡◌, ℕ, ◌+◌, ◌<◌, ◌≤◌, ◌&&◌, List, [], ◌∷◌, ◌++◌, append-nil, Some, refl, sym, ap, ◌∙◌, arith, map, cond, nat_eq, nat_le, nat_lt}
-use Rattle.std.specs.Ordering.{nat_cmp}
+use Rattle.agent_stock.proofs.Common.{nat_cmp, AllByRecursion, nat_tests, is_among, Holder, StockRun, AreRuns, IsRunRow, StandFrom, holders_by}
 use Rattle.std.specs.declared.cmp.Ordering.TheVariants.{Less}
-use Rattle.std.specs.List.{AllByRecursion}
 use Rattle.std.specs.List.Sorted.{IsStrictlySortedBy}
 use Rattle.std.specs.Map.{keys_of, lookup}
 use Rattle.std.specs.BTreeMap.{is_at}
-use Rattle.std.proofs.lemmas.Bool.Decides.{nat_tests}
 use Rattle.std.proofs.lemmas.Map.Keys.{sorted_head, sorted_tail}
-use Rattle.agent_stock.specs.Stock.{is_among}
-use Rattle.agent_stock.specs.declared.stock.Holder.{Holder}
-use Rattle.agent_stock.specs.declared.runs.StockRun.{StockRun}
-use Rattle.agent_stock.specs.Runs.{AreRuns, IsRunRow, StandFrom, holders_by}
 use Rattle.agent_stock.proofs.Serials.{key_is}
 
 abbrev pub row_of : ℕ × Holder → StockRun

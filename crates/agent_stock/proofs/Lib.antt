@@ -1,4 +1,5 @@
 mod Codes
+pub mod Common
 pub mod Keyed
 pub mod JoinedRuns
 pub mod OneMore

@@ -1,11 +1,7 @@
 -- Rows of runs that rise, and one more behind them.
 use Rattle.std.proofs.Common.{◌≡◌, ◌∙◌, ℕ, ◌+◌, ◌<◌, ◌≤◌, false, cond, ◌&&◌, nat_le, nat_lt, inl, inr, Some, List, [], ◌∷◌, ◌++◌, refl, sym, ap, arith}
-use Rattle.std.specs.List.{AllByRecursion}
+use Rattle.agent_stock.proofs.Common.{AllByRecursion, nat_tests, is_among, StockRun, AreStockRuns, IsNoneFrom, StandFrom, end_of, holders_by, with_run}
 use Rattle.std.proofs.lemmas.Bool.{cases_lt, cond-false}
-use Rattle.std.proofs.lemmas.Bool.Decides.{nat_tests}
-use Rattle.agent_stock.specs.Stock.{is_among}
-use Rattle.agent_stock.specs.declared.runs.StockRun.{StockRun}
-use Rattle.agent_stock.specs.Runs.{AreStockRuns, IsNoneFrom, StandFrom, end_of, holders_by, with_run}
 
 -- a number before a run, and one behind it
 pub under : (a c q : ℕ) → q < a → (nat_le a q && nat_lt q (a + c)) ≡ false

@@ -2,12 +2,7 @@
 use Rattle.std.proofs.Common.{◌≡◌, ℕ, suc, ◌+◌, ◌<◌, ◌≤◌, Bool, true, false, cond, ◌&&◌, nat_le, nat_lt, Option, Some, ◌∙◌, ap, arith}
 use Rattle.std.proofs.Common.{◌%◌, ◌/◌, ◌-◌, None, IsSome, IfSome}
 use Rattle.std.proofs.lemmas.Grind.{common_steps}
-use Rattle.std.specs.Ordering.{is_eq, nat_cmp}
-use Rattle.awb_number.specs.Number.{IsNumber}
-use Rattle.std.specs.Prelude.{nat_eq}
-use Rattle.std.specs.List.{find, range_with_len}
-use Rattle.std.proofs.lemmas.Bool.Decides.{nat_tests}
-use Rattle.agent_stock.specs.declared.stock.Holder.{Holder}
+use Rattle.agent_stock.proofs.Common.{is_eq, nat_cmp, IsNumber, nat_eq, find, range_with_len, nat_tests, Holder}
 
 module _ (p : ℕ → Bool) (from n k : ℕ) (more : n ≡ suc k) where
   pub find_next : p from ≡ false → find p (range_with_len from n) ≡ find p (range_with_len (from + 1) k)

@@ -1,26 +1,12 @@
 -- The command that a body of JSON says is the one whose fields it holds.
 use Rattle.std.proofs.Common.{◌≡◌, ◌∙◌, ℕ, zero, suc, ◌+◌, ◌≤◌, Bool, cond, ◌==◌, nat_lt, List, [], ◌∷◌, length, take, Option, Some, None, refl, sym, ap, subst, arith, String}
-use Rattle.std.specs.Prelude.{count_by, fold, option_map}
+use Rattle.desk_commands.proofs.Common.{count_by, fold, option_map, eq-eqb, eqb-true, ne_eqb, lt-ltb, ltb-true, members_view, Designator, ◌>>=◌, where_true, Command, Verb, Field, Kind, FieldValue, Text, Number, Flight, Absent, verb_of, values_of, command_of, row, places, name, kind_of, is_present, places_of}
 use Rattle.std.specs.declared.alloc.Global.{Global}
-use Rattle.std.proofs.lemmas.Bool.{eq-eqb, eqb-true, ne_eqb, lt-ltb, ltb-true}
 use Rattle.serde_json.specs.Data.{unsigned, Data, number, string}
 use Rattle.serde_json.specs.Find.{as_object, get}
-use Rattle.serde_json.specs.View.{members_view}
 use Rattle.serde_json.specs.declared.value.Value.{Value}
-use Rattle.imp_fields.specs.Flight.{Designator}
-use Rattle.station_days.specs.Steps.{◌>>=◌, where_true}
-use Rattle.desk_commands.specs.declared.command.Command.{Command}
-use Rattle.desk_commands.specs.declared.verb.Verb.{Verb}
-use Rattle.desk_commands.specs.declared.verb.Field.{Field}
-use Rattle.desk_commands.specs.declared.verb.Kind.{Kind}
 use Rattle.desk_commands.specs.declared.verb.Kind.TheVariants as kind
-use Rattle.desk_commands.specs.declared.field_value.FieldValue.{FieldValue}
-use Rattle.desk_commands.specs.declared.field_value.FieldValue.TheVariants.{Text, Number, Flight, Absent}
 use Rattle.desk_commands.specs.Body.{members_len, member_count, IsMember, AreMembers, IsBodyOf, text_member, number_member, flight_member, member_says, member_if_any, fields_say, body_says}
-use Rattle.desk_commands.specs.Command.{verb_of, values_of, command_of}
-use Rattle.desk_commands.specs.Verb.{row, places, name, kind_of}
-use Rattle.desk_commands.specs.FieldValue.{is_present}
-use Rattle.desk_commands.specs.Lines.{places_of}
 use Rattle.desk_commands.proofs.EachVerb.{made_again, fits, made_of_list}
 use Rattle.desk_commands.proofs.Fit.{values_in_places, Fits, AreFit}
 use Rattle.desk_commands.proofs.Made.{IsTyped, AreTyped}

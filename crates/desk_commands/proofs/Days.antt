@@ -1,19 +1,13 @@
 -- Days and their texts.
 use Rattle.std.proofs.Common.{◌≡◌, ◌∙◌, ◌<◌, ◌≤◌, Bool, true, false, ◌&&◌, ◌||◌, ◌==◌, cond, subst, arith, ℕ, List, [], ◌∷◌, ◌++◌, Option, Some, None, refl, sym, ap}
 use Rattle.std.specs.Option.{option_map}
-use Rattle.std.specs.Prelude.{pos}
+use Rattle.desk_commands.proofs.Common.{pos, and_parts, and_from, le-leb, leb-true, digits-padded, decimal_value-padded, bytes_eq-true, bytes_eq-refl, padded, decimal_value, ◌>>=◌, CalendarDay, IsCalendarDay, IsMomentDay, is_moment_day, day_in_year, year_of, date_on, days_after, date_in, date_part, has_digits, is_calendar_day, named_day, if_written, year_part}
 use Rattle.std.specs.Str.{bytes_eq}
-use Rattle.std.proofs.lemmas.Bool.{and_parts, and_from, le-leb, leb-true}
 use Rattle.jiff_core.specs.Calendar.{days_in_month, is_leap_year}
-use Rattle.awb_number.proofs.Padded.{digits-padded, decimal_value-padded}
-use Rattle.imp_fields.proofs.SameFlight.{bytes_eq-true, bytes_eq-refl}
 use Rattle.station_days.proofs.DateLaws.{year_high}
 use Rattle.station_days.proofs.DateOnLaws.{IsDateAfter, date_of_moment, date_names_day}
 use Rattle.desk_commands.proofs.Steps.{some_is, passed, passes}
-use Rattle.awb_number.specs.Digits.{padded, decimal_value}
-use Rattle.station_days.specs.Steps.{◌>>=◌}
-use Rattle.station_days.specs.Date.{CalendarDay, IsCalendarDay, IsMomentDay, is_moment_day, day_in_year, year_of, date_on, days_after}
-use Rattle.desk_commands.specs.Day.{day_line, date_in, date_part, has_digits, is_calendar_day, named_day, if_written, year_part, day_of}
+use Rattle.desk_commands.specs.Day.{day_line, day_of}
 
 -- ---- the day of a text
 

@@ -1,16 +1,9 @@
 -- What fields hold fits their kinds.
 use Rattle.std.proofs.Common.{◌≡◌, ◌<◌, ◌≤◌, ℕ, true, List, [], ◌∷◌, length, arith, zero, suc}
-use Rattle.std.specs.Prelude.{⊤}
-use Rattle.imp_fields.specs.Amount.{IsPieces, IsTenths}
-use Rattle.imp_fields.specs.Flight.{IsDesignator}
+use Rattle.desk_commands.proofs.Common.{⊤, IsPieces, IsTenths, IsDesignator, Field, Kind, FieldValue, Text, Number, Flight, Absent, kind_of}
 use Rattle.shipment_machine.specs.Amount.{IsCount}
-use Rattle.desk_commands.specs.declared.verb.Field.{Field}
-use Rattle.desk_commands.specs.declared.verb.Kind.{Kind}
 use Rattle.desk_commands.specs.declared.verb.Kind.TheVariants as kind
-use Rattle.desk_commands.specs.declared.field_value.FieldValue.{FieldValue}
-use Rattle.desk_commands.specs.declared.field_value.FieldValue.TheVariants.{Text, Number, Flight, Absent}
 use Rattle.desk_commands.specs.Day.{day_line}
-use Rattle.desk_commands.specs.Verb.{kind_of}
 use Rattle.desk_commands.proofs.Free.{free}
 
 -- texts without an end of a line, numbers and flights in their ranges, and what may be left out

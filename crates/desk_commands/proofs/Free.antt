@@ -1,22 +1,14 @@
 -- Texts that hold no end of a line.
 use Rattle.std.proofs.Common.{◌≡◌, ◌∙◌, ◌<◌, ◌^◌, ℕ, Bool, true, false, List, [], ◌∷◌, ◌++◌, refl, sym, ap, arith}
-use Rattle.std.specs.Prelude.{not, decimal}
-use Rattle.std.specs.List.{list_all}
-use Rattle.std.proofs.lemmas.Bool.{and_parts, and_from, not_from_false, ne_eqb}
+use Rattle.desk_commands.proofs.Common.{not, decimal, list_all, and_parts, and_from, not_from_false, ne_eqb, is_digit, is_letter, is_letter_or_digit, padded, number_text, prefix_of, serial_of, check_digit, digits-padded, year_of, date_on, Designator, IsDesignator, flight_text, is_carrier, is_end}
 use Rattle.std.proofs.lemmas.List.Folds.{list_all-append}
-use Rattle.awb_number.specs.Digits.{is_digit, is_letter, is_letter_or_digit, padded}
-use Rattle.awb_number.specs.Number.{number_text, prefix_of, serial_of, check_digit}
-use Rattle.awb_number.proofs.Padded.{digits-padded}
 use Rattle.imp_fields.specs.Airport.{is_airport}
 use Rattle.imp_fields.specs.Characters.{is_printable}
-use Rattle.station_days.specs.Date.{year_of, date_on}
-use Rattle.imp_fields.specs.Flight.{Designator, IsDesignator, flight_text, is_carrier}
 use Rattle.imp_fields.specs.Name.{is_name, is_goods}
 use Rattle.imp_fields.proofs.FieldLaws.{flight_code}
 use Rattle.imp_fields.proofs.WrittenLaws.{all_weaker, decimal_digits}
 use Rattle.agent_stock.specs.Code.{is_agent_code}
 use Rattle.desk_commands.specs.Day.{day_line}
-use Rattle.desk_commands.specs.Lines.{is_end}
 
 abbrev pub free : List ℕ → Bool
 free text = list_all (λ b. not (is_end b)) text

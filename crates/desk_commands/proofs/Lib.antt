@@ -1,3 +1,4 @@
+pub mod Common
 pub mod Ascii
 mod BodyLaws
 mod Cuts

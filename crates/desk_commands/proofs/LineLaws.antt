@@ -1,30 +1,17 @@
 -- What a field holds is read again from its line, and what is read of a line is written so.
 use Rattle.std.proofs.Common.{◌≡◌, ◌∙◌, ℕ, zero, suc, ◌+◌, ◌-◌, ◌*◌, ◌/◌, ◌%◌, ◌<◌, ◌≤◌, ◌^◌, Bool, true, false, ◌&&◌, ◌||◌, ◌==◌, nat_le, List, [], ◌∷◌, ◌++◌, length, take, drop, take_while, Option, Some, None, refl, sym, ap, subst, arith}
-use Rattle.std.specs.Prelude.{decimal, not, slice_index, fold, IsTrue, IfSome}
-use Rattle.std.specs.List.{list_all}
+use Rattle.desk_commands.proofs.Common.{decimal, not, slice_index, fold, IsTrue, IfSome, list_all, and_parts, and_from, or_right, eq-eqb, eqb-true, ne_eqb, not_from_false, le-leb, lt-ltb, leb-true, ltb-true, is_digit, is_letter, decimal_value, is_digit_from, is_digit_bounds, decimal_value-last, decimal_value_bound, count_of, Designator, IsDesignator, flight_of, flight_text, is_carrier, suffix_of, ◌>>=◌, bytes_eq-refl, bytes_eq-true, Kind, FieldValue, Text, Number, Flight, Absent, line_of, is_number, number_of, written_flight_of, number_value, flight_value, flight_value_if_any, text_value_if_any, line_says}
 use Rattle.std.specs.Str.{bytes_eq}
 use Rattle.std.specs.Char.{digit_value}
 use Rattle.std.specs.Str.Parse.{AllDigits, digits_value, digits_value_after}
 use Rattle.std.proofs.Math.Nat.{pow-le-pow_right}
-use Rattle.std.proofs.lemmas.Bool.{and_parts, and_from, or_right, eq-eqb, eqb-true, ne_eqb, not_from_false, le-leb, lt-ltb, leb-true, ltb-true}
 use Rattle.std.proofs.lemmas.Fmt.{decimal_by_steps, decimal_digit, decimal_nonempty, first_decimal, length-decimal-le, decimal-digits_value}
 use Rattle.std.proofs.lemmas.List.Folds.{list_all-append}
 use Rattle.std.proofs.lemmas.Str.{digit_value_digit}
 use Rattle.std.proofs.lemmas.Str.Parse.{numerals_by_value, tells_digits}
-use Rattle.awb_number.specs.Digits.{is_digit, is_letter, decimal_value}
-use Rattle.awb_number.proofs.Padded.{is_digit_from, is_digit_bounds, decimal_value-last, decimal_value_bound}
-use Rattle.imp_fields.specs.Amount.{count_of}
 use Rattle.imp_fields.specs.Characters.{drop_while}
-use Rattle.imp_fields.specs.Flight.{Designator, IsDesignator, flight_of, flight_text, is_carrier, suffix_of}
-use Rattle.station_days.specs.Steps.{◌>>=◌}
 use Rattle.imp_fields.proofs.FieldLaws.{flight_again}
-use Rattle.imp_fields.proofs.SameFlight.{bytes_eq-refl, bytes_eq-true}
-use Rattle.desk_commands.specs.declared.verb.Kind.{Kind}
 use Rattle.desk_commands.specs.declared.verb.Kind.TheVariants as kind
-use Rattle.desk_commands.specs.declared.field_value.FieldValue.{FieldValue}
-use Rattle.desk_commands.specs.declared.field_value.FieldValue.TheVariants.{Text, Number, Flight, Absent}
-use Rattle.desk_commands.specs.FieldValue.{line_of}
-use Rattle.desk_commands.specs.Lines.{is_number, number_of, written_flight_of, number_value, flight_value, flight_value_if_any, text_value_if_any, line_says}
 use Rattle.desk_commands.proofs.Fit.{Fits}
 use Rattle.desk_commands.proofs.Free.{free, free_decimal, free_flight}
 use Rattle.desk_commands.proofs.Made.{IsTyped}

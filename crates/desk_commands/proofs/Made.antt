@@ -1,13 +1,6 @@
 -- What fields hold by their types, and the flight that may be left out.
 use Rattle.std.proofs.Common.{◌≡◌, ◌<◌, List, [], ◌∷◌, Option, Some, None, refl, subst}
-use Rattle.std.specs.Prelude.{⊤, IfSome}
-use Rattle.imp_fields.specs.Flight.{IsDesignator}
-use Rattle.station_days.specs.Steps.{◌>>=◌}
-use Rattle.shipment_machine.specs.declared.flight.FlightDate.{FlightDate}
-use Rattle.desk_commands.specs.declared.field_value.FieldValue.{FieldValue}
-use Rattle.desk_commands.specs.declared.field_value.FieldValue.TheVariants.{Text, Number, Flight, Absent}
-use Rattle.desk_commands.specs.Command.{flight_if_any, day_if_any, IsFlightDate}
-use Rattle.desk_commands.specs.FieldValue.{flight_date_in, flight_if_any_in}
+use Rattle.desk_commands.proofs.Common.{⊤, IfSome, IsDesignator, ◌>>=◌, FlightDate, FieldValue, Text, Number, Flight, Absent, flight_if_any, day_if_any, IsFlightDate, flight_date_in, flight_if_any_in}
 use Rattle.desk_commands.proofs.Fields.{IsFlightValues, flight_date_is}
 use Rattle.desk_commands.proofs.Steps.{some_is, reads}
 

@@ -1,18 +1,7 @@
 -- A command's text is read as that command, and what is read has that text.
 use Rattle.std.proofs.Common.{◌≡◌, ◌∙◌, ℕ, zero, suc, ◌≤◌, Bool, true, false, nat_le, List, [], ◌∷◌, ◌++◌, length, take, map, Option, Some, None, refl, sym, ap, subst, arith}
-use Rattle.std.specs.Prelude.{⊤, IfSome}
-use Rattle.std.specs.List.{join_with_byte, onto_first}
-use Rattle.std.proofs.lemmas.Bool.{and_parts, cond-false, not-true, le-leb, leb-true}
+use Rattle.desk_commands.proofs.Common.{⊤, IfSome, join_with_byte, onto_first, and_parts, cond-false, not-true, le-leb, leb-true, ◌>>=◌, where_true, Command, Verb, Field, FieldValue, verb_of, values_of, command_text, IsCommand, command_of, kind_of, word, verb_called, row, places, line_of, is_end, lines_of, lines_left, IsNext, places_of, places_say, lines_say, lines_command, text_says}
 use Rattle.std.proofs.lemmas.List.Splits.{join_with_byte-slice_split, length-slice_split}
-use Rattle.station_days.specs.Steps.{◌>>=◌, where_true}
-use Rattle.desk_commands.specs.declared.command.Command.{Command}
-use Rattle.desk_commands.specs.declared.verb.Verb.{Verb}
-use Rattle.desk_commands.specs.declared.verb.Field.{Field}
-use Rattle.desk_commands.specs.declared.field_value.FieldValue.{FieldValue}
-use Rattle.desk_commands.specs.Command.{verb_of, values_of, command_text, IsCommand, command_of}
-use Rattle.desk_commands.specs.Verb.{kind_of, word, verb_called, row, places}
-use Rattle.desk_commands.specs.FieldValue.{line_of}
-use Rattle.desk_commands.specs.Lines.{is_end, lines_of, lines_left, IsNext, places_of, places_say, lines_say, lines_command, text_says}
 use Rattle.desk_commands.proofs.EachVerb.{made_again, fits, made_of_list}
 use Rattle.desk_commands.proofs.Fit.{values_in_places, AreFit}
 use Rattle.desk_commands.proofs.Free.{free}

@@ -1,14 +1,6 @@
 -- Every verb: its word, and its row.
 use Rattle.std.proofs.Common.{◌≡◌, true, List, [], ◌∷◌, refl, ap, ◌≤◌, suc, length, map, nat_le, arith}
-use Rattle.std.specs.Prelude.{slice_get}
-use Rattle.std.proofs.lemmas.Bool.{leb-true}
-use Rattle.desk_commands.specs.declared.verb.Verb.{Verb}
-use Rattle.desk_commands.specs.Verb.{word, row, places}
-use Rattle.desk_commands.specs.declared.command.Command.{Command}
-use Rattle.desk_commands.specs.declared.verb.Field.{Field}
-use Rattle.desk_commands.specs.declared.field_value.FieldValue.{FieldValue}
-use Rattle.desk_commands.specs.Command.{IsCommand, verb_of, values_of}
-use Rattle.desk_commands.specs.Lines.{places_of}
+use Rattle.desk_commands.proofs.Common.{slice_get, leb-true, Verb, word, row, places, Command, Field, FieldValue, IsCommand, verb_of, values_of, places_of}
 use Rattle.desk_commands.proofs.EachVerb.{fits}
 use Rattle.desk_commands.proofs.Fit.{AreFit}
 use Rattle.desk_commands.proofs.Free.{free}

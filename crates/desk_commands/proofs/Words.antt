@@ -1,11 +1,7 @@
 -- Words of verbs. What holds of each verb of the list holds of every verb.
 use Rattle.std.proofs.Common.{◌≡◌, ◌∙◌, ℕ, Bool, true, false, cond, List, [], ◌∷◌, Some, refl, sym, ap}
-use Rattle.std.specs.List.{find, list_all}
-use Rattle.std.proofs.lemmas.Bool.{and_parts}
-use Rattle.imp_fields.proofs.SameFlight.{bytes_eq-true}
-use Rattle.desk_commands.specs.declared.verb.Verb.{Verb}
+use Rattle.desk_commands.proofs.Common.{find, list_all, and_parts, bytes_eq-true, Verb, word, is_word, verbs, verb_called}
 use Rattle.desk_commands.specs.declared.verb.Verb.TheVariants as verb
-use Rattle.desk_commands.specs.Verb.{word, is_word, verbs, verb_called}
 use Rattle.desk_commands.proofs.Steps.{some_is}
 
 -- each verb is called by its word, as the list computes

@@ -1,9 +1,6 @@
 -- Texts that are appended one behind the other.
 use Rattle.std.proofs.Common.{◌≡◌, ℕ, ◌+◌, ◌<◌, ◌≤◌, List, [], ◌∷◌, ◌++◌, length, take, map, get_or, Result, Ok, Err, refl, sym, ap, ◌∙◌, append_assoc, arith}
-use Rattle.std.specs.Prelude.{OnOk}
-use Rattle.std.proofs.lemmas.List.{append-nil, map-append, take_at, take_more, take-take, length-append}
-use Rattle.imp_fields.specs.Message.{sent_text}
-use Rattle.ffm_text.specs.Written.{Begins, line_text}
+use Rattle.ffm_text.proofs.Common.{OnOk, append-nil, map-append, take_at, take_more, take-take, length-append, sent_text, Begins, line_text}
 
 pub joined : (old was now a b : List ℕ) → was ≡ old ++ a → now ≡ was ++ b → now ≡ old ++ (a ++ b)
 joined old was now a b first next = next ∙ ap (λ t. t ++ b) first ∙ append_assoc old a b

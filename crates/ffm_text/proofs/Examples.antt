@@ -1,20 +1,11 @@
 -- Worked examples of manifests, computed.
 use Rattle.std.proofs.Common.{◌≡◌, ℕ, zero, suc, List, [], ◌∷◌, ◌++◌, length, take, Option, Some, None, Result, Ok, Err, Bool, true, refl}
-use Rattle.std.specs.Prelude.{codes, ◌&&◌, ◌==◌, nat_le, nat_lt, if◌then◌else◌}
+use Rattle.ffm_text.proofs.Common.{codes, ◌&&◌, ◌==◌, nat_le, nat_lt, if◌then◌else◌, key_of, Shipment, Designator, CalendarDay, Why, normal_lines, fault_at, sent_text, Load, Manifest, Unloaded, IsFfm, ffm_fault, flight_line_of, unloading_point, ffm_lines, manifest_written}
 use Rattle.std.specs.Fmt.{digits}
-use Rattle.awb_number.specs.Number.{key_of}
-use Rattle.imp_fields.specs.Consignment.{Shipment}
-use Rattle.imp_fields.specs.Flight.{Designator}
-use Rattle.station_days.specs.Date.{CalendarDay}
-use Rattle.imp_fields.specs.declared.fault.Why.{Why}
-use Rattle.imp_fields.specs.NormalText.{normal_lines, fault_at}
-use Rattle.imp_fields.specs.Message.{sent_text}
 use Rattle.imp_fields.specs.declared.fault.Why.TheVariants as why
 use Rattle.imp_fields.specs.declared.fault.TextFault.{TextFault}
 use Rattle.imp_fields.specs.declared.amount.ShipmentCode.{ShipmentCode}
 use Rattle.imp_fields.specs.declared.amount.ShipmentCode.TheVariants.{Split}
-use Rattle.ffm_text.specs.declared.Load.{Load}
-use Rattle.ffm_text.specs.Ffm.{Manifest, Unloaded, IsFfm, ffm_fault, flight_line_of, unloading_point, ffm_lines, manifest_written}
 
 abbrev shipment : ShipmentCode → ℕ → ℕ → Option ℕ → List ℕ → Shipment
 shipment code pieces tenths total goods = record {

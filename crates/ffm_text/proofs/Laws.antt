@@ -1,13 +1,8 @@
 -- Lines are a part of a manifest exactly where they have no fault, and then one part only.
 use Rattle.std.proofs.Common.{◌≡◌, ℕ, Bool, true, false, List, [], ◌∷◌, ◌++◌, Option, Some, None, Result, Ok, Err, refl, sym, ap, ◌∙◌, inl, inr}
-use Rattle.std.specs.Prelude.{codes, MatchBool, is_some}
-use Rattle.std.proofs.lemmas.Bool.{cases_Bool, cond-true, cond-false, MatchBool-at_true, MatchBool-at_false, not_from_false, not-true}
-use Rattle.imp_fields.specs.Consignment.{Shipment, consignment_of}
-use Rattle.imp_fields.specs.Message.{is_head}
-use Rattle.imp_fields.specs.declared.fault.Why.{Why}
+use Rattle.ffm_text.proofs.Common.{codes, MatchBool, is_some, cases_Bool, cond-true, cond-false, MatchBool-at_true, MatchBool-at_false, not_from_false, not-true, Shipment, consignment_of, is_head, Why, FlightLine, Unloaded, Manifest, flight_line_of, last_point, is_cargo_line, IsCargo, has_last_line, IsFfm, ordered_fault, cargo_faults, ffm_line_faults, ffm_fault}
 use Rattle.imp_fields.specs.declared.fault.Why.TheVariants as why
 use Rattle.imp_fields.proofs.FaultLaws.{AllNone, unless_true-none, unless_true-holds, err_of-none, err_of-ok, fault_in-none, fault_in-all_none}
-use Rattle.ffm_text.specs.Ffm.{FlightLine, Unloaded, Manifest, flight_line_of, last_point, is_cargo_line, IsCargo, has_last_line, IsFfm, ordered_fault, cargo_faults, ffm_line_faults, ffm_fault}
 
 pub match_true : (b : Bool) (P Q : Type 0) → b ≡ true → P → MatchBool b P Q
 match_true true P Q e p = p

@@ -1,3 +1,4 @@
+pub mod Common
 pub mod LastLine
 pub mod Examples
 pub mod Laws

@@ -1,14 +1,7 @@
 -- One more line of a manifest was seen.
 use Rattle.std.proofs.Common.{◌≡◌, ℕ, true, false, List, [], ◌∷◌, ◌++◌, take, drop, map, Option, Some, None, Ok, inl, inr, refl, sym, ap, ◌∙◌, subst, append_assoc}
-use Rattle.std.specs.Prelude.{filter, filter_map}
-use Rattle.std.specs.List.{AllZip, last_or, cons_option}
-use Rattle.std.proofs.lemmas.Bool.{cases_Bool, cond-true, cond-false, MatchBool-at_true, MatchBool-at_false, not-true, not_from_false, and_left, and_right}
-use Rattle.std.proofs.lemmas.List.{append-nil, map-append}
-use Rattle.std.proofs.lemmas.List.Elements.{filter-append, filter_map-append}
-use Rattle.imp_fields.specs.Consignment.{consignment_of, HasSpans}
-use Rattle.ffm_text.specs.Ffm.{Unloaded, may_follow_point, unloading_point, last_point, is_cargo_line, IsCargo, unloaded_of}
+use Rattle.ffm_text.proofs.Common.{filter, filter_map, AllZip, last_or, cons_option, cases_Bool, cond-true, cond-false, MatchBool-at_true, MatchBool-at_false, not-true, not_from_false, and_left, and_right, append-nil, map-append, filter-append, filter_map-append, consignment_of, HasSpans, Unloaded, may_follow_point, unloading_point, last_point, is_cargo_line, IsCargo, unloaded_of, AreCargo}
 use Rattle.ffm_text.specs.declared.FfmLine.{FfmLine}
-use Rattle.ffm_text.specs.Scan.{AreCargo}
 use Rattle.ffm_text.proofs.Laws.{match_true, match_false}
 
 -- ---- what the lines are

@@ -1,33 +1,19 @@
 -- The lines of a written manifest are normal lines of what is sent.
 use Rattle.std.proofs.Common.{◌≡◌, ℕ, ◌+◌, ◌*◌, ◌/◌, ◌%◌, ◌<◌, ◌≤◌, Bool, true, false, List, [], ◌∷◌, ◌++◌, length, map, Option, Some, None, Ok, refl, ap, ◌∙◌, arith}
-use Rattle.std.specs.Prelude.{codes, decimal, IfSome, not, nat_le, ◌&&◌}
-use Rattle.std.specs.List.{list_all}
-use Rattle.std.proofs.lemmas.Bool.{and_parts, and_from, eqb-true, leb-true}
+use Rattle.ffm_text.proofs.Common.{codes, decimal, IfSome, not, nat_le, ◌&&◌, list_all, and_parts, and_from, eqb-true, leb-true, length-append, length-map, append-nil, number_text, prefix_of, serial_of, check_digit, IsPieces, Designator, IsDesignator, flight_text, CalendarDay, IsCalendarDay, date_text, is_airport, goods_text, sent_text, normal_lines, Load, cargo_of, flight_line_text, ffm_lines, IsLoad, AreLoads, load_line, route_text, amount_text}
 use Rattle.std.proofs.lemmas.Bool.Decides.{nat_tests}
-use Rattle.std.proofs.lemmas.List.{length-append, length-map, append-nil}
 use Rattle.std.proofs.lemmas.List.Folds.{list_all-append}
 use Rattle.awb_number.specs.Digits.{is_digit, is_letter_or_digit, padded}
-use Rattle.awb_number.specs.Number.{number_text, prefix_of, serial_of, check_digit}
 use Rattle.awb_number.proofs.Padded.{digits-padded}
 use Rattle.imp_fields.specs.Characters.{is_printable, is_blank}
-use Rattle.imp_fields.specs.Amount.{IsPieces}
 use Rattle.imp_fields.specs.Quantity.{is_unread, quantity_text, weight_text, total_text, code_letter}
-use Rattle.imp_fields.specs.Flight.{Designator, IsDesignator, flight_text}
-use Rattle.station_days.specs.Date.{CalendarDay, IsCalendarDay, date_text}
-use Rattle.imp_fields.specs.Airport.{is_airport}
 use Rattle.imp_fields.specs.Name.{is_goods, ends_in_blank}
-use Rattle.imp_fields.specs.Consignment.{goods_text}
-use Rattle.imp_fields.specs.Message.{sent_text}
-use Rattle.imp_fields.specs.NormalText.{normal_lines}
 use Rattle.imp_fields.specs.declared.amount.ShipmentCode.{ShipmentCode}
 use Rattle.imp_fields.proofs.FieldLaws.{IsCode, airport_code, date_code, flight_code}
 use Rattle.imp_fields.proofs.PutLaws.{length_decimal_short, length_decimal_five}
 use Rattle.imp_fields.proofs.SentLaws.{IsPlain, ArePlain, sent_normal, plain_line, ends_as_last, ends_in_none}
 use Rattle.imp_fields.proofs.WrittenLaws.{all_weaker}
 use Rattle.imp_fields.proofs.ConsignmentLaws.{quantity_unread}
-use Rattle.ffm_text.specs.declared.Load.{Load}
-use Rattle.ffm_text.specs.Ffm.{cargo_of, flight_line_text, ffm_lines}
-use Rattle.ffm_text.specs.Written.{IsLoad, AreLoads, load_line, route_text, amount_text}
 use Rattle.ffm_text.proofs.WrittenLaws.{cargo_line}
 
 -- a line that may be sent, and is short

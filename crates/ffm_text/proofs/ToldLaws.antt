@@ -1,30 +1,17 @@
 -- Which faults of a manifest's lines are reported.
 use Rattle.std.proofs.Common.{◌≡◌, ℕ, suc, ◌+◌, ◌-◌, ◌<◌, ◌≤◌, Bool, true, false, cond, List, [], ◌∷◌, ◌++◌, length, take, drop, get_or, add-one, Option, Some, None, Result, Ok, Err, refl, sym, ap, ◌∙◌, subst, append_assoc, arith}
-use Rattle.std.specs.Prelude.{option_map, option_and_then, slice_range, codes}
-use Rattle.imp_fields.specs.Amount.{count_of}
-use Rattle.imp_fields.specs.Airport.{airport_of}
-use Rattle.std.proofs.lemmas.Bool.{cond-true, cond_both}
-use Rattle.awb_number.specs.Number.{number_of}
+use Rattle.ffm_text.proofs.Common.{option_map, option_and_then, slice_range, codes, count_of, airport_of, cond-true, cond_both, number_of, Shipment, consignment_of, consignment_by, has_consignment_shape, quantity_part, fault_at, first_fault, IsFaultBy, IsFaultOf, Why, field, date_in, last_point, is_cargo_line, ordered_fault, cargo_fault, cargo_faults, flight_line_of, has_last_line, ffm_line_faults, ffm_fault, FlightLine, Unloaded, IsCargo, Designator, flight_of, CalendarDay, append-nil, map-append, length-map, length-take-le, take-append-drop, take_all, is_head, err_of, fault_in, texts_of}
 use Rattle.awb_number.specs.declared.awb.AwbFault.{AwbFault}
 use Rattle.imp_fields.specs.Quantity.{quantity_of}
 use Rattle.imp_fields.specs.declared.amount.Quantity.{Quantity}
-use Rattle.imp_fields.specs.Consignment.{Shipment, consignment_of, consignment_by, has_consignment_shape, quantity_part}
 use Rattle.imp_fields.specs.Checks.{◌>>=◌, need}
-use Rattle.imp_fields.specs.NormalText.{fault_at, first_fault, IsFaultBy, IsFaultOf}
-use Rattle.imp_fields.specs.declared.fault.Why.{Why}
 use Rattle.imp_fields.specs.declared.fault.Why.TheVariants as why
 use Rattle.imp_fields.specs.declared.fault.TextFault.{TextFault}
 use Rattle.imp_fields.proofs.FaultLaws.{AllNone, unless_true-holds, err_of-ok, first_fault-all_none}
-use Rattle.ffm_text.specs.Ffm.{field, date_in, last_point, is_cargo_line, ordered_fault, cargo_fault, cargo_faults, flight_line_of, has_last_line, ffm_line_faults, ffm_fault, FlightLine, Unloaded, IsCargo}
-use Rattle.imp_fields.specs.Flight.{Designator, flight_of}
-use Rattle.station_days.specs.Date.{CalendarDay}
 use Rattle.ffm_text.proofs.Laws.{cargo_has_no_fault}
-use Rattle.std.proofs.lemmas.List.{append-nil, map-append, length-map, length-take-le, take-append-drop, take_all}
 use Rattle.std.proofs.Math.Seq.{drop-cons}
 use Rattle.station_days.specs.Steps.{or_else}
-use Rattle.imp_fields.specs.Message.{is_head, err_of, fault_in}
 use Rattle.imp_fields.specs.declared.token.Token.{Token}
-use Rattle.ffm_text.specs.Scan.{texts_of}
 
 -- a fault of the text, and not of the memory
 abbrev pub IsOfText : Why → Type 0

@@ -1,27 +1,13 @@
 -- A written manifest is read again.
 use Rattle.std.proofs.Common.{◌≡◌, ℕ, ◌+◌, Bool, true, false, List, [], ◌∷◌, ◌++◌, length, take, drop, map, Option, Some, None, Result, Ok, refl, ap, ◌∙◌, append_assoc, arith}
-use Rattle.std.specs.Prelude.{codes, MatchBool, ◌/◌, ◌%◌, ◌&&◌, ◌==◌, not, nat_eq, filter_map, slice_get, option_and_then, IfSome}
-use Rattle.std.specs.List.{list_all, last_or, cons_option, starts_with}
-use Rattle.std.proofs.lemmas.Bool.{and_parts, and_from, and_left, and_right, or_from, not_from_false, cond-true, cond-false, cond_both, eqb-true, lt-leb}
-use Rattle.std.proofs.lemmas.List.{append-nil}
-use Rattle.std.proofs.lemmas.List.Elements.{filter_map-append}
+use Rattle.ffm_text.proofs.Common.{codes, MatchBool, ◌/◌, ◌%◌, ◌&&◌, ◌==◌, not, nat_eq, filter_map, slice_get, option_and_then, IfSome, list_all, last_or, cons_option, starts_with, and_parts, and_from, and_left, and_right, or_from, not_from_false, cond-true, cond-false, cond_both, eqb-true, lt-leb, append-nil, filter_map-append, prefix_of, IsPieces, count_of, Designator, IsDesignator, flight_of, flight_text, is_airport, airport_of, CalendarDay, IsCalendarDay, date_text, consignment_text, shipment_written, Why, Load, IsLoad, AreLoads, FlightLine, Unloaded, date_in, flight_line_of, is_remark, may_follow_point, unloading_point, last_point, is_cargo_line, IsCargo, has_last_line, IsFfm, cargo_of, flight_line_text, ffm_lines, manifest_written}
 use Rattle.awb_number.specs.Digits.{is_letter}
-use Rattle.awb_number.specs.Number.{prefix_of}
 use Rattle.awb_number.proofs.Padded.{digits-padded}
 use Rattle.imp_fields.specs.Characters.{fields}
-use Rattle.imp_fields.specs.Amount.{IsPieces, count_of}
-use Rattle.imp_fields.specs.Flight.{Designator, IsDesignator, flight_of, flight_text}
-use Rattle.imp_fields.specs.Airport.{is_airport, airport_of}
-use Rattle.station_days.specs.Date.{CalendarDay, IsCalendarDay, date_text}
 use Rattle.imp_fields.specs.Checks.{◌>>=◌, need}
-use Rattle.imp_fields.specs.Consignment.{consignment_text, shipment_written}
-use Rattle.imp_fields.specs.declared.fault.Why.{Why}
 use Rattle.imp_fields.specs.declared.fault.Why.TheVariants as why
 use Rattle.imp_fields.proofs.ConsignmentLaws.{IsWrittenLine, consignment_again}
 use Rattle.imp_fields.proofs.FieldLaws.{flight_again, optional_time_again, flight_code, date_code, airport_code, split_field, last_field}
-use Rattle.ffm_text.specs.declared.Load.{Load}
-use Rattle.ffm_text.specs.Written.{IsLoad, AreLoads}
-use Rattle.ffm_text.specs.Ffm.{FlightLine, Unloaded, date_in, flight_line_of, is_remark, may_follow_point, unloading_point, last_point, is_cargo_line, IsCargo, has_last_line, IsFfm, cargo_of, flight_line_text, ffm_lines, manifest_written}
 
 abbrev line_of : Load → List ℕ
 line_of l = consignment_text (cargo_of l)

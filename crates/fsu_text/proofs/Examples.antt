@@ -1,27 +1,16 @@
 -- Worked examples of status updates, computed.
 use Rattle.std.proofs.Common.{◌≡◌, ℕ, List, [], ◌∷◌, length, take, Option, Some, None, Ok, refl}
-use Rattle.std.specs.Prelude.{codes}
+use Rattle.fsu_text.proofs.Common.{codes, key_of, Designator, CalendarDay, When, Shipment, normal_lines, fault_at, sent_text, Quantity, Day, Handled, ReceivedFromFlight, Carried, Differs, status_of, SentStatus, SentUpdate, IsFsu, fsu_fault, fsu_lines, sent_status_text, sent_status_reading, update_written}
 use Rattle.std.specs.Fmt.{digits}
-use Rattle.awb_number.specs.Number.{key_of}
-use Rattle.imp_fields.specs.Flight.{Designator}
-use Rattle.station_days.specs.Date.{CalendarDay, When}
-use Rattle.imp_fields.specs.Consignment.{Shipment}
-use Rattle.imp_fields.specs.NormalText.{normal_lines, fault_at}
-use Rattle.imp_fields.specs.Message.{sent_text}
 use Rattle.imp_fields.specs.declared.fault.Why.TheVariants as why
 use Rattle.imp_fields.specs.declared.amount.ShipmentCode.{ShipmentCode}
 use Rattle.imp_fields.specs.declared.amount.ShipmentCode.TheVariants.{Total, Part}
-use Rattle.imp_fields.specs.declared.amount.Quantity.{Quantity}
 use Rattle.fsu_text.specs.declared.status.Handling.TheVariants.{ReceivedFromShipper, Notified, Delivered}
 use Rattle.fsu_text.specs.declared.status.Carriage.TheVariants.{Manifested, Departed}
 use Rattle.imp_fields.specs.declared.discrepancy.Discrepancy.TheVariants.{Offloaded, Missing, Found}
-use Rattle.fsu_text.specs.Status.{Day, Handled, ReceivedFromFlight, Carried, Differs, status_of}
 use Rattle.imp_fields.specs.declared.waybill_summary.WaybillSummary.{WaybillSummary}
-use Rattle.fsu_text.specs.declared.sent.SentStatus.{SentStatus}
 use Rattle.fsu_text.specs.declared.sent.SentStatus.TheVariants as sent
 use Rattle.fsu_text.specs.declared.sent.SentCarriage.TheVariants as leaving
-use Rattle.fsu_text.specs.declared.sent.SentUpdate.{SentUpdate}
-use Rattle.fsu_text.specs.Fsu.{IsFsu, fsu_fault, fsu_lines, sent_status_text, sent_status_reading, update_written}
 
 abbrev quantity : ShipmentCode → ℕ → Option ℕ → Quantity
 quantity code pieces weight = record { code = code; pieces = pieces; weight = weight; total = None }

@@ -1,15 +1,11 @@
 -- A status line's code decides its layout.
 use Rattle.std.proofs.Common.{◌≡◌, ℕ, Bool, true, false, List, [], ◌∷◌, Option, Some, None, refl, sym, ap, ◌∙◌, subst}
-use Rattle.std.specs.Prelude.{codes}
+use Rattle.fsu_text.proofs.Common.{codes, fields, or_else, where_true, Handling, Reading, handling_code, carriage_code, handling_of, carriage_of, handled_of, received_of, carried_of, differs_of, status_of}
 use Rattle.std.specs.Str.{bytes_eq}
-use Rattle.imp_fields.specs.Characters.{fields}
-use Rattle.station_days.specs.Steps.{or_else, where_true}
 use Rattle.imp_fields.proofs.SameFlight.{bytes_eq-true, bytes_eq-refl}
-use Rattle.fsu_text.specs.declared.status.Handling.{Handling}
 use Rattle.fsu_text.specs.declared.status.Handling.TheVariants as handling
 use Rattle.fsu_text.specs.declared.status.Carriage.{Carriage}
 use Rattle.fsu_text.specs.declared.status.Carriage.TheVariants as carriage
-use Rattle.fsu_text.specs.Status.{Reading, handling_code, carriage_code, handling_of, carriage_of, handled_of, received_of, carried_of, differs_of, status_of}
 
 abbrev pub status_by : List (List ℕ) → Option Reading
 status_by parts = or_else (handled_of parts) (or_else (received_of parts) (or_else (carried_of parts) (differs_of parts)))

@@ -1,10 +1,6 @@
 -- What is written, piece by piece.
 use Rattle.std.proofs.Common.{◌≡◌, ℕ, ◌≤◌, List, [], ◌∷◌, ◌++◌, length, refl, ◌∙◌, append_assoc, arith}
-use Rattle.std.specs.Prelude.{IsTrue}
-use Rattle.std.proofs.lemmas.Bool.{and_parts, leb-true}
-use Rattle.std.proofs.lemmas.List.{append-nil}
-use Rattle.imp_fields.specs.Name.{is_name}
-use Rattle.fsu_text.specs.Status.{name_tail}
+use Rattle.fsu_text.proofs.Common.{IsTrue, and_parts, leb-true, append-nil, is_name, name_tail}
 
 pub name_short : (name : List ℕ) → IsTrue (is_name name) → length name ≤ 35
 name_short name h = leb-true _ _ (and_parts _ _ (and_parts _ _ h).0).0

@@ -1,17 +1,8 @@
 -- What the lines of a message say, once they were read one by one.
 use Rattle.std.proofs.Common.{◌≡◌, ℕ, ◌≤◌, Bool, true, false, cond, List, [], ◌∷◌, length, map, get_or, drop, Option, Some, None, Result, Ok, Err, refl, ap, ◌∙◌, subst, arith}
-use Rattle.std.specs.Prelude.{◌&&◌, codes, nat_le, take}
-use Rattle.std.specs.List.{list_all}
-use Rattle.std.proofs.lemmas.Bool.{and_parts}
-use Rattle.awb_number.specs.Number.{number_of}
+use Rattle.fsu_text.proofs.Common.{◌&&◌, codes, nat_le, take, list_all, and_parts, number_of, has_consignment_shape, quantity_part, consignment_by, consignment_of, shipment_of, quantity_of, fault_at, first_fault, IsFaultOf, or_else, is_head, unless_true, err_of, Quantity, IsFsu, fsu_fault}
 use Rattle.awb_number.specs.declared.awb.AwbFault.{AwbFault}
-use Rattle.imp_fields.specs.Consignment.{has_consignment_shape, quantity_part, consignment_by, consignment_of, shipment_of}
-use Rattle.imp_fields.specs.Quantity.{quantity_of}
 use Rattle.imp_fields.specs.Token.{is_line_token}
-use Rattle.imp_fields.specs.NormalText.{fault_at, first_fault, IsFaultOf}
-use Rattle.station_days.specs.Steps.{or_else}
-use Rattle.imp_fields.specs.Message.{is_head, unless_true, err_of}
-use Rattle.imp_fields.specs.declared.amount.Quantity.{Quantity}
 use Rattle.imp_fields.specs.declared.token.Token.{Token}
 use Rattle.imp_fields.specs.declared.fault.Why.{Why}
 use Rattle.imp_fields.specs.declared.fault.Why.TheVariants as why
@@ -20,7 +11,6 @@ use Rattle.imp_fields.specs.declared.line.Consignment.{Consignment}
 use Rattle.imp_fields.proofs.FaultLaws.{unless_true-holds}
 use Rattle.fsu_text.specs.declared.status.StatusLine.{StatusLine}
 use Rattle.fsu_text.specs.Trail.{is_plain}
-use Rattle.fsu_text.specs.Fsu.{IsFsu, fsu_fault}
 
 abbrev texts : List Token → List (List ℕ)
 texts tokens = map (λ t. t.text.now) tokens

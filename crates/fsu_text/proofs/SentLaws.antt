@@ -1,38 +1,23 @@
 -- What is sent is read again.
 use Rattle.std.proofs.Common.{◌≡◌, ℕ, ◌<◌, true, false, List, [], ◌∷◌, ◌++◌, length, take, drop, Option, Some, None, refl, ap, ◌∙◌, append_assoc, arith}
-use Rattle.std.specs.Prelude.{◌==◌, ◌/◌, ◌%◌, not, codes, option_map}
-use Rattle.std.specs.List.{list_all, onto_first, join_with_byte}
-use Rattle.std.proofs.lemmas.Bool.{and_parts, and_from, or_left, or_right, cond-true, cond-false, not-true, eqb-true, ne_eqb}
-use Rattle.std.proofs.lemmas.List.{length-append, append-nil, take_at, drop_at}
+use Rattle.fsu_text.proofs.Common.{◌==◌, ◌/◌, ◌%◌, not, codes, option_map, list_all, onto_first, join_with_byte, and_parts, and_from, or_left, or_right, cond-true, cond-false, not-true, eqb-true, ne_eqb, length-append, append-nil, take_at, drop_at, ◌>>=◌, or_else, fields, is_slash, Designator, flight_of, flight_text, CalendarDay, IsCalendarDay, When, date_of, minute_of, date_time_of, optional_time_of, date_text, time_text, when_text, is_name, quantity_of, written_code, is_unread, Quantity, Handling, SentStatus, SentUpdate, Reading, Day, Handled, ReceivedFromFlight, Carried, Differs, handling_code, discrepancy_code, handling_of, carriage_of, discrepancy_of, day_of, name_of, handled_by, handled_of, received_by, received_of, route_of, carried_by, carried_of, differs_by, differs_of, status_of, name_tail, amount_of, sent_status_text, written_quantity, sent_status_reading}
 use Rattle.std.proofs.lemmas.List.Folds.{list_all-append}
 use Rattle.std.proofs.lemmas.List.Splits.{join_with_byte-slice_split}
 use Rattle.awb_number.specs.Digits.{is_digit, is_letter_or_digit, padded}
 use Rattle.awb_number.proofs.Padded.{digits-padded}
-use Rattle.station_days.specs.Steps.{◌>>=◌, or_else}
-use Rattle.imp_fields.specs.Characters.{fields, is_slash}
 use Rattle.imp_fields.specs.Airport.{is_airport, airport_of}
-use Rattle.imp_fields.specs.Flight.{Designator, flight_of, flight_text}
-use Rattle.station_days.specs.Date.{CalendarDay, IsCalendarDay, When, date_of, minute_of, date_time_of, optional_time_of, date_text, time_text, when_text}
-use Rattle.imp_fields.specs.Name.{is_name}
-use Rattle.imp_fields.specs.Quantity.{quantity_of, written_code, is_unread}
-use Rattle.imp_fields.specs.declared.amount.Quantity.{Quantity}
 use Rattle.imp_fields.proofs.WrittenLaws.{all_weaker, quantity_again}
 use Rattle.imp_fields.proofs.ConsignmentLaws.{unread_is_no_slash, quantity_unread}
 use Rattle.imp_fields.proofs.FieldLaws.{IsCode, airport_code, date_code, flight_code, flight_again, date_again, minute_again, optional_time_again}
 use Rattle.imp_fields.specs.declared.discrepancy.Discrepancy.{Discrepancy}
 use Rattle.imp_fields.specs.declared.discrepancy.Discrepancy.TheVariants as discrepancy
-use Rattle.fsu_text.specs.declared.status.Handling.{Handling}
 use Rattle.fsu_text.specs.declared.status.Handling.TheVariants as handling
 use Rattle.fsu_text.specs.declared.status.Carriage.{Carriage}
 use Rattle.fsu_text.specs.declared.status.Carriage.TheVariants as carriage
 use Rattle.fsu_text.specs.declared.sent.SentCarriage.{SentCarriage}
 use Rattle.fsu_text.specs.declared.sent.SentCarriage.TheVariants as leaving
-use Rattle.fsu_text.specs.declared.sent.SentStatus.{SentStatus}
 use Rattle.fsu_text.specs.declared.sent.SentStatus.TheVariants as sent
-use Rattle.fsu_text.specs.declared.sent.SentUpdate.{SentUpdate}
-use Rattle.fsu_text.specs.Status.{Reading, Day, Handled, ReceivedFromFlight, Carried, Differs, handling_code, discrepancy_code, handling_of, carriage_of, discrepancy_of, day_of, name_of, handled_by, handled_of, received_by, received_of, route_of, carried_by, carried_of, differs_by, differs_of, status_of, name_tail}
 use Rattle.fsu_text.specs.Sent.{IsSent, IsUpdate}
-use Rattle.fsu_text.specs.Fsu.{amount_of, sent_status_text, written_quantity, sent_status_reading}
 
 -- ---- parts of a line that hold no slash
 

@@ -1,22 +1,10 @@
 -- The lines that are sent are normal lines.
 use Rattle.std.proofs.Common.{◌≡◌, ℕ, ◌+◌, ◌/◌, ◌%◌, ◌<◌, ◌≤◌, true, false, List, [], ◌∷◌, ◌++◌, length, None, Ok, refl, sym, ◌∙◌, subst, inl, inr, arith}
-use Rattle.std.specs.Prelude.{codes, decimal}
-use Rattle.std.specs.List.{list_all}
-use Rattle.std.proofs.lemmas.Bool.{and_parts, and_from, or_cases, leb-true, le-leb, eqb-true, not-true, ne_eqb}
-use Rattle.std.proofs.lemmas.List.{length-append, append-nil}
+use Rattle.fsu_text.proofs.Common.{codes, decimal, list_all, and_parts, and_from, or_cases, leb-true, le-leb, eqb-true, not-true, ne_eqb, length-append, append-nil, prefix_of, serial_of, check_digit, number_text, is_printable, is_blank, is_point, date_text, when_text, flight_text, is_name, ends_in_blank, code_letter, quantity_text, written_code, is_unread, consignment_text, normal_lines, sent_text, Handling, SentStatus, SentUpdate, handling_code, carriage_code, discrepancy_code, name_tail, IsFsu, declared_cargo, told_as, amount_of, sent_status_text, fsu_lines, update_written}
 use Rattle.std.proofs.lemmas.List.Folds.{list_all-append}
 use Rattle.awb_number.specs.Digits.{is_digit, is_letter, is_letter_or_digit, padded}
-use Rattle.awb_number.specs.Number.{prefix_of, serial_of, check_digit, number_text}
 use Rattle.awb_number.proofs.Padded.{digits-padded, length-padded, is_digit_bounds}
-use Rattle.imp_fields.specs.Characters.{is_printable, is_blank, is_point}
-use Rattle.station_days.specs.Date.{date_text, when_text}
-use Rattle.imp_fields.specs.Flight.{flight_text}
-use Rattle.imp_fields.specs.Name.{is_name, ends_in_blank}
 use Rattle.imp_fields.specs.Amount.{IsPieces}
-use Rattle.imp_fields.specs.Quantity.{code_letter, quantity_text, written_code, is_unread}
-use Rattle.imp_fields.specs.Consignment.{consignment_text}
-use Rattle.imp_fields.specs.NormalText.{normal_lines}
-use Rattle.imp_fields.specs.Message.{sent_text}
 use Rattle.imp_fields.specs.declared.amount.ShipmentCode.{ShipmentCode}
 use Rattle.imp_fields.specs.declared.amount.ShipmentCode.TheVariants.{Total}
 use Rattle.imp_fields.specs.declared.discrepancy.Discrepancy.{Discrepancy}
@@ -26,15 +14,10 @@ use Rattle.imp_fields.proofs.PutLaws.{length_decimal_short, length_decimal_five}
 use Rattle.imp_fields.proofs.ConsignmentLaws.{quantity_unread, consignment_again}
 use Rattle.imp_fields.proofs.FieldLaws.{IsCode, airport_code, date_code, flight_code}
 use Rattle.imp_fields.proofs.SentLaws.{IsPlain, sent_normal, plain_line, ends_as_last, ends_in_none}
-use Rattle.fsu_text.specs.declared.status.Handling.{Handling}
 use Rattle.fsu_text.specs.declared.status.Handling.TheVariants as handling
 use Rattle.fsu_text.specs.declared.sent.SentCarriage.{SentCarriage}
 use Rattle.fsu_text.specs.declared.sent.SentCarriage.TheVariants as leaving
-use Rattle.fsu_text.specs.declared.sent.SentStatus.{SentStatus}
 use Rattle.fsu_text.specs.declared.sent.SentStatus.TheVariants as sent
-use Rattle.fsu_text.specs.declared.sent.SentUpdate.{SentUpdate}
-use Rattle.fsu_text.specs.Status.{handling_code, carriage_code, discrepancy_code, name_tail}
-use Rattle.fsu_text.specs.Fsu.{IsFsu, declared_cargo, told_as, amount_of, sent_status_text, fsu_lines, update_written}
 use Rattle.fsu_text.specs.Sent.{IsSent, IsUpdate}
 use Rattle.fsu_text.proofs.SentLaws.{when_code}
 

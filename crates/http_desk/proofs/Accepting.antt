@@ -3,8 +3,7 @@ use Rattle.std.proofs.Common.{arith, ◌≡◌, ◌∙◌, sym, ap, ℕ, ◌<◌
 use Rattle.std.specs.Fmt.{digits}
 use Rattle.std.proofs.lemmas.Fmt.{length-decimal-le}
 use Rattle.serde_json.proofs.OnLiterals.{serde_json_on_literals}
-use Rattle.serde_json.specs.Written.{compact_text}
-use Rattle.http_desk.specs.Reply.{status_line, ok_data, json_answer}
+use Rattle.http_desk.proofs.Common.{compact_text, status_line, ok_data, json_answer}
 
 -- a count has at most ten digits, and the length of the body few
 pub ten_digits : (n : ℕ) → n < 2 ^ 32 → length (decimal n) ≤ 10

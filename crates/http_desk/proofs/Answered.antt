@@ -1,19 +1,7 @@
 -- What a request leaves that has come, once its answer is written.
 use Rattle.std.proofs.Common.{◌≡◌, ◌∙◌, sym, subst, false, Result, List, ℕ}
-use Rattle.std.specs.Prelude.{IfOk}
-use Rattle.station_days.specs.Date.{LocalMinute}
-use Rattle.station_core.specs.Given.{Given}
-use Rattle.station_core.specs.Keeping.{Keeping, OnlyReads}
-use Rattle.station_core.specs.Step.{State}
-use Rattle.http_desk.specs.declared.asking.Response.{Response}
+use Rattle.http_desk.proofs.Common.{IfOk, LocalMinute, Given, Keeping, OnlyReads, State, Response, Printout, Served, ServeFault, station_after, tells_reopen, added, IsUnchangedOrBroken, BeginsAs503, HasServed, HasServedShut, IsToldFor, IsToldShut, HasWritten, HasWrittenShut}
 use Rattle.http_desk.specs.declared.asking.Response.TheVariants as told
-use Rattle.http_desk.specs.declared.printout.Printout.{Printout}
-use Rattle.http_desk.specs.declared.serve.Served.{Served}
-use Rattle.http_desk.specs.declared.serve.ServeFault.{ServeFault}
-use Rattle.http_desk.specs.StationAfter.{station_after}
-use Rattle.http_desk.specs.Told.{tells_reopen}
-use Rattle.http_desk.specs.Serving.{added, IsUnchangedOrBroken, BeginsAs503, HasServed, HasServedShut}
-use Rattle.http_desk.specs.Writing.{IsToldFor, IsToldShut, HasWritten, HasWrittenShut}
 use Rattle.http_desk.proofs.Joining.{served, gave_up, reopen_told, ok_more, all_shut}
 
 -- by the keeper that was asked, and by what it is after the answer was read from it

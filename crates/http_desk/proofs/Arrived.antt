@@ -1,35 +1,14 @@
 -- What a request wants, by what has come of it.
 use Rattle.std.proofs.Common.{arith, ◌≡◌, ◌∙◌, ap, sym, subst, ℕ, ◌+◌, ◌-◌, ◌<◌, ◌≤◌, List, ◌++◌, length, length-append, take, drop, codes}
-use Rattle.std.proofs.lemmas.List.{length-drop, take-append-drop}
-use Rattle.httparse.specs.Grammar.{RequestHead, print_request}
+use Rattle.http_desk.proofs.Common.{length-drop, take-append-drop, RequestHead, LocalMinute, State, Wanted, HeadWants, Fault, HeadAsks, BodyAsks, fault, head_asks, key_of, IsAskedUnder, Reply, fault_reply, body_reply, body_state, head_room, head_of, HasHead, SendsWhole, Replied, IsAnsweredAs, Answers, HasNoHead, wanted_state, Wants, BodyWants, posted_of, BeginsWith, HasPartBody, LacksBody}
+use Rattle.httparse.specs.Grammar.{print_request}
 use Rattle.httparse.proofs.GrammarLemmas.{request_unique}
-use Rattle.station_days.specs.Date.{LocalMinute}
-use Rattle.station_core.specs.Step.{State}
 use Rattle.http_desk.specs.declared.fault.FaultTold.{FaultTold}
 use Rattle.http_desk.specs.declared.wanted.Post.{Post}
-use Rattle.http_desk.specs.declared.wanted.Wanted.{Wanted}
 use Rattle.http_desk.specs.declared.wanted.Wanted.TheVariants as wanted
-use Rattle.http_desk.specs.declared.wanted.HeadWants.{HeadWants}
 use Rattle.http_desk.specs.declared.wanted.HeadWants.TheVariants as wants
 use Rattle.http_desk.specs.Fields.{meant}
-use Rattle.http_desk.specs.Request.{Fault, HeadAsks, BodyAsks, fault, head_asks, key_of, IsAskedUnder}
-use Rattle.http_desk.specs.Reply.{Reply, fault_reply, body_reply, body_state}
-use Rattle.http_desk.specs.Answer.{head_room, head_of, HasHead, SendsWhole, Replied, IsAnsweredAs, Answers}
-use Rattle.http_desk.specs.Reading.{HasNoHead}
-use Rattle.http_desk.specs.Wanted.{wanted_state, Wants, BodyWants, posted_of}
-use Rattle.http_desk.specs.Came.{BeginsWith, HasPartBody}
-use Rattle.http_desk.specs.Serving.{LacksBody}
 use Rattle.http_desk.proofs.Heads.{head_stays}
-
-pub no_head_wants : (bytes : List ℕ) (f : FaultTold) → meant f ≡ fault 400 (codes "head") → HasNoHead bytes → Wants bytes (wanted.Fault f)
-no_head_wants bytes f is none = record {
-  answered = λ s at status out after r. record {
-    head = λ h has. absurd (none.0 h has);
-    none = λ no. (subst (λ (g : Fault). Replied s (fault_reply g) s status out after) is r, none.1);
-  };
-  report = λ name is. cc is;
-  input = λ i is. cc is;
-}
 
 module _ (bytes : List ℕ) where
   -- a request has one head

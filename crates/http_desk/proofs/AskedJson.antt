@@ -1,22 +1,14 @@
 -- What is sent once the station was asked.
 use Rattle.std.proofs.Common.{◌≡◌, sym, ap, subst, refl, inl, inr, ⊎_elim, ℕ, Bool, List, Option, Err}
-use Rattle.station_days.specs.Date.{LocalMinute}
+use Rattle.http_desk.proofs.Common.{LocalMinute, MayLeave, IsMemoryOrStore, IsBrokenAfter, State, step, Waybill, Response, Wanted, Reply, answer_reply, refusal_reply, IsHistory, StationAfter, station_at, WorksAt, IsHistoryTold, IsToldAs, HasAsked, HasAskedShut, IsUnavailable, TellsHistory, wanted_reply, wanted_state}
 use Rattle.shipment_machine.specs.declared.plans.Refusal.{Refusal}
 use Rattle.station_core.specs.declared.answer.ActFault.{ActFault}
 use Rattle.station_core.specs.declared.answer.ActFault.TheVariants as fault
 use Rattle.station_core.specs.declared.answer.Answer.TheVariants as answer
 use Rattle.station_core.specs.declared.input.Input.{Input}
-use Rattle.station_core.specs.Keeping.{Answers, MayLeave, IsMemoryOrStore, IsBrokenAfter}
-use Rattle.station_core.specs.Step.{State, step}
-use Rattle.station_core.specs.declared.rows.Waybill.{Waybill}
-use Rattle.http_desk.specs.declared.asking.Response.{Response}
+use Rattle.station_core.specs.Keeping.{Answers}
 use Rattle.http_desk.specs.declared.asking.Response.TheVariants as told
-use Rattle.http_desk.specs.declared.wanted.Wanted.{Wanted}
 use Rattle.http_desk.specs.declared.wanted.Wanted.TheVariants as wanted
-use Rattle.http_desk.specs.Reply.{Reply, answer_reply, refusal_reply, IsHistory}
-use Rattle.http_desk.specs.StationAfter.{StationAfter, station_at, WorksAt}
-use Rattle.http_desk.specs.Told.{IsHistoryTold, IsToldAs, HasAsked, HasAskedShut, IsUnavailable, TellsHistory}
-use Rattle.http_desk.specs.Wanted.{wanted_reply, wanted_state}
 use Rattle.station_core.proofs.Refusals.{refused_stays}
 
 -- a reply of JSON, where the state after it is the one before

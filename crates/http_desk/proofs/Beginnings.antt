@@ -1,9 +1,7 @@
 -- How answers begin.
 use Rattle.std.proofs.Common.{arith, ◌≡◌, ◌∙◌, ap, sym, ℕ, Option, List, [], ◌∷◌, ◌++◌, take, drop, append_assoc, codes}
 use Rattle.std.specs.Fmt.{digits}
-use Rattle.std.proofs.lemmas.List.{take-append-drop}
-use Rattle.http_desk.specs.Reply.{json_answer, ok_answer}
-use Rattle.http_desk.specs.Serving.{BeginsAs200, BeginsAs503}
+use Rattle.http_desk.proofs.Common.{take-append-drop, json_answer, ok_answer, BeginsAs200, BeginsAs503}
 
 -- the tenth byte tells a 200 from other answers
 abbrev pub first_byte : List ℕ → ℕ

@@ -1,27 +1,12 @@
 -- Once a 200 to a POST has begun.
 use Rattle.std.proofs.Common.{arith, ◌≡◌, ◌∙◌, ap, sym, subst, refl, inl, inr, ℕ, Bool, true, false, nat_le, Option, Some, None, Result, Ok, Err, List, [], ◌∷◌, ◌++◌, length, take, drop, codes}
-use Rattle.std.specs.Prelude.{◌==◌, ◌||◌, if◌then◌else◌}
-use Rattle.std.specs.Str.{bytes_eq}
-use Rattle.serde_json.specs.Written.{compact_text}
+use Rattle.http_desk.proofs.Common.{◌==◌, ◌||◌, if◌then◌else◌, bytes_eq, compact_text, RequestHead, LocalMinute, Given, State, accepted, step, Printout, Served, ServeFault, Posted, is_dry, posted_command, posted_check, posted_telegram, posted_look, Got, Place, posts, gets, place_of, number_told, Head, Fault, fault, wrong_method, HeadAsks, refuses, looks_up, sends, sends_body, place_asks, is_foreign, own_asks, head_asks, body_length, length_beside, length_among, within_length, key_of, values_of, BodyAsks, bad_body, unreadable, looks_at, for_station, IsAskedUnder, refused_data, answer_reply, refusal_status, body_reply, body_state, IsWritten, head_of, HasHead, SendsWhole, Replied, IsAnsweredAs, StationAfter, added, GetsReport, IsAnswer, IsPartOut, HasServed, IsPosted, BeginsAs200, IsAfterStep}
 use Rattle.shipment_machine.specs.declared.plans.Refusal.{Refusal}
 use Rattle.station_core.specs.Texts.{detail_text}
-use Rattle.httparse.specs.Grammar.{RequestHead, print_request}
-use Rattle.station_days.specs.Date.{LocalMinute}
-use Rattle.station_core.specs.Given.{Given}
+use Rattle.httparse.specs.Grammar.{print_request}
 use Rattle.station_core.specs.declared.answer.Answer.{Answer}
 use Rattle.station_core.specs.declared.answer.Answer.TheVariants as answer
-use Rattle.station_core.specs.Step.{State, accepted, step}
-use Rattle.http_desk.specs.declared.printout.Printout.{Printout}
-use Rattle.http_desk.specs.declared.serve.Served.{Served}
-use Rattle.http_desk.specs.declared.serve.ServeFault.{ServeFault}
 use Rattle.http_desk.specs.declared.serve.ServeFault.TheVariants as serve
-use Rattle.http_desk.specs.Routes.{Posted, is_dry, posted_command, posted_check, posted_telegram, posted_look, Got, Place, posts, gets, place_of}
-use Rattle.http_desk.specs.Digits.{number_told}
-use Rattle.http_desk.specs.Request.{Head, Fault, fault, wrong_method, HeadAsks, refuses, looks_up, sends, sends_body, place_asks, is_foreign, own_asks, head_asks, body_length, length_beside, length_among, within_length, key_of, values_of, BodyAsks, bad_body, unreadable, looks_at, for_station, IsAskedUnder}
-use Rattle.http_desk.specs.Reply.{refused_data, answer_reply, refusal_status, body_reply, body_state, IsWritten}
-use Rattle.http_desk.specs.Answer.{head_of, HasHead, SendsWhole, Replied, IsAnsweredAs}
-use Rattle.http_desk.specs.StationAfter.{StationAfter}
-use Rattle.http_desk.specs.Serving.{added, GetsReport, IsAnswer, IsPartOut, HasServed, IsPosted, BeginsAs200, IsAfterStep}
 use Rattle.http_desk.proofs.Arrived.{one_head}
 use Rattle.http_desk.proofs.Beginnings.{first_byte, IsNo200, no_400, no_404, no_405, no_409, no_411, no_413, no_503, begins_as_200}
 use Rattle.http_desk.proofs.Joining.{added_is}

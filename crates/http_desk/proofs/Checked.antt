@@ -1,11 +1,8 @@
 -- What the check of a body answers.
 use Rattle.std.proofs.Common.{◌≡◌, ap, refl, inl, inr, IsTrue, List, ℕ}
-use Rattle.std.specs.List.{list_all}
-use Rattle.serde_json.specs.Written.{compact_text}
+use Rattle.http_desk.proofs.Common.{list_all, compact_text, Verb, IsCheckAsked, IsSaid, bad_data, good_data, looks_at}
 use Rattle.imp_fields.specs.Characters.{is_printable}
 use Rattle.desk_commands.specs.declared.command.Command.{Command}
-use Rattle.desk_commands.specs.declared.verb.Verb.{Verb}
-use Rattle.http_desk.specs.Request.{IsCheckAsked, IsSaid, bad_data, good_data, looks_at}
 
 pub good_asked : (verb : Verb) (bytes text : List ℕ) (command : Command) → IsSaid verb bytes command → text ≡ compact_text good_data → IsCheckAsked verb bytes (looks_at text)
 good_asked verb bytes text command said is = (good_data, inl (command, said, refl), ap looks_at is)

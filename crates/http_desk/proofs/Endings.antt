@@ -1,8 +1,6 @@
 -- A path without `.json` at its end.
 use Rattle.std.proofs.Common.{◌≡◌, ◌∙◌, ap, sym, refl, Bool, true, false, ℕ, ◌-◌, List, ◌++◌, length, take, drop, codes}
-use Rattle.std.proofs.lemmas.List.{take-append-drop}
-use Rattle.imp_fields.proofs.SameFlight.{bytes_eq-true}
-use Rattle.http_desk.specs.Printouts.{is_json}
+use Rattle.http_desk.proofs.Common.{take-append-drop, bytes_eq-true, is_json}
 
 pub not_json : (path : List ℕ) → ((front : List ℕ) → ¬ (path ≡ front ++ codes ".json")) → is_json path ≡ false
 not_json path none = by (is_json path) refl

@@ -1,19 +1,11 @@
 -- Bytes that have no head.
 use Rattle.std.proofs.Common.{arith, ◌≡◌, ◌∙◌, sym, ap, subst, inl, inr, ⊎_elim, Result, Ok, Err, ℕ, ◌+◌, ◌-◌, ◌<◌, ◌≤◌, List, [], ◌∷◌, ◌++◌, length, take, drop, append_assoc, refl}
-use Rattle.std.specs.Prelude.{◌⊎◌}
-use Rattle.std.specs.Result.{IsErrAnd}
-use Rattle.std.proofs.Math.Seq.{take-append-add}
-use Rattle.std.proofs.lemmas.List.{take_all, length-map, length-take-le}
-use Rattle.httparse.specs.Grammar.{RequestHead, print_blank, ReadsRequest, HasNoRequest}
-use Rattle.httparse.specs.Spans.{RequestOverflows, IsRequestWithin, IsRequestAt, name_and_value, header_bytes}
+use Rattle.http_desk.proofs.Common.{◌⊎◌, IsErrAnd, take-append-add, take_all, length-map, length-take-le, RequestHead, print_blank, ReadsRequest, HasNoRequest, RequestOverflows, IsRequestWithin, IsRequestAt, name_and_value, header_bytes, Given, most_fields, HasHead, HasNoHead, HasCome, HasGrown, HasMore, HasEndedEarly, HasEndedAfter}
 use Rattle.httparse.specs.declared.spans.HeaderSpan.{HeaderSpan}
 use Rattle.httparse.specs.declared.spans.RequestSpans.{RequestSpans}
 use Rattle.httparse.proofs.GrammarLemmas.{ReadsRequest-append, print_request-append}
-use Rattle.station_core.specs.Given.{Given}
-use Rattle.http_desk.specs.Answer.{most_fields, HasHead}
 use Rattle.http_desk.specs.declared.reading.ReadEnd.{ReadEnd}
 use Rattle.http_desk.specs.declared.reading.ReadEnd.TheVariants as end
-use Rattle.http_desk.specs.Reading.{HasNoHead, HasCome, HasGrown, HasMore, HasEndedEarly, HasEndedAfter}
 
 nothing_behind : (xs : List ℕ) → xs ++ [] ≡ xs
 nothing_behind [] = refl
@@ -39,10 +31,6 @@ over bytes le overflows = (
 pub come_more : (start mid now : Given) (before after : List ℕ) → mid.bytes ≡ start.bytes ++ before → HasCome mid now before after → now.bytes ≡ start.bytes ++ after
 come_more start mid now before after so_far more =
     more.given ∙ ap (λ b. b ++ more.part) so_far ∙ append_assoc start.bytes before more.part ∙ ap (λ b. start.bytes ++ b) (sym more.bytes)
-
--- nothing more has come yet
-pub grown_none : (now : Given) (bytes : List ℕ) → HasGrown now now bytes bytes
-grown_none now bytes = record { part = []; bytes = sym (nothing_behind bytes); given = sym (nothing_behind now.bytes); failures = refl; idle = refl }
 
 -- one read more
 pub grown_more : (start mid now : Given) (first before after : List ℕ) → HasGrown start mid first before → HasCome mid now before after → HasGrown start now first after
@@ -103,18 +91,10 @@ none_of_nothing h head =
 pub none_found : (bytes : List ℕ) → length bytes ≤ 16_384 → HasNoRequest bytes → (h : RequestHead) → ¬ (HasHead bytes h)
 none_found bytes le none h head = let reads = whole_room bytes h le head in none h reads.0 reads.1
 
--- reads went on behind a head, and were so many
-pub most_all : (start mid now : Given) (turns : ℕ) → turns ≤ 100_000 → mid.calls ≡ start.calls + turns → now.calls ≤ mid.calls + (100_000 - turns) → now.calls ≤ start.calls + 100_000
-most_all start mid now turns few calls most = omega (arith, few, calls, most)
-
 -- bytes that have come behind others
 pub more_come : (start mid now : Given) (before after : List ℕ) → mid.bytes ≡ start.bytes ++ before → HasMore mid now before after → now.bytes ≡ start.bytes ++ after
 more_come start mid now before after so_far (part, (is, come)) =
     come ∙ ap (λ b. b ++ part) so_far ∙ append_assoc start.bytes before part ∙ ap (λ b. start.bytes ++ b) (sym is)
-
--- a read that brought nothing left the bytes as they were
-pub still_more : (start mid now : Given) (first before after : List ℕ) → HasGrown start mid first before → after ≡ before → now.bytes ≡ mid.bytes → HasMore start now first after
-still_more start mid now first before after so_far same still = (so_far.part, (same ∙ so_far.bytes, still ∙ so_far.given))
 
 -- an error that is passed on
 pub passed_read : {A : Type 0} (r : Result A ReadEnd) (e : ReadEnd) (C : Type 0) → IsErrAnd r (λ x. x ≡ e) → (e ≡ end.Read → C) → r ≡ Err end.Read → C

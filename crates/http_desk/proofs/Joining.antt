@@ -1,25 +1,10 @@
 -- What is sent for a request, once it went out, is its answer.
 use Rattle.std.proofs.Common.{◌≡◌, ◌∙◌, ap, sym, subst, refl, inl, inr, ⊎_elim, ℕ, Bool, Option, None, Result, Ok, Err, List, [], ◌∷◌, ◌++◌, length, take, drop}
-use Rattle.std.specs.Prelude.{IfOk}
-use Rattle.station_days.specs.Date.{LocalMinute}
-use Rattle.station_core.specs.Given.{Given}
+use Rattle.http_desk.proofs.Common.{IfOk, LocalMinute, Given, State, Wanted, HasAsked, HasAskedShut, tells_reopen, Wants, wanted_reply, wanted_state, Response, Printout, Served, ServeFault, Replied, Reply, json_reply, ok_data, ok_answer, report_head, StationAfter, station_at, WorksAt, added, unavailable, SomeOrEach, IsBeginning, IsUnchangedOrBroken, BeginsAs503, IsAnswer, IsPartOut, HasServed, HasServedShut, IsToldFor, IsToldShut, HasSent, HasBegun, HasReported, HasWritten, HasWrittenShut}
 use Rattle.station_core.specs.Ends.{HasCause}
-use Rattle.station_core.specs.Step.{State}
-use Rattle.http_desk.specs.declared.wanted.Wanted.{Wanted}
 use Rattle.http_desk.specs.declared.wanted.Wanted.TheVariants as wanted
-use Rattle.http_desk.specs.Told.{HasAsked, HasAskedShut, tells_reopen}
-use Rattle.http_desk.specs.Wanted.{Wants, wanted_reply, wanted_state}
-use Rattle.http_desk.specs.declared.asking.Response.{Response}
 use Rattle.http_desk.specs.declared.asking.Response.TheVariants as told
-use Rattle.http_desk.specs.declared.printout.Printout.{Printout}
-use Rattle.http_desk.specs.declared.serve.Served.{Served}
-use Rattle.http_desk.specs.declared.serve.ServeFault.{ServeFault}
 use Rattle.http_desk.specs.declared.serve.ServeFault.TheVariants as serve
-use Rattle.http_desk.specs.Answer.{Replied}
-use Rattle.http_desk.specs.Reply.{Reply, json_reply, ok_data, ok_answer, report_head}
-use Rattle.http_desk.specs.StationAfter.{StationAfter, station_at, WorksAt}
-use Rattle.http_desk.specs.Serving.{added, unavailable, SomeOrEach, IsBeginning, IsUnchangedOrBroken, BeginsAs503, IsAnswer, IsPartOut, HasServed, HasServedShut}
-use Rattle.http_desk.specs.Writing.{IsToldFor, IsToldShut, HasSent, HasBegun, HasReported, HasWritten, HasWrittenShut}
 use Rattle.http_desk.proofs.Beginnings.{ok_no_503, begins_as_503}
 use Rattle.http_desk.proofs.Reporting.{some_or_each}
 

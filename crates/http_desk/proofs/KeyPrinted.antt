@@ -1,16 +1,7 @@
 -- A key is read back from its segment.
 use Rattle.std.proofs.Common.{arith, ◌≡◌, ◌∙◌, ap, refl, ℕ, ◌*◌, ◌/◌, ◌%◌, ◌+◌, ◌<◌, ◌≤◌, Bool, true, false, ⊎_elim, Some, List, [], ◌∷◌, ◌++◌, length, length-append}
-use Rattle.std.specs.Prelude.{◌==◌, ◌&&◌, not, nat_le, if◌then◌else◌, option_and_then}
-use Rattle.std.specs.Char.{digit_value}
-use Rattle.std.specs.Fmt.{digit_glyph}
-use Rattle.std.specs.List.{list_all}
-use Rattle.std.proofs.lemmas.Bool.{and_parts, and_from, cases_Bool, cond-false, leb-true, lt-ltb}
-use Rattle.std.proofs.lemmas.Bool.Decides.{nat_tests}
-use Rattle.std.proofs.lemmas.List.Folds.{list_all-append}
+use Rattle.http_desk.proofs.Common.{◌==◌, ◌&&◌, not, nat_le, if◌then◌else◌, option_and_then, digit_value, digit_glyph, list_all, and_parts, and_from, cases_Bool, cond-false, leb-true, lt-ltb, nat_tests, list_all-append, is_key, is_key_byte, where_true, and_then, decoded, escaped_byte, is_unescaped, key_in, key_segment, printed_byte}
 use Rattle.percent_encoding.specs.Percent.{percent_encode_byte}
-use Rattle.station_core.specs.Key.{is_key, is_key_byte}
-use Rattle.station_days.specs.Steps.{where_true}
-use Rattle.http_desk.specs.Keys.{and_then, decoded, escaped_byte, is_unescaped, key_in, key_segment, printed_byte}
 
 -- A byte is read as it was printed.
 

@@ -1,16 +1,8 @@
 -- The code of keys' segments, and their definitions.
 use Rattle.std.proofs.Common.{arith, ◌≡◌, ◌∙◌, ap, sym, refl, ℕ, ◌+◌, ◌<◌, Bool, true, false, ⊎_elim, Option, Some, None, List, [], ◌∷◌, ◌++◌, length, take, set, append_assoc, length-append}
-use Rattle.std.specs.List.{list_all}
-use Rattle.std.proofs.lemmas.List.{length-take}
-use Rattle.std.specs.Prelude.{◌&&◌, not, nat_le, nat_lt, if◌then◌else◌, option_map, option_and_then}
-use Rattle.std.proofs.lemmas.Bool.{agree_below_at, cases_Bool, ltb-true}
-use Rattle.std.proofs.lemmas.Bool.Decides.{nat_tests}
-use Rattle.std.proofs.lemmas.List.{take_more_set}
+use Rattle.http_desk.proofs.Common.{list_all, length-take, ◌&&◌, not, nat_le, nat_lt, if◌then◌else◌, option_map, option_and_then, agree_below_at, cases_Bool, ltb-true, nat_tests, take_more_set, is_key, is_key_byte, where_true, and_then, decoded, is_unescaped, key_in, key_segment, printed_byte}
 use Rattle.percent_encoding.specs.AsciiSet.{should_percent_encode}
 use Rattle.percent_encoding.specs.Percent.{encode_byte, percent_encode, percent_encode_byte}
-use Rattle.station_core.specs.Key.{is_key, is_key_byte}
-use Rattle.station_days.specs.Steps.{where_true}
-use Rattle.http_desk.specs.Keys.{and_then, decoded, is_unescaped, key_in, key_segment, printed_byte}
 use Rattle.http_desk.specs.declared.keys.TheConstants.{ESCAPED}
 
 -- A segment is printed by the set of the escaped bytes.

@@ -11,6 +11,7 @@ mod FieldLaws
 mod Heads
 mod Joining
 mod KeyPrinted
+pub mod Common
 pub mod KeySegments
 mod NoVerb
 pub mod Segments

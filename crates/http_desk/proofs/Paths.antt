@@ -1,19 +1,7 @@
 -- Which paths lead where.
 use Rattle.std.proofs.Common.{arith, ◌≡◌, ◌∙◌, ap, sym, subst, refl, inl, inr, ℕ, suc, ◌+◌, Bool, true, false, cond, Option, Some, None, List, [], ◌∷◌, ◌++◌, length, take, codes}
-use Rattle.std.specs.Prelude.{◌↔◌, ◌&&◌, ◌==◌, not, nat_lt, if◌then◌else◌, option_map}
-use Rattle.std.specs.List.{list_all, position_or_len}
-use Rattle.std.specs.Str.{bytes_eq}
-use Rattle.std.proofs.Math.Seq.{take-length, take-append_seam}
-use Rattle.std.proofs.lemmas.Bool.{and_parts, ltb-true, lt-ltb}
-use Rattle.imp_fields.proofs.SameFlight.{bytes_eq-true}
-use Rattle.desk_commands.specs.declared.verb.Verb.{Verb}
-use Rattle.desk_commands.specs.Verb.{word, verb_called}
-use Rattle.desk_commands.proofs.Words.{called_again, called_is, of_every}
-use Rattle.http_desk.specs.declared.printout.Printout.{Printout}
+use Rattle.http_desk.proofs.Common.{◌↔◌, ◌&&◌, ◌==◌, not, nat_lt, if◌then◌else◌, option_map, list_all, position_or_len, bytes_eq, take-length, take-append_seam, and_parts, ltb-true, lt-ltb, bytes_eq-true, Verb, word, verb_called, called_again, called_is, of_every, Printout, printout_at, posted_command, posted_check, posted_telegram, posted_look, got_waybill, got_history, got_holder, got_report, Place, posts, gets, page_at, page_named, page_part, page_word, path_of, asked_place, place_of, has_slash, path_text}
 use Rattle.http_desk.specs.Paths.{is_path_byte, IsPath, IsName, IsPage, LeadsToPage, LeadsTo, segments}
-use Rattle.http_desk.specs.Printouts.{printout_at}
-use Rattle.http_desk.specs.Routes.{posted_command, posted_check, posted_telegram, posted_look, got_waybill, got_history, got_holder, got_report, Place, posts, gets, page_at, page_named, page_part, page_word, path_of, asked_place, place_of}
-use Rattle.http_desk.specs.Segments.{has_slash, path_text}
 use Rattle.http_desk.proofs.Segments.{all_plain, at_three, at_two, found, IsFound}
 
 -- The page of a path.

@@ -1,40 +1,20 @@
 -- What is printed is read as it was.
 use Rattle.std.proofs.Common.{arith, ◌≡◌, ◌∙◌, ap, sym, refl, ℕ, ◌+◌, ◌-◌, ◌*◌, ◌/◌, ◌%◌, ◌<◌, ◌≤◌, ◌^◌, Bool, true, false, Some, None, Option, List, [], ◌∷◌, ◌++◌, length, take, drop, codes, decimal, length-append, append_assoc, take-append-drop}
-use Rattle.std.specs.Prelude.{◌&&◌, ◌==◌, not, nat_le, nat_lt, if◌then◌else◌, option_map, option_and_then}
-use Rattle.std.specs.Char.{is_ascii_graphic}
-use Rattle.std.specs.Fmt.{digit_glyph}
-use Rattle.std.specs.List.{list_all}
-use Rattle.std.specs.Result.{result_ok}
-use Rattle.std.specs.Str.{bytes_eq}
-use Rattle.std.proofs.lemmas.Bool.{and_parts, and_from, le-leb, lt-ltb, leb-true}
-use Rattle.std.proofs.lemmas.Bool.Decides.{nat_tests}
+use Rattle.http_desk.proofs.Common.{◌&&◌, ◌==◌, not, nat_le, nat_lt, if◌then◌else◌, option_map, option_and_then, is_ascii_graphic, digit_glyph, list_all, result_ok, bytes_eq, and_parts, and_from, le-leb, lt-ltb, leb-true, nat_tests, list_all-append, take-append_seam, drop-append_seam, is_digit, is_letter_or_digit, decimal_value, padded, IsNumber, number_text, prefix_of, serial_of, check_digit, bytes_eq-true, date_on, year_of, where_true, of_every, is_key, is_number, number_told, is_unescaped, key_segment, in_form, is_json, flight_on, numbered_rows, row_number, rows_at, rows_named, rows_part, rows_word, waybill_rows, Place, Posted, posts, gets, posted_command, posted_check, posted_telegram, posted_look, got_history, got_holder, got_report, got_waybill, page_at, page_named, page_part, page_word, asked_place, is_slash, joined, path_text}
 use Rattle.std.proofs.lemmas.Fmt.{length-decimal-le, decimal_nonempty, decimal_by_steps}
-use Rattle.std.proofs.lemmas.List.Folds.{list_all-append}
-use Rattle.std.proofs.Math.Seq.{take-append_seam, drop-append_seam}
-use Rattle.awb_number.specs.Digits.{is_digit, is_letter_or_digit, decimal_value, padded}
-use Rattle.awb_number.specs.Number.{IsNumber, number_text, prefix_of, serial_of, check_digit}
 use Rattle.awb_number.proofs.NumberLaws.{number_again}
 use Rattle.awb_number.proofs.Padded.{decimal_value-last, digits-padded, length-padded}
 use Rattle.agent_stock.specs.Code.{is_agent_code}
 use Rattle.imp_fields.specs.Flight.{Designator, flight_text, IsDesignator}
 use Rattle.imp_fields.proofs.FieldLaws.{flight_again, flight_code}
-use Rattle.imp_fields.proofs.SameFlight.{bytes_eq-true}
 use Rattle.imp_fields.proofs.WrittenLaws.{decimal_digits}
-use Rattle.station_days.specs.Date.{date_on, day_line, year_of}
-use Rattle.station_days.specs.Steps.{where_true}
-use Rattle.desk_commands.proofs.Words.{of_every}
-use Rattle.station_core.specs.Key.{is_key}
+use Rattle.station_days.specs.Date.{day_line}
 use Rattle.reports.specs.declared.form.Form.{Form}
 use Rattle.reports.specs.declared.form.Form.TheVariants as form
 use Rattle.reports.specs.declared.listing.Listing.{Listing}
 use Rattle.reports.specs.declared.listing.Listing.TheVariants as listing
 use Rattle.reports.specs.declared.report.Report.TheVariants as report
-use Rattle.http_desk.specs.Digits.{is_number, number_told}
-use Rattle.http_desk.specs.Keys.{is_unescaped, key_segment}
 use Rattle.http_desk.specs.Paths.{HasPath, IsListed, IsPage, IsPathOf, is_path_byte, listing_path, rows_path, rows_segments, segments}
-use Rattle.http_desk.specs.Printouts.{in_form, is_json, flight_on, numbered_rows, row_number, rows_at, rows_named, rows_part, rows_word, waybill_rows}
-use Rattle.http_desk.specs.Routes.{Place, Posted, posts, gets, posted_command, posted_check, posted_telegram, posted_look, got_history, got_holder, got_report, got_waybill, page_at, page_named, page_part, page_word, asked_place}
-use Rattle.http_desk.specs.Segments.{is_slash, joined, path_text}
 use Rattle.http_desk.proofs.KeyPrinted.{key_again, segment_all, segment_few}
 use Rattle.http_desk.proofs.Paths.{page_there, place_is}
 use Rattle.http_desk.proofs.Segments.{all_weaker, at_three, at_two, is_path_good, is_segment, is_segment_byte, join, no_slash, plain}

@@ -1,25 +1,14 @@
 -- How an answer with a report ends, by how the report ended.
 use Rattle.std.proofs.Common.{arith, ◌≡◌, ◌∙◌, ap, subst, refl, inl, inr, ⊎_elim, ℕ, ◌+◌, ◌<◌, Bool, false, Result, Ok, Err, List, [], ◌∷◌, ◌++◌, length, take}
-use Rattle.std.specs.Prelude.{◌⊎◌}
-use Rattle.std.proofs.lemmas.List.{length-take-le}
-use Rattle.station_core.specs.Given.{Given}
+use Rattle.http_desk.proofs.Common.{◌⊎◌, length-take-le, Given, State, Printout, report_head, IsPrinted, unavailable, SomeOrEach, StopsServing, HasSent, HasBegun, HasReported, Served, ServeFault, IsReadersFault}
 use Rattle.station_core.specs.Ends.{Sent, HasCause, NoneFailed, OneFailed}
-use Rattle.station_core.specs.Step.{State}
 use Rattle.reports.specs.Ended.{HasEndedBy, HasTold, HaveGone, IsBegun, IsCause, StopsBy}
 use Rattle.reports.specs.declared.fault.ReportCause.{ReportCause}
 use Rattle.reports.specs.declared.fault.ReportCause.TheVariants as cause
 use Rattle.reports.specs.declared.fault.ReportFault.{ReportFault}
-use Rattle.http_desk.specs.declared.printout.Printout.{Printout}
-use Rattle.http_desk.specs.Reply.{report_head}
-use Rattle.http_desk.specs.Printouts.{IsPrinted}
-use Rattle.http_desk.specs.Serving.{unavailable, SomeOrEach, StopsServing}
-use Rattle.http_desk.specs.Writing.{HasSent, HasBegun, HasReported}
-use Rattle.http_desk.specs.declared.serve.Served.{Served}
-use Rattle.http_desk.specs.declared.serve.ServeFault.{ServeFault}
 use Rattle.http_desk.specs.declared.serve.ServeFault.TheVariants as serve
 use Rattle.station_core.specs.declared.answer.ActFault.{ActFault}
 use Rattle.station_core.specs.declared.answer.ActFault.TheVariants as act
-use Rattle.station_core.specs.Keeping.{IsReadersFault}
 
 -- a write that failed or took no byte
 pub cause_of : (old new : Given) → OneFailed old new → HasCause old new

@@ -1,15 +1,6 @@
 -- Paths, and the segments that they are printed from.
 use Rattle.std.proofs.Common.{arith, inl, inr, ◌≡◌, ◌∙◌, ap, sym, refl, ℕ, suc, ◌+◌, ◌<◌, Bool, cond, true, false, Some, None, Option, List, [], ◌∷◌, ◌++◌, length, take, drop, codes, length-append, append_assoc, take-append-drop}
-use Rattle.std.specs.Prelude.{◌⊎◌, ◌&&◌, ◌==◌, not, nat_le, nat_lt, if◌then◌else◌}
-use Rattle.std.specs.List.{list_all, position_or_len, before_first, after_first}
-use Rattle.std.specs.Char.{is_ascii_graphic}
-use Rattle.std.specs.Str.{bytes_eq}
-use Rattle.std.proofs.lemmas.Bool.{and_parts, and_from}
-use Rattle.std.proofs.lemmas.Bool.Decides.{nat_tests}
-use Rattle.std.proofs.lemmas.List.Folds.{list_all-append}
-use Rattle.std.proofs.Math.Seq.{take-append_seam, drop-append_seam}
-use Rattle.imp_fields.proofs.SameFlight.{bytes_eq-true}
-use Rattle.http_desk.specs.Segments.{path_text, is_slash, has_slash, by_slash, by_segments}
+use Rattle.http_desk.proofs.Common.{◌⊎◌, ◌&&◌, ◌==◌, not, nat_le, nat_lt, if◌then◌else◌, list_all, position_or_len, before_first, after_first, is_ascii_graphic, bytes_eq, and_parts, and_from, nat_tests, list_all-append, take-append_seam, drop-append_seam, bytes_eq-true, path_text, is_slash, has_slash, by_slash, by_segments}
 
 pub all_weaker : (p q : ℕ → Bool) → ((b : ℕ) → p b ≡ true → q b ≡ true) → (xs : List ℕ) → list_all p xs ≡ true → list_all q xs ≡ true
 all_weaker p q weaker [] all = refl

@@ -1,25 +1,15 @@
 -- What a head or a body wants.
 use Rattle.std.proofs.Common.{◌≡◌, ◌∙◌, sym, ap, subst, refl, ℕ, Bool, true, false, codes, List, [], Option, Some, None, Result, Ok, Err}
-use Rattle.std.specs.Prelude.{MatchResult, if◌then◌else◌}
-use Rattle.std.specs.Result.{result_ok}
+use Rattle.http_desk.proofs.Common.{MatchResult, if◌then◌else◌, result_ok, number_of, Printout, Wanted, Place, got_waybill, got_history, got_holder, got_report, Head, HeadAsks, refuses, looks_up, fault, is_foreign, own_asks, place_asks, head_asks, Reply, numbered, unknown, fault_reply, waybill_reply, history_of, holder_reply, Replied, IsAnsweredAs, HeadWants, WantsNow, HasWants}
 use Rattle.std.specs.Array.{IsWholeChunk}
-use Rattle.awb_number.specs.Number.{number_of}
 use Rattle.awb_number.specs.declared.awb.AwbFault.{AwbFault}
 use Rattle.station_core.specs.Readers.{waybill_of}
 use Rattle.http_desk.specs.declared.fault.FaultTold.{FaultTold}
-use Rattle.http_desk.specs.declared.printout.Printout.{Printout}
-use Rattle.http_desk.specs.declared.wanted.Wanted.{Wanted}
 use Rattle.http_desk.specs.declared.wanted.Wanted.TheVariants as wanted
 use Rattle.http_desk.specs.Fields.{meant}
-use Rattle.http_desk.specs.Routes.{Place, got_waybill, got_history, got_holder, got_report}
 use Rattle.http_desk.specs.declared.head.Asks.{Asks}
 use Rattle.http_desk.specs.HeadTold.{asks_meant}
-use Rattle.http_desk.specs.Request.{Head, HeadAsks, refuses, looks_up, fault, is_foreign, own_asks, place_asks, head_asks}
-use Rattle.http_desk.specs.Reply.{Reply, numbered, unknown, fault_reply, waybill_reply, history_of, holder_reply}
-use Rattle.http_desk.specs.Answer.{Replied, IsAnsweredAs}
-use Rattle.http_desk.specs.declared.wanted.HeadWants.{HeadWants}
 use Rattle.http_desk.specs.declared.wanted.HeadWants.TheVariants as wants
-use Rattle.http_desk.specs.Wanted.{WantsNow, HasWants}
 
 option_of : {A : Type 0} → Option A → A → A
 option_of (Some x) other = x
@@ -96,13 +86,6 @@ report_of _ other = other
 report_is : (name other : Printout) → ◌≡◌ {A = Wanted} (wanted.Report name) (wanted.Report other) → name ≡ other
 unfolding report_of
 report_is name other e = ap (λ w. report_of w name) e
-
-pub report_wanted : (name : Printout) → WantsNow (looks_up (got_report name)) (wanted.Report name)
-report_wanted name = record {
-  answered = λ head rest s at status out after r. r;
-  report = λ other is. ap (λ n. looks_up (got_report n)) (report_is name other is);
-  input = λ i is. cc is;
-}
 
 pub fault_wanted : (asks : HeadAsks) (f : FaultTold) → asks ≡ refuses (meant f) → WantsNow asks (wanted.Fault f)
 fault_wanted asks f is = record {

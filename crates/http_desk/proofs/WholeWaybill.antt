@@ -1,12 +1,8 @@
 -- The four parts of a waybill's members are its text.
 use Rattle.std.proofs.Common.{◌≡◌, ◌∙◌, ap, ℕ, List, ◌++◌, append_assoc, codes}
 use Rattle.serde_json.proofs.OnLiterals.{serde_json_on_literals}
-use Rattle.serde_json.specs.Data.{boolean, string}
-use Rattle.serde_json.specs.Written.{compact_text}
-use Rattle.awb_number.specs.Number.{number_text}
-use Rattle.station_core.specs.declared.rows.Waybill.{Waybill}
+use Rattle.http_desk.proofs.Common.{boolean, string, compact_text, number_text, Waybill, pair_data, waybill_data}
 use Rattle.http_desk.specs.Members.{first_members, second_members, third_members, last_members}
-use Rattle.http_desk.specs.Reply.{pair_data, waybill_data}
 
 three_more : (j a k b l c m x : List ℕ) → (j ++ (a ++ (k ++ (b ++ (l ++ (c ++ m)))))) ++ x ≡ j ++ (a ++ (k ++ (b ++ (l ++ (c ++ (m ++ x))))))
 three_more j a k b l c m x = simp append_assoc

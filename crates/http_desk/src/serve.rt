@@ -97,7 +97,8 @@ pub fn serve_one<K: Keeper, I: ByteIn, O: ByteOut>(
     // own input.
     ensures unavailable { IfWorks K.keeping keeper.old keeper.new (λ s. BeginsAs503
         (added (O.taken writer.old) (O.taken writer.new)) → IsUnchangedOrBroken
-        (added (I.given reader.old) (I.given reader.new)) s at (station_after K.keeping keeper.new)) }
+        (added (I.given reader.old) (I.given reader.new)) s at
+        (station_after K.keeping keeper.new)) }
 
     // It reports that the station must be opened again exactly if this connection broke it.
     ensures told { IfWorks K.keeping keeper.old keeper.new

@@ -1,14 +1,9 @@
 -- Fields as they are written are ASCII.
 use Rattle.std.proofs.Common.{◌≡◌, ◌<◌, ℕ, true, List, [], ◌∷◌, ◌++◌, arith}
-use Rattle.std.proofs.lemmas.Bool.{and_parts}
+use Rattle.imp_fields.proofs.Common.{and_parts, is_letter, is_letter_or_digit, is_airport, is_printable, Designator, IsDesignator, flight_text, is_carrier, is_name, is_goods}
 use Rattle.std.proofs.lemmas.Bool.Decides.{nat_tests}
 use Rattle.std.specs.Str.{IsAscii}
 use Rattle.awb_number.specs.Ascii.{IsAscii-tested, ascii-letter_or_digit}
-use Rattle.awb_number.specs.Digits.{is_letter, is_letter_or_digit}
-use Rattle.imp_fields.specs.Airport.{is_airport}
-use Rattle.imp_fields.specs.Characters.{is_printable}
-use Rattle.imp_fields.specs.Flight.{Designator, IsDesignator, flight_text, is_carrier}
-use Rattle.imp_fields.specs.Name.{is_name, is_goods}
 use Rattle.imp_fields.proofs.FieldLaws.{flight_code}
 
 ascii-letter : (b : ℕ) → is_letter b ≡ true → b < 128

@@ -1,10 +1,7 @@
 -- A text that is cut at its first slash.
 use Rattle.std.proofs.Common.{◌≡◌, ℕ, ◌+◌, ◌<◌, Bool, true, false, List, [], ◌∷◌, length, take, drop, sym, ap, ◌∙◌, subst, refl, arith}
-use Rattle.std.specs.Prelude.{not}
-use Rattle.std.specs.List.{onto_first, join_with_byte, position_or_len}
-use Rattle.std.proofs.lemmas.Bool.{cond-true, cond-false}
+use Rattle.imp_fields.proofs.Common.{not, onto_first, join_with_byte, position_or_len, cond-true, cond-false, fields, is_slash}
 use Rattle.std.proofs.lemmas.List.Splits.{slice_split_first, join_with_byte-slice_split}
-use Rattle.imp_fields.specs.Characters.{fields, is_slash}
 
 pub cut_at : (text : List ℕ) (place : ℕ) → place ≡ position_or_len is_slash text → place < length text → fields text ≡ take place text ∷ fields (drop (place + 1) text)
 cut_at text place e lt =

@@ -1,3 +1,4 @@
+pub mod Common
 pub mod ExamplesQuantity
 pub mod ExamplesField
 pub mod ExamplesText

@@ -1,21 +1,7 @@
 -- A consignment line's reading, by what its parts are.
 use Rattle.std.proofs.Common.{◌≡◌, ℕ, ◌+◌, ◌-◌, ◌≤◌, Bool, true, false, List, [], length, take, drop, Some, None, refl, sym, ap, ◌∙◌, inl, inr, arith}
-use Rattle.std.proofs.lemmas.List.Sums.{prefix_len-le-length}
-use Rattle.std.specs.Prelude.{not, slice_range, min, Result, Ok, Err}
-use Rattle.std.specs.List.{position_or_len}
-use Rattle.std.proofs.lemmas.Bool.{cases_lt, cond-true, cond-false}
-use Rattle.std.proofs.lemmas.Option.{cond_some}
-use Rattle.std.proofs.lemmas.List.{length-take-le, drop-drop, drop_all, take_all, length-drop}
-use Rattle.awb_number.specs.Number.{number_of}
+use Rattle.imp_fields.proofs.Common.{prefix_len-le-length, not, slice_range, min, Result, Ok, Err, position_or_len, cases_lt, cond-true, cond-false, cond_some, length-take-le, drop-drop, drop_all, take_all, length-drop, number_of, is_slash, where_true, quantity_of, Shipment, has_consignment_shape, quantity_part, goods_part, consignment_by, consignment_of, IsSlice, Token, Quantity, Why}
 use Rattle.awb_number.specs.declared.awb.AwbFault.{AwbFault}
-use Rattle.imp_fields.specs.Characters.{is_slash}
-use Rattle.station_days.specs.Steps.{where_true}
-use Rattle.imp_fields.specs.Quantity.{quantity_of}
-use Rattle.imp_fields.specs.Consignment.{Shipment, has_consignment_shape, quantity_part, goods_part, consignment_by, consignment_of}
-use Rattle.imp_fields.specs.Token.{IsSlice}
-use Rattle.imp_fields.specs.declared.token.Token.{Token}
-use Rattle.imp_fields.specs.declared.amount.Quantity.{Quantity}
-use Rattle.imp_fields.specs.declared.fault.Why.{Why}
 use Rattle.imp_fields.specs.declared.fault.Why.TheVariants as why
 use Rattle.imp_fields.proofs.ShapeLaws.{Route, route_of}
 

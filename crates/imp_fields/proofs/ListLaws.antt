@@ -1,12 +1,6 @@
 -- One more element at the end of a list.
 use Rattle.std.proofs.Common.{◌≡◌, ℕ, ◌+◌, ◌-◌, ◌<◌, ◌≤◌, Bool, true, false, cond, List, [], ◌∷◌, ◌++◌, length, take, Some, None, refl, sym, ap, ◌∙◌, inl, inr, arith}
-use Rattle.std.specs.Prelude.{position, not, ◌==◌}
-use Rattle.std.specs.List.{prefix_len, suffix_len, position_or_len}
-use Rattle.std.proofs.lemmas.Bool.{cases_lt, cond-true, cond-false, lt-ltb, le-ltb, eq-eqb, ne_eqb}
-use Rattle.std.proofs.lemmas.List.{length-append, reverse-append, take_all, take-append-le, length-take-le}
-use Rattle.std.proofs.lemmas.List.Folds.{prefix_len-append}
-use Rattle.std.proofs.lemmas.List.Sums.{prefix_len-le-length}
-use Rattle.imp_fields.specs.Characters.{before_last_while}
+use Rattle.imp_fields.proofs.Common.{position, not, ◌==◌, prefix_len, suffix_len, position_or_len, cases_lt, cond-true, cond-false, lt-ltb, le-ltb, eq-eqb, ne_eqb, length-append, reverse-append, take_all, take-append-le, length-take-le, prefix_len-append, prefix_len-le-length, before_last_while}
 
 pub suffix_len-more : {X : Type 0} (p : X → Bool) (xs : List X) (y : X) → suffix_len p (xs ++ y ∷ []) ≡ cond (p y) (1 + suffix_len p xs) 0
 suffix_len-more p xs y = ap (prefix_len p) (reverse-append xs (y ∷ []))

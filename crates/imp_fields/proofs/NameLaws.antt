@@ -1,13 +1,6 @@
 -- Text that is kept is a goods text.
 use Rattle.std.proofs.Common.{◌≡◌, ℕ, ◌-◌, ◌<◌, ◌≤◌, Bool, true, false, List, length, get_or, take, drop, sym, ap, ◌∙◌, subst, inl, inr, arith}
-use Rattle.std.specs.Prelude.{IsTrue, not, min, reverse}
-use Rattle.std.specs.List.{list_all, suffix_len}
-use Rattle.std.proofs.lemmas.Bool.{and_parts, and_from, cases_lt, le-leb}
-use Rattle.std.proofs.lemmas.List.{take_all, length-take, length-take-le, length-reverse, get_or-take, get_or-reverse, take-append-drop}
-use Rattle.std.proofs.lemmas.List.Folds.{list_all-append}
-use Rattle.std.proofs.lemmas.List.Sums.{prefix_len_stops}
-use Rattle.imp_fields.specs.Characters.{is_printable, is_blank}
-use Rattle.imp_fields.specs.Name.{ends_in_blank, trimmed, kept_goods, is_goods}
+use Rattle.imp_fields.proofs.Common.{IsTrue, not, min, reverse, list_all, suffix_len, and_parts, and_from, cases_lt, le-leb, take_all, length-take, length-take-le, length-reverse, get_or-take, get_or-reverse, take-append-drop, list_all-append, prefix_len_stops, is_printable, is_blank, ends_in_blank, trimmed, kept_goods, is_goods}
 
 pub list_all-take : {X : Type 0} (p : X → Bool) (n : ℕ) (xs : List X) → list_all p xs ≡ true → list_all p (take n xs) ≡ true
 list_all-take p n xs all =

@@ -1,19 +1,7 @@
 -- The normal lines of a telegram, once all of its lines were seen.
 use Rattle.std.proofs.Common.{◌≡◌, ℕ, zero, suc, ◌+◌, ◌-◌, ◌<◌, ◌≤◌, Bool, true, cond, List, [], ◌∷◌, ◌++◌, length, get_or, take, drop, map, Option, Some, None, Result, Ok, Err, ◌⊎◌, refl, sym, ap, ◌∙◌, inl, inr, arith, subst, append-nil}
-use Rattle.std.specs.Prelude.{position, not, nat_lt, reverse}
-use Rattle.std.specs.List.{list_all, slice_split, suffix_len, position_or_len}
-use Rattle.std.proofs.lemmas.Bool.{and_parts, and_from, cases_Bool, cases_lt, cond-true, cond-false, le-ltb, lt-ltb, le-leb, eqb-true, cases_cond}
-use Rattle.std.proofs.lemmas.List.{length-map, length-take, length-drop, take-append-drop, take_all, take-take, drop-take, drop-drop, take-map, get_or-reverse, get_or-drop}
-use Rattle.std.proofs.lemmas.List.Folds.{list_all-append, list_all-map}
-use Rattle.std.proofs.lemmas.List.Sums.{prefix_len_passes, list_all-from_AllPass, suffix_len-le-length}
-use Rattle.imp_fields.specs.Characters.{is_printable, is_line, before_last_while, last_while}
-use Rattle.imp_fields.specs.Token.{AreSlices, AreSlicesFrom, is_line_token}
-use Rattle.imp_fields.specs.NormalText.{is_newline, is_empty, line_without_end, lines_of, line_fault, first_fault, kind_of, is_message_line, first_kind, starts_from, line_starts, BeginLines, fault_at, from_line, from_message_line, unless_fault, normal_lines, IsFaultOf, fault_of}
-use Rattle.imp_fields.specs.Scan.{AreKept, IsScanned, IsScannedTo}
-use Rattle.imp_fields.specs.declared.fault.Why.{Why}
+use Rattle.imp_fields.proofs.Common.{position, not, nat_lt, reverse, list_all, slice_split, suffix_len, position_or_len, and_parts, and_from, cases_Bool, cases_lt, cond-true, cond-false, le-ltb, lt-ltb, le-leb, eqb-true, cases_cond, length-map, length-take, length-drop, take-append-drop, take_all, take-take, drop-take, drop-drop, take-map, get_or-reverse, get_or-drop, list_all-append, list_all-map, prefix_len_passes, list_all-from_AllPass, suffix_len-le-length, is_printable, is_line, before_last_while, last_while, AreSlices, AreSlicesFrom, is_line_token, is_newline, is_empty, line_without_end, lines_of, line_fault, first_fault, kind_of, is_message_line, first_kind, starts_from, line_starts, BeginLines, fault_at, from_line, from_message_line, unless_fault, normal_lines, IsFaultOf, fault_of, AreKept, IsScanned, IsScannedTo, Why, TextFault, Token}
 use Rattle.imp_fields.specs.declared.fault.Why.TheVariants as why
-use Rattle.imp_fields.specs.declared.fault.TextFault.{TextFault}
-use Rattle.imp_fields.specs.declared.token.Token.{Token}
 use Rattle.imp_fields.specs.declared.line.MessageKind.{MessageKind}
 use Rattle.imp_fields.specs.declared.normal.Scan.{Scan}
 use Rattle.imp_fields.proofs.FaultLaws.{AllNone, first_fault-none, first_fault-all_none}

@@ -1,7 +1,6 @@
 -- How many digits the numbers of messages have.
 use Rattle.std.proofs.Common.{◌≡◌, ℕ, ◌+◌, ◌/◌, ◌%◌, ◌^◌, ◌<◌, ◌≤◌, List, [], ◌∷◌, ◌++◌, length, ap, ◌∙◌, sym, arith, append_assoc}
-use Rattle.std.specs.Prelude.{decimal}
-use Rattle.std.proofs.lemmas.List.{length-append}
+use Rattle.imp_fields.proofs.Common.{decimal, length-append}
 use Rattle.std.proofs.lemmas.Fmt.{decimal_step, length-decimal-le}
 
 pub decimal_more : (n : ℕ) → 10 ≤ n → n < 2 ^ 32 → decimal n ≡ decimal (n / 10) ++ ((48 + n % 10) ∷ [])

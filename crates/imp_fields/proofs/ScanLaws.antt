@@ -1,19 +1,7 @@
 -- What is known of a telegram once one more line was seen.
 use Rattle.std.proofs.Common.{◌≡◌, ℕ, suc, ◌+◌, ◌-◌, ◌<◌, ◌≤◌, Bool, true, false, cond, List, [], ◌∷◌, ◌++◌, length, take, drop, map, Option, Some, None, refl, sym, ap, ◌∙◌, inl, inr, arith, append_assoc, subst}
-use Rattle.std.specs.Prelude.{position, not, nat_le, nat_lt, ◌&&◌, is_some, slice_range}
-use Rattle.std.specs.List.{AllByRecursion, list_all, prefix_len, slice_split, position_or_len, before_first}
-use Rattle.std.proofs.lemmas.Bool.{and_parts, leb-true, ne_eqb, cases_lt, cond-true, cond-false, lt-ltb, le-ltb, le-leb, lt-leb, not-true}
-use Rattle.std.proofs.lemmas.List.{length-append, take-take, length-map, map-append, take-append-le, take_all, drop_all, drop-append-le, length-take, length-drop, drop-drop}
+use Rattle.imp_fields.proofs.Common.{position, not, nat_le, nat_lt, ◌&&◌, is_some, slice_range, AllByRecursion, list_all, prefix_len, slice_split, position_or_len, before_first, and_parts, leb-true, ne_eqb, cases_lt, cond-true, cond-false, lt-ltb, le-ltb, le-leb, lt-leb, not-true, length-append, take-take, length-map, map-append, take-append-le, take_all, drop_all, drop-append-le, length-take, length-drop, drop-drop, prefix_len-le-length, prefix_len_passes, length-prefix_len, or_else, is_printable, before_last_while, IsSlice, AreSlicesFrom, is_newline, is_empty, line_without_end, line_fault, first_fault, kind_of, is_message_line, starts_from, AreKept, IsScanned, Sees, AreSlicesBefore, pieces_from, IsScannedTo, Why, Token}
 use Rattle.std.proofs.lemmas.List.Splits.{slice_split_first, slice_split_none}
-use Rattle.std.proofs.lemmas.List.Sums.{prefix_len-le-length, prefix_len_passes}
-use Rattle.std.proofs.lemmas.List.Folds.{length-prefix_len}
-use Rattle.station_days.specs.Steps.{or_else}
-use Rattle.imp_fields.specs.Characters.{is_printable, before_last_while}
-use Rattle.imp_fields.specs.Token.{IsSlice, AreSlicesFrom}
-use Rattle.imp_fields.specs.NormalText.{is_newline, is_empty, line_without_end, line_fault, first_fault, kind_of, is_message_line, starts_from}
-use Rattle.imp_fields.specs.Scan.{AreKept, IsScanned, Sees, AreSlicesBefore, pieces_from, IsScannedTo}
-use Rattle.imp_fields.specs.declared.fault.Why.{Why}
-use Rattle.imp_fields.specs.declared.token.Token.{Token}
 use Rattle.imp_fields.specs.declared.line.MessageKind.{MessageKind}
 use Rattle.imp_fields.specs.declared.normal.Scan.{Scan}
 use Rattle.imp_fields.proofs.Runs.{passes_within, run_goes_on}

@@ -1,18 +1,7 @@
 -- The shape of a consignment line, test by test.
 use Rattle.std.proofs.Common.{◌≡◌, ℕ, ◌-◌, ◌<◌, ◌≤◌, Bool, true, false, List, ◌++◌, length, get_or, take, drop, Option, Some, None, refl, sym, ap, ◌∙◌, inl, inr, arith}
-use Rattle.std.specs.Prelude.{◌&&◌, ◌==◌, slice_range, slice_index}
-use Rattle.std.specs.List.{list_all}
+use Rattle.imp_fields.proofs.Common.{◌&&◌, ◌==◌, slice_range, slice_index, list_all, take-add, and_parts, and_from, and_left, and_right, cond-true, cond-false, cases_Bool, cases_lt, eqb-true, eq-eqb, cond_some, length-take-le, length-drop, drop-drop, list_all-append, is_letter, has_number_shape, is_airport, airport_of, where_true, has_consignment_shape}
 use Rattle.std.proofs.Math.ListN.{get_or-eq_default}
-use Rattle.std.proofs.Math.Seq.{take-add}
-use Rattle.std.proofs.lemmas.Bool.{and_parts, and_from, and_left, and_right, cond-true, cond-false, cases_Bool, cases_lt, eqb-true, eq-eqb}
-use Rattle.std.proofs.lemmas.Option.{cond_some}
-use Rattle.std.proofs.lemmas.List.{length-take-le, length-drop, drop-drop}
-use Rattle.std.proofs.lemmas.List.Folds.{list_all-append}
-use Rattle.awb_number.specs.Digits.{is_letter}
-use Rattle.awb_number.specs.Number.{has_number_shape}
-use Rattle.imp_fields.specs.Airport.{is_airport, airport_of}
-use Rattle.station_days.specs.Steps.{where_true}
-use Rattle.imp_fields.specs.Consignment.{has_consignment_shape}
 
 -- a line that has the shape goes on behind its slash's place
 pub shape_long : (line : List ℕ) → has_consignment_shape line ≡ true → 19 ≤ length line

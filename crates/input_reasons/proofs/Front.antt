@@ -1,19 +1,12 @@
 -- The lines in front of a message.
 use Rattle.std.proofs.Common.{◌≡◌, ℕ, ◌+◌, ◌-◌, ◌<◌, ◌≤◌, Bool, true, false, cond, List, [], ◌∷◌, ◌++◌, length, map, take, drop, Option, Some, None, Result, Ok, Err, refl, sym, ap, ◌∙◌, subst, inl, inr, arith, append_assoc, Bor}
-use Rattle.std.specs.Prelude.{not, position, take_while, nat_lt}
-use Rattle.std.specs.List.{list_all, onto_first, position_or_len, slice_split, suffix_len}
-use Rattle.std.proofs.lemmas.Bool.{and_parts, and_from, cases_Bool, cases_lt, cond-true, cond-false, le-leb, lt-ltb}
-use Rattle.std.proofs.lemmas.List.{take-append-drop, take-append-le, length-take, map-append}
-use Rattle.std.proofs.lemmas.List.Folds.{list_all-append, list_all-map}
+use Rattle.input_reasons.proofs.Common.{not, position, take_while, nat_lt, list_all, onto_first, position_or_len, slice_split, suffix_len, and_parts, and_from, cases_Bool, cases_lt, cond-true, cond-false, le-leb, lt-ltb, take-append-drop, take-append-le, length-take, map-append, list_all-append, list_all-map, is_line, is_printable, last_while, is_newline, is_empty, line_without_end, lines_of, line_fault, first_fault, is_message_line, from_line, from_message_line, unless_fault, normal_lines, dropped_line, front_lines}
 use Rattle.std.proofs.lemmas.List.Splits.{slice_split_first}
 use Rattle.std.proofs.lemmas.List.Sums.{take_while-cons}
-use Rattle.imp_fields.specs.Characters.{is_line, is_printable, last_while}
-use Rattle.imp_fields.specs.NormalText.{is_newline, is_empty, line_without_end, lines_of, line_fault, first_fault, is_message_line, from_line, from_message_line, unless_fault, normal_lines}
 use Rattle.imp_fields.specs.declared.fault.Why.TheVariants as why
 use Rattle.imp_fields.specs.declared.fault.TextFault.{TextFault}
 use Rattle.imp_fields.proofs.FaultLaws.{AllNone, first_fault-none}
 use Rattle.imp_fields.proofs.ListLaws.{position-some, position-append}
-use Rattle.input_reasons.specs.Look.{dropped_line, front_lines}
 
 -- ---- a text that is cut at its first newline
 

@@ -1,3 +1,4 @@
+pub mod Common
 pub mod Front
 pub mod LookLaws
 pub mod LowerLines

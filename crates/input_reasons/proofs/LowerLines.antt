@@ -1,16 +1,11 @@
 -- The lines of a message below the second.
 use Rattle.std.proofs.Common.{◌≡◌, ◌∙◌, ap, sym, ℕ, suc, ◌+◌, ◌-◌, ◌<◌, true, false, List, [], ◌∷◌, ◌++◌, length, get_or, drop, map, inl, inr, arith, append_assoc}
-use Rattle.std.specs.Prelude.{◌==◌}
-use Rattle.std.specs.List.{list_all}
+use Rattle.input_reasons.proofs.Common.{◌==◌, list_all, cases_Bool, eq-eqb, eqb-true, ne_eqb, length-drop, length-map, list_all_at, left_behind, lower_lines, lower_part, seen_line}
 use Rattle.std.proofs.Math.Seq.{drop-cons}
-use Rattle.std.proofs.lemmas.Bool.{cases_Bool, eq-eqb, eqb-true, ne_eqb}
-use Rattle.std.proofs.lemmas.List.{length-drop, length-map}
-use Rattle.std.proofs.lemmas.List.Folds.{list_all_at}
 use Rattle.imp_fields.specs.Token.{is_line_token}
 use Rattle.imp_fields.specs.declared.token.Token.{Token}
 use Rattle.shipment_machine.specs.declared.command.InboundLine.{InboundLine}
 use Rattle.telegrams.specs.declared.telegram.Content.{Content}
-use Rattle.input_reasons.specs.Look.{left_behind, lower_lines, lower_part, seen_line}
 use Rattle.input_reasons.specs.declared.look_line.LinePart.{LinePart}
 use Rattle.input_reasons.specs.declared.look_line.SeenLine.{SeenLine}
 

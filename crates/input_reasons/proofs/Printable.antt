@@ -1,9 +1,6 @@
 -- Printable texts that grow.
 use Rattle.std.proofs.Common.{◌≡◌, ◌∙◌, refl, ℕ, ◌≤◌, true, List, [], ◌∷◌, ◌++◌}
-use Rattle.std.proofs.lemmas.Bool.{le-leb}
-use Rattle.std.proofs.lemmas.List.Folds.{list_all-append}
-use Rattle.std.specs.List.{list_all}
-use Rattle.imp_fields.specs.Characters.{is_printable}
+use Rattle.input_reasons.proofs.Common.{le-leb, list_all-append, list_all, is_printable}
 
 printable : (b : ℕ) → 32 ≤ b → b ≤ 126 → is_printable b ≡ true
 printable b least most = rw (le-leb 32 b least, le-leb b 126 most) refl

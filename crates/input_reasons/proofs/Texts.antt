@@ -1,11 +1,9 @@
 -- Texts of several parts.
 use Rattle.std.proofs.Common.{◌≡◌, ◌∙◌, ap, refl, sym, ℕ, List, [], ◌∷◌, ◌++◌, ◌+◌, ◌<◌, length, get_or, take, map, Option, Result, Ok, Err, IfOk, string_bytes}
-use Rattle.std.specs.Prelude.{String}
-use Rattle.std.specs.List.{cons_option, filter_map, join_by}
+use Rattle.input_reasons.proofs.Common.{String, cons_option, join_by, take_more, flat_map-map}
+use Rattle.std.specs.List.{filter_map}
 use Rattle.std.specs.declared.alloc.Global.{Global}
-use Rattle.std.proofs.lemmas.List.{take_more}
 use Rattle.std.proofs.lemmas.List.Elements.{filter_map-append}
-use Rattle.std.proofs.lemmas.List.Folds.{flat_map-map}
 
 -- a text that was written is one that is equal
 pub told : {E : Type 0} (r : Result (String Global) E) (bytes text : List ℕ) → bytes ≡ text → IfOk r (λ s. string_bytes s ≡ bytes) → IfOk r (λ s. string_bytes s ≡ text)

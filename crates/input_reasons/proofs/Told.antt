@@ -1,14 +1,9 @@
 -- Reasons that are written.
 use Rattle.std.proofs.Common.{arith, ◌≡◌, ◌∙◌, refl, sym, ap, subst, ℕ, ◌<◌, ◌^◌, true, IsTrue, List, [], ◌∷◌, ◌++◌, length, Result, Ok, Err, OnOk, IfOk, IfErr}
-use Rattle.std.specs.List.{list_all}
-use Rattle.std.specs.Prelude.{codes, decimal}
-use Rattle.std.proofs.lemmas.Bool.{le-leb}
-use Rattle.std.proofs.lemmas.List.{append_assoc}
-use Rattle.std.proofs.lemmas.List.Folds.{list_all-append}
+use Rattle.input_reasons.proofs.Common.{list_all, codes, decimal, le-leb, append_assoc, list_all-append, is_printable}
 use Rattle.awb_number.specs.Digits.{is_digit}
 use Rattle.awb_number.proofs.Padded.{is_digit_bounds}
 use Rattle.imp_fields.proofs.WrittenLaws.{all_weaker, decimal_digits}
-use Rattle.imp_fields.specs.Characters.{is_printable}
 use Rattle.station_core.specs.Ends.{Sent}
 use Rattle.station_core.specs.Given.{Given}
 use Rattle.input_reasons.specs.Reason.{HasReason, IsReason, numbered_head}

@@ -1,15 +1,10 @@
 -- Rows that are written one after another.
 use Rattle.std.proofs.Common.{◌≡◌, ℕ, Bool, true, false, Ok, Err, List, [], ◌∷◌, ◌++◌, map, refl, sym, ap, ◌∙◌}
-use Rattle.shipment_machine.specs.declared.moves.Move.{Move}
+use Rattle.plain_station.proofs.Common.{Move, Cargo, written, written_all, Outcome, carried_out, notice_text, cargo_acted, sent, has_room, Does}
 use Rattle.shipment_machine.specs.declared.plans.Change.{Change}
 use Rattle.shipment_machine.specs.declared.plans.Change.TheVariants.{Declare, UseUp, NoteFlight, Expect, NotePart, Trail, Confirm}
 use Rattle.shipment_machine.specs.declared.plans.Detail.TheVariants as detail
-use Rattle.shipment_machine.specs.Cargo.{Cargo, written, written_all}
-use Rattle.shipment_machine.specs.Effect.{Outcome, carried_out}
-use Rattle.telegrams.specs.NoticeText.{notice_text}
 use Rattle.station_core.specs.declared.answer.ActFault.TheVariants as fault
-use Rattle.station_core.specs.Step.{cargo_acted, sent, has_room}
-use Rattle.plain_station.specs.Doing.{Does}
 
 -- No row is of the book.
 pub booked : (text : List ℕ) (changes : List Change) (s : Cargo) (book : List Move) → written_all text changes (record s { book = book }) ≡ record (written_all text changes s) { book = book }

@@ -1,11 +1,7 @@
 -- A row that is written in front of the others.
 use Rattle.std.proofs.Common.{◌≡◌, ℕ, ◌+◌, ◌<◌, ◌≤◌, Bool, true, false, ◌==◌, nat_le, nat_lt, Some, Result, Ok, Err, OnOk, List, ◌∷◌, refl, sym, arith}
-use Rattle.std.specs.Bool.{if◌then◌else◌}
-use Rattle.std.specs.List.{find}
-use Rattle.std.specs.Option.{option_map}
-use Rattle.std.proofs.lemmas.Bool.{and_parts, and_from, leb-true, le-leb, ltb-true, lt-ltb, eqb-true, eq-eqb}
+use Rattle.plain_station.proofs.Common.{if◌then◌else◌, find, option_map, and_parts, and_from, leb-true, le-leb, ltb-true, lt-ltb, eqb-true, eq-eqb, covers}
 use Rattle.agent_stock.specs.declared.stock.Run.{Run}
-use Rattle.agent_stock.specs.Stock.{covers}
 
 pub first_row : {R X : Type 0} (p : R → Bool) (f : R → X) (row : R) (rows : List R) → option_map f (find p (row ∷ rows)) ≡ (if p row then Some (f row) else option_map f (find p rows))
 first_row p f row rows = elim (p row) as (λ b. option_map f (if b then Some row else find p rows) ≡ (if b then Some (f row) else option_map f (find p rows))) [

@@ -1,15 +1,10 @@
 -- What was handed out, by the state that is kept.
 use Rattle.std.proofs.Common.{◌≡◌, ℕ, Bool, Result, Ok, Err, List, [], take, sym, ap, subst}
-use Rattle.std.proofs.lemmas.Bool.{true≢false}
-use Rattle.std.specs.Prelude.{OnOk, OnErr, IfErr}
-use Rattle.shipment_machine.specs.Cargo.{Cargo}
+use Rattle.plain_station.proofs.Common.{true≢false, OnOk, OnErr, IfErr, Cargo, ActFault, State, in_memory}
 use Rattle.station_core.specs.Keeping.{HandsOut, IsReadersFault, Keeping, OnlyReads}
 use Rattle.row_sinks.specs.Handed.{HandedOut}
-use Rattle.station_core.specs.declared.answer.ActFault.{ActFault}
 use Rattle.station_core.specs.declared.answer.ActFault.TheVariants as fault
-use Rattle.station_core.specs.Step.{State}
 use Rattle.plain_station.specs.Handing.{HandsRows}
-use Rattle.plain_station.specs.State.{in_memory}
 
 -- that memory ran out is a reader's fault
 pub readers_fault : {A : Type 0} (r : Result A ActFault) → IfErr r (λ e. e ≡ fault.Memory) → IfErr r (IsReadersFault ⊥)

@@ -1,12 +1,9 @@
 -- What a plain station has kept, after one more input.
 use Rattle.std.proofs.Common.{◌≡◌, ℕ, List, [], ◌∷◌, ◌++◌, Option, None, ap, ◌∙◌}
-use Rattle.std.specs.Prelude.{string_bytes}
-use Rattle.shipment_machine.specs.Cargo.{Cargo}
-use Rattle.station_core.specs.Step.{State, Kept, keeping, keeping_text}
+use Rattle.plain_station.proofs.Common.{string_bytes, Cargo, State, Kept, keeping, keeping_text, count_under, kept_under}
 use Rattle.station_core.specs.Told.{kept_of}
 use Rattle.plain_station.specs.declared.kept.KeptKey.{KeptKey}
 use Rattle.plain_station.specs.declared.kept.KeptText.{KeptText}
-use Rattle.plain_station.specs.Kept.{count_under, kept_under}
 use Rattle.plain_station.proofs.Lookups.{one_more}
 
 abbrev state : Cargo → (List ℕ → Option Kept) → (List ℕ → Option ℕ) → State

@@ -1,13 +1,7 @@
 -- The waybills of a lawful state's book are declared.
 use Rattle.std.proofs.Common.{ℕ, Bool, true, false, ◌==◌, nat_lt, IsSome, List, [], ◌∷◌, All, arith}
-use Rattle.std.specs.Bool.{if◌then◌else◌}
-use Rattle.std.specs.List.{AllByRecursion, filter}
+use Rattle.plain_station.proofs.Common.{if◌then◌else◌, AllByRecursion, filter, FlightDate, Move, built, put_rising, waybills_of, waybills_on, Cargo, IsLawful, IsLawfulMove}
 use Rattle.std.proofs.lemmas.List.Elements.{All-cons}
-use Rattle.shipment_machine.specs.declared.flight.FlightDate.{FlightDate}
-use Rattle.shipment_machine.specs.declared.moves.Move.{Move}
-use Rattle.shipment_machine.specs.Book.{built, put_rising, waybills_of, waybills_on}
-use Rattle.shipment_machine.specs.Cargo.{Cargo}
-use Rattle.shipment_machine.specs.Lawful.{IsLawful, IsLawfulMove}
 
 none_at_all : (P : ℕ → Type 0) → All P []
 none_at_all P k d h = absurd (omega (arith, h))

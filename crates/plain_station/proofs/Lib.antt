@@ -15,3 +15,4 @@ mod Steady
 mod StillOk
 mod Walks
 mod Within
+pub mod Common

@@ -1,8 +1,6 @@
 -- What is kept under keys, with one more behind the others.
 use Rattle.std.proofs.Common.{◌≡◌, ◌∙◌, ℕ, Bool, true, false, cond, List, [], ◌∷◌, ◌++◌, Option, Some, None, refl, sym, ap}
-use Rattle.std.proofs.lemmas.Bool.{true≢false}
-use Rattle.std.specs.Option.{option_map}
-use Rattle.std.specs.List.{find}
+use Rattle.plain_station.proofs.Common.{true≢false, option_map, find}
 use Rattle.std.specs.Str.{bytes_eq}
 use Rattle.imp_fields.proofs.SameFlight.{bytes_eq-true}
 

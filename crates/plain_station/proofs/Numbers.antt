@@ -1,11 +1,10 @@
 -- Rows with their numbers, one more at a time.
 use Rattle.std.proofs.Common.{◌≡◌, ℕ, ◌+◌, ◌-◌, ◌<◌, ◌≤◌, List, [], ◌∷◌, ◌++◌, length, take, drop, refl, sym, ap, ◌∙◌, get_or, arith}
-use Rattle.std.proofs.lemmas.List.{take_more, length-take-le, length-drop, get_or-drop, get_or_default}
+use Rattle.plain_station.proofs.Common.{take_more, length-take-le, length-drop, get_or-drop, get_or_default, numbered, message, trail_row, trail_in}
 use Rattle.station_core.specs.declared.rows.Message.{Message}
 use Rattle.station_core.specs.declared.rows.TrailRow as reader
-use Rattle.station_core.specs.Readers.{numbered, message, trail_row}
 use Rattle.plain_station.specs.declared.rows.TrailRow.{TrailRow}
-use Rattle.plain_station.specs.Lists.{trail_in, trail_row as kept_line}
+use Rattle.plain_station.specs.Lists.{trail_row as kept_line}
 
 one_behind : {X Row : Type 0} (f : ℕ → X → Row) (n : ℕ) (xs : List X) (x : X) → numbered f n (xs ++ x ∷ []) ≡ numbered f n xs ++ f (n + length xs) x ∷ []
 one_behind f n [] x = let e : n ≡ n + 0 = omega arith in ap (λ k. f k x ∷ []) e

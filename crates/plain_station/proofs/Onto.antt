@@ -1,15 +1,10 @@
 -- Of the waybills that were ever built on a flight, those of which something is there are those on the flight.
 use Rattle.std.proofs.Common.{◌≡◌, ℕ, ◌+◌, ◌-◌, Bool, true, false, ◌&&◌, ◌==◌, nat_lt, List, [], ◌∷◌, refl, sym, ap, ◌∙◌, arith, zero-add}
-use Rattle.std.specs.Bool.{if◌then◌else◌}
-use Rattle.std.specs.List.{filter}
+use Rattle.plain_station.proofs.Common.{if◌then◌else◌, filter, FlightDate, Move, same_place, brings, moved_in, moved_out, pieces_of, has_moves, waybills_of, waybills_on, is_onto, is_built_on}
 use Rattle.std.proofs.lemmas.List.Sums.{sum_by-cons}
-use Rattle.shipment_machine.specs.declared.flight.FlightDate.{FlightDate}
 use Rattle.shipment_machine.specs.declared.moves.Place.TheVariants.{Built}
-use Rattle.shipment_machine.specs.declared.moves.Move.{Move}
-use Rattle.shipment_machine.specs.Book.{same_place, brings, moved_in, moved_out, pieces_of, has_moves, waybills_of, waybills_on}
 use Rattle.shipment_machine.proofs.OnFlight.{Rising-waybills_of, is_in-waybills_of, is_in-waybills_on, none_in}
 use Rattle.shipment_machine.proofs.Rising.{Rising-filter, is_in-filter, same_rising}
-use Rattle.plain_station.specs.Aboard.{is_onto, is_built_on}
 
 not_brought : (b c : Bool) (n : ℕ) → c ≡ false → (if b && c then n else 0) ≡ 0
 not_brought true c n e = ap (λ (x : Bool). if x then n else 0) e

@@ -1,11 +1,8 @@
 -- An order on the stock, done.
 use Rattle.std.proofs.Common.{◌≡◌, ℕ, None, Ok, [], ◌++◌, sym, ap, ◌∙◌, append-nil, subst}
-use Rattle.agent_stock.specs.Stock.{run_of, order_refusal, after_order}
+use Rattle.plain_station.proofs.Common.{run_of, order_refusal, after_order, Cargo, stock_acted, has_room, IsSteady, Does}
 use Rattle.agent_stock.specs.declared.stock.Order.{Order}
-use Rattle.shipment_machine.specs.Cargo.{Cargo}
-use Rattle.station_core.specs.Step.{stock_acted, has_room}
 use Rattle.station_core.proofs.StepLaw.{ordered_lawful}
-use Rattle.plain_station.specs.Doing.{IsSteady, Does}
 
 -- no message is sent
 unsent : (s : Cargo) → record s { outbox = s.outbox ++ [] } ≡ s

@@ -1,12 +1,8 @@
 -- A row that is put in its place among rows that rise by their keys.
 use Rattle.std.proofs.Common.{◌≡◌, ℕ, zero, suc, ◌+◌, ◌<◌, Bool, true, false, cond, ◌||◌, List, [], ◌∷◌, ◌++◌, map, length, insert, find, slice_index_or, option_map, is_some, is_lt, is_eq, Option, Some, None, Err, Ordering, Less, Equal, Greater, refl, sym, ap, ◌∙◌, subst, arith, true≢false}
-use Rattle.std.specs.List.{list_any, AllByRecursion, AllWithin}
-use Rattle.std.specs.List.Sorted.{IsSortedBy, IsBinarySearchResult}
-use Rattle.std.specs.FinMap.{is_sorted}
+use Rattle.plain_station.proofs.Common.{list_any, AllByRecursion, AllWithin, IsSortedBy, IsBinarySearchResult, is_sorted, ordering_reverse, and_parts, and_from}
 use Rattle.std.specs.FinMap.Entries.{below_all}
-use Rattle.std.specs.Ordering.{ordering_reverse}
 use Rattle.std.specs.Cmp.{IsTotalOrder, tied_itself}
-use Rattle.std.proofs.lemmas.Bool.{and_parts, and_from}
 use Rattle.std.proofs.lemmas.List.Sorted.{searchable_from_sorted}
 
 less_is : (o : Ordering) → is_lt o ≡ true → o ≡ Less

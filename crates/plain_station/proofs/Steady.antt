@@ -1,14 +1,8 @@
 -- What is done leaves a cargo lawful, and its rows can all be numbered.
 use Rattle.std.proofs.Common.{ℕ, Result, Ok, Err, List, IfOk, map, sym, subst}
 use Rattle.shipment_machine.specs.declared.plans.Refusal.{Refusal}
-use Rattle.shipment_machine.specs.Cargo.{Cargo}
-use Rattle.shipment_machine.specs.Effect.{Outcome, carried_out}
-use Rattle.shipment_machine.specs.Lawful.{IsLawful}
-use Rattle.telegrams.specs.NoticeText.{notice_text}
-use Rattle.station_core.specs.declared.answer.ActFault.{ActFault}
+use Rattle.plain_station.proofs.Common.{Cargo, Outcome, carried_out, IsLawful, notice_text, ActFault, Acted, cargo_acted, sent, with_notices, IsSteady, Does}
 use Rattle.station_core.specs.declared.answer.ActFault.TheVariants as fault
-use Rattle.station_core.specs.Step.{Acted, cargo_acted, sent, with_notices}
-use Rattle.plain_station.specs.Doing.{IsSteady, Does}
 
 abbrev IsLawfulAfter : Result Acted Refusal → Type 0
 IsLawfulAfter r = IfOk r (λ a. IsLawful (with_notices a))

@@ -1,8 +1,6 @@
 -- One more element of a list that is walked.
 use Rattle.std.proofs.Common.{◌≡◌, ℕ, ◌+◌, ◌<◌, ◌≤◌, Bool, true, false, List, [], ◌∷◌, ◌++◌, length, take, drop, sym, ap, ◌∙◌, get_or, sum_by, All, append-nil, subst}
-use Rattle.std.specs.List.{filter}
-use Rattle.std.proofs.lemmas.Bool.{cond-true, cond-false}
-use Rattle.std.proofs.lemmas.List.{take_more, drop_more, drop_all}
+use Rattle.plain_station.proofs.Common.{filter, cond-true, cond-false, take_more, drop_more, drop_all}
 use Rattle.std.proofs.lemmas.List.Sums.{sum_by_more}
 use Rattle.std.proofs.lemmas.List.Elements.{filter_more, All-get_or}
 use Rattle.std.proofs.Math.Bool.{cond}

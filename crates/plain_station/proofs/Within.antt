@@ -1,12 +1,8 @@
 -- What a lawful state has of a waybill is within bounds.
 use Rattle.std.proofs.Common.{◌≡◌, ℕ, ◌+◌, ◌≤◌, true, nat_le, ap, arith}
-use Rattle.std.proofs.lemmas.Bool.{and_parts, leb-true}
+use Rattle.plain_station.proofs.Common.{and_parts, leb-true, taken, found, taken_and_found, store, departed, delivered, missing, transferred, Cargo, IsLawful, is_conserved}
 use Rattle.shipment_machine.specs.declared.amount.Amount.{Amount}
 use Rattle.shipment_machine.specs.Amount.{IsHeld, amount, plus, fits}
-use Rattle.shipment_machine.specs.Book.{taken, found, taken_and_found, store, departed, delivered, missing, transferred}
-use Rattle.shipment_machine.specs.Cargo.{Cargo}
-use Rattle.shipment_machine.specs.Lawful.{IsLawful}
-use Rattle.shipment_machine.proofs.Conserved.{is_conserved}
 use Rattle.plain_station.specs.Bounds.{IsWithin}
 
 pub within_held : {a : Amount} → IsHeld a → IsWithin a

@@ -1,28 +1,12 @@
 -- A flight's manifest is that of the flight's movements alone.
 use Rattle.std.proofs.Common.{arith, ◌≡◌, ◌∙◌, ap, sym, refl, ℕ, ◌+◌, ◌-◌, Bool, true, false, ◌==◌, ◌||◌, ◌&&◌, None, Result, Ok, Err, OnOk, IfOk, List, [], ◌∷◌, ◌++◌, map, true≢false}
-use Rattle.std.specs.Prelude.{if◌then◌else◌, filter, nat_lt}
+use Rattle.reports.proofs.Common.{if◌then◌else◌, filter, nat_lt, flat_map, sum_by, nat_cmp, IsOk, false≢true, sum_by-cons, HandedOut, amount, brings, has_moves, same_place, takes, tenths_of, waybills_of, FlightDate, Move, Built, Departed, book_row, is_named, is_of_flight, movements_for, numbered, ActFault, On, BookRow, has_pieces, leaves, manifest_of, manifest_row, takes_away, IsNew, TakesMove, listed}
 use Rattle.std.specs.BTreeMap.{IsOrdered}
-use Rattle.std.specs.List.{flat_map, sum_by}
-use Rattle.std.specs.Ordering.{nat_cmp}
 use Rattle.std.specs.Global.{Vec}
-use Rattle.std.specs.Result.{IsOk}
-use Rattle.std.proofs.lemmas.Bool.{false≢true}
-use Rattle.std.proofs.lemmas.List.Sums.{sum_by-cons}
-use Rattle.row_sinks.specs.Handed.{HandedOut}
-use Rattle.shipment_machine.specs.Amount.{amount}
-use Rattle.shipment_machine.specs.Book.{brings, has_moves, pieces_of, same_place, takes, tenths_of, waybills_of}
-use Rattle.shipment_machine.specs.declared.flight.FlightDate.{FlightDate}
-use Rattle.shipment_machine.specs.declared.moves.Move.{Move}
-use Rattle.shipment_machine.specs.declared.moves.Place.TheVariants.{Built, Departed}
+use Rattle.shipment_machine.specs.Book.{pieces_of}
 use Rattle.shipment_machine.proofs.OnFlight.{Rising-waybills_of, is_in-waybills_of}
 use Rattle.shipment_machine.proofs.Rising.{Rising-filter, is_in-filter, same_rising}
-use Rattle.station_core.specs.Readers.{book_row, is_named, is_of_flight, movements_for, numbered}
-use Rattle.station_core.specs.declared.answer.ActFault.{ActFault}
-use Rattle.station_core.specs.declared.rows.BookQuery.TheVariants.{On}
-use Rattle.station_core.specs.declared.rows.BookRow.{BookRow}
-use Rattle.reports.specs.Manifest.{has_pieces, leaves, manifest_of, manifest_row, takes_away}
 use Rattle.reports.specs.declared.manifest.ManifestRow.{ManifestRow}
-use Rattle.reports.specs.Tallies.{IsNew, TakesMove, listed}
 use Rattle.reports.specs.declared.tallies.Tallies.{Tallies}
 use Rattle.reports.proofs.Passing.{after, moves_of, passed, rows_of}
 

@@ -1,11 +1,8 @@
 -- Cells behind one another are a line, and an object.
 use Rattle.std.proofs.Common.{◌≡◌, ◌∙◌, false, refl, sym, ap, ℕ, List, [], ◌∷◌, ◌++◌, map, append_assoc, append-nil}
-use Rattle.std.specs.List.{flat_map, join_with_byte}
-use Rattle.serde_json.specs.Data.{Data, string}
-use Rattle.serde_json.specs.Written.{compact_text}
+use Rattle.reports.proofs.Common.{flat_map, join_with_byte, Data, string, compact_text, cell_text, data_of, field_of, line_of, members_in, next_text, members_of}
 use Rattle.serde_json.specs.Written as json
-use Rattle.reports.specs.Cells.{cell_text, data_of, field_of, line_of, members_in, members_text, next_text}
-use Rattle.reports.specs.Objects.{members_of}
+use Rattle.reports.specs.Cells.{members_text}
 use Rattle.reports.specs.declared.cells.Cell.{Cell}
 use Rattle.reports.specs.declared.cells.Cell.TheVariants as cell
 use Rattle.reports.specs.declared.form.Form.TheVariants as form

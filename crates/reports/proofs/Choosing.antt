@@ -1,10 +1,8 @@
 -- What a sink is handed that takes the wanted rows alone.
 use Rattle.std.proofs.Common.{◌≡◌, ◌∙◌, ap, subst, refl, ℕ, zero, suc, Bool, true, false, List, [], ◌∷◌, take}
-use Rattle.std.specs.Prelude.{if◌then◌else◌, filter}
+use Rattle.reports.proofs.Common.{if◌then◌else◌, filter, HandedOut, Progress}
 use Rattle.std.specs.Bool.{MatchBool}
-use Rattle.row_sinks.specs.Handed.{HandedOut}
 use Rattle.reports.specs.Picking.{TakesWanted}
-use Rattle.reports.specs.Progress.{Progress}
 use Rattle.reports.proofs.Telling.{Took, SameName}
 
 -- A sink with a name, a form and a pick that stay.

@@ -1,30 +1,21 @@
 -- A cargo's noted flights, what flights are to bring, and what is announced are one list each, and so
 -- their reports have one text.
 use Rattle.std.proofs.Common.{◌≡◌, ◌∙◌, ap, sym, refl, ℕ, true, false, cond, Option, List, [], ◌∷◌}
-use Rattle.std.specs.Prelude.{◌==◌, not, filter, map}
+use Rattle.reports.proofs.Common.{◌==◌, not, filter, map, nat_cmp, eqb-true, eq-eqb, FlightDate, FlightRow, AreAnnounced, by_flight, AreNoted, flight_row, AreFlightRows, by_expectation, AreExpectations, expected_row, AreExpectedBy, AreExpectedRows, asks_for, expected_for, report_text, IsFlightReport, IsExpectedReport, is_awaited, line_by, flight_cells, expected_cells}
 use Rattle.std.specs.Cmp.{nat_cmp_total}
-use Rattle.std.specs.Ordering.{nat_cmp}
-use Rattle.std.proofs.lemmas.Bool.{eqb-true, eq-eqb}
 use Rattle.shipment_machine.specs.Cargo.{Cargo}
 use Rattle.shipment_machine.specs.Flights.{same_flight_date}
-use Rattle.shipment_machine.specs.declared.flight.FlightDate.{FlightDate}
 use Rattle.shipment_machine.specs.declared.moves.Expected.{Expected}
 use Rattle.shipment_machine.specs.declared.moves.Outbound.{Outbound}
 use Rattle.shipment_machine.proofs.FlightKeys.{same-is, same-refl}
 use Rattle.station_core.specs.declared.rows.AnnouncedRow.{AnnouncedRow}
 use Rattle.station_core.specs.declared.rows.NotedFlight.{NotedFlight}
-use Rattle.station_core.specs.declared.rows.FlightRow.{FlightRow}
 use Rattle.station_core.specs.declared.rows.Expectation.{Expectation}
 use Rattle.station_core.specs.declared.rows.ExpectedQuery.{ExpectedQuery}
 use Rattle.station_core.specs.declared.rows.ExpectedQuery.TheVariants.{All, Open}
 use Rattle.station_core.specs.declared.rows.ExpectedRow.{ExpectedRow}
-use Rattle.station_core.specs.Readers.{AreAnnounced, by_flight, AreNoted, flight_row, AreFlightRows, by_expectation, AreExpectations, expected_row, AreExpectedBy, AreExpectedRows, asks_for, expected_for}
-use Rattle.reports.specs.Lines.{report_text}
-use Rattle.reports.specs.Reports.{IsFlightReport, IsExpectedReport}
-use Rattle.reports.specs.Listings.{is_awaited}
 use Rattle.station_core.proofs.Asked.{apart, are_asked, expectation_total, flight_total, is_one, one_is, one-refl}
 use Rattle.station_core.proofs.Rising.{one_list}
-use Rattle.reports.specs.Cells.{line_by, flight_cells, expected_cells}
 
 one_noted : (flights : FlightDate → Option Outbound) (xs ys : List NotedFlight) → AreNoted flights xs → AreNoted flights ys → xs ≡ ys
 one_noted flights xs ys are too =

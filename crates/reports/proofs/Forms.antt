@@ -1,13 +1,7 @@
 -- The pieces of a text are the text of its form.
 use Rattle.std.proofs.Common.{arith, true, ◌≡◌, ◌∙◌, ap, sym, refl, ℕ, zero, suc, ◌+◌, ◌<◌, List, [], ◌∷◌, ◌++◌, length, append_assoc, length-append, decimal, codes}
 use Rattle.serde_json.proofs.OnLiterals.{serde_json_on_literals}
-use Rattle.serde_json.specs.Data.{Data, member, no_members}
-use Rattle.serde_json.specs.Written.{compact_text, items_text, members_text}
-use Rattle.reports.specs.Lines.{end_line}
-use Rattle.std.specs.List.{flat_map}
-use Rattle.reports.specs.Objects.{count_data}
-use Rattle.reports.specs.Pieces.{before_row, close_of_none, row_piece, end_piece, pieces_of, whole_text}
-use Rattle.reports.specs.Listings.{items_of, rows_data, rows_text}
+use Rattle.reports.proofs.Common.{Data, member, no_members, compact_text, items_text, members_text, end_line, flat_map, count_data, before_row, close_of_none, row_piece, end_piece, pieces_of, whole_text, items_of, rows_data, rows_text}
 use Rattle.reports.specs.declared.form.Form.{Form}
 use Rattle.reports.specs.declared.form.Form.TheVariants as form
 

@@ -1,21 +1,9 @@
 -- How a listing ends, by how a keeper handed out its rows.
 use Rattle.std.proofs.Common.{◌≡◌, ◌∙◌, ap, sym, subst, refl, inl, inr, ℕ, ◌<◌, Bool, Some, None, Result, Ok, Err, List, length, take, OnOk, OnErr, IfErr, true, false}
-use Rattle.std.specs.Prelude.{filter}
-use Rattle.serde_json.specs.Data.{Data}
-use Rattle.row_sinks.specs.Handed.{HandedOut}
-use Rattle.station_core.specs.Given.{Given}
-use Rattle.station_core.specs.Keeping.{IsReadersFault, Keeping}
-use Rattle.station_core.specs.Step.{State}
-use Rattle.station_core.specs.declared.answer.ActFault.{ActFault}
-use Rattle.reports.specs.declared.fault.ReportCause.{ReportCause}
+use Rattle.reports.proofs.Common.{filter, Data, HandedOut, Given, IsReadersFault, Keeping, State, ActFault, ReportCause, ReportFault, HasEndedBy, HasEndedEach, WritesReport, WritesRows, StopsWriting, IsTextOf, rows_text, end_piece, Progress, Ends}
 use Rattle.reports.specs.declared.fault.ReportCause.TheVariants as cause
-use Rattle.reports.specs.declared.fault.ReportFault.{ReportFault}
 use Rattle.reports.specs.declared.form.Form.{Form}
-use Rattle.reports.specs.Ended.{HasEndedBy, HasEndedEach, WritesReport, WritesRows, StopsWriting}
-use Rattle.reports.specs.Listings.{IsTextOf, rows_text}
 use Rattle.reports.specs.Picking.{AreOne, HaveBytes}
-use Rattle.reports.specs.Pieces.{end_piece}
-use Rattle.reports.specs.Progress.{Progress, Ends}
 use Rattle.reports.proofs.Choosing.{TakesRow, Hands, wanted_rows, same_form, beginning, all_rows}
 use Rattle.reports.proofs.Forms.{piece, in_form, piece_some}
 use Rattle.reports.proofs.Known.{IsText, reported_by, reported_each}

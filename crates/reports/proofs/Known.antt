@@ -1,17 +1,8 @@
 -- How a report ends whose rows are known by what they are.
 use Rattle.std.proofs.Common.{◌≡◌, ap, sym, subst, inl, inr, ℕ, ◌+◌, Some, None, Result, Ok, Err, List, [], ◌++◌, length, take, OnOk, OnErr, IfErr}
-use Rattle.std.proofs.lemmas.List.{length-take-le}
-use Rattle.station_core.specs.Given.{Given}
+use Rattle.reports.proofs.Common.{length-take-le, Given, IsReadersFault, HandedOut, ActFault, ReportCause, ReportFault, pieces_of, whole_text, Progress, Ends, IsBegun, HaveGone, HasEnded, HasEndedBy, HasEndedEach}
 use Rattle.station_core.specs.Ends.{Sent}
-use Rattle.station_core.specs.Keeping.{IsReadersFault}
-use Rattle.row_sinks.specs.Handed.{HandedOut}
-use Rattle.station_core.specs.declared.answer.ActFault.{ActFault}
-use Rattle.reports.specs.declared.fault.ReportCause.{ReportCause}
 use Rattle.reports.specs.declared.fault.ReportCause.TheVariants as cause
-use Rattle.reports.specs.declared.fault.ReportFault.{ReportFault}
-use Rattle.reports.specs.Pieces.{pieces_of, whole_text}
-use Rattle.reports.specs.Progress.{Progress, Ends}
-use Rattle.reports.specs.Ended.{IsBegun, HaveGone, HasEnded, HasEndedBy, HasEndedEach}
 use Rattle.reports.proofs.Telling.{Handed, start_whole, handed, unfinished, Took, SameName, reported}
 
 have_gone : (text : List ℕ) (n : ℕ) (old new : Given) → Sent old new text n → HaveGone n old new

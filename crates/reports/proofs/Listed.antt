@@ -1,21 +1,14 @@
 -- The worked listings, computed.
 use Rattle.std.proofs.Common.{◌≡◌, true, [], ◌∷◌, refl}
-use Rattle.std.specs.Prelude.{codes, filter, map}
+use Rattle.reports.proofs.Common.{codes, filter, map, shed_rows, irregular_rows, book_by, book_rows, messages_after, messages_by, pending_messages, trail_by, After, Last, Of, FlightRow, message_lines, trail_line, rows_text, is_open, is_awaited, is_held_by, is_about, message_data, trail_data, line_by, data_by, stock_cells, shed_cells, flight_cells, expected_cells, irregular_cells, book_cells}
 use Rattle.std.specs.Fmt.{digits}
 use Rattle.serde_json.proofs.OnLiterals.{serde_json_on_literals}
 use Rattle.jiff_core.specs.Calendar.{days_of_years, days_of_months, day_count, days_from_civil}
 use Rattle.desk_commands.specs.Day.{day_line}
-use Rattle.station_core.specs.Readers.{shed_rows, irregular_rows, book_by, book_rows, messages_after, messages_by, pending_messages, trail_by}
-use Rattle.station_core.specs.declared.rows.BookQuery.TheVariants.{After, Last, Of}
 use Rattle.station_core.specs.declared.rows.MessageQuery.TheVariants as messages
 use Rattle.station_core.specs.declared.rows.TrailQuery.TheVariants as trail
-use Rattle.station_core.specs.declared.rows.FlightRow.{FlightRow}
-use Rattle.reports.specs.Lines.{message_lines, trail_line}
-use Rattle.reports.specs.Listings.{rows_text, is_open, is_awaited, is_held_by, is_about}
-use Rattle.reports.specs.Objects.{message_data, trail_data}
 use Rattle.reports.specs.declared.form.Form.TheVariants.{Text, Json}
 use Rattle.reports.proofs.Examples.{printed, stock_runs, received, departed, told, short, flight_row, checked_row, jfk, on_the_day}
-use Rattle.reports.specs.Cells.{line_by, data_by, stock_cells, shed_cells, flight_cells, expected_cells, irregular_cells, book_cells}
 
 -- The runs of one agent.
 

@@ -1,18 +1,11 @@
 -- The worked manifests, computed.
 use Rattle.std.proofs.Common.{◌≡◌, ℕ, ◌*◌, Some, List, [], ◌∷◌, refl}
-use Rattle.std.specs.Prelude.{codes}
+use Rattle.reports.proofs.Common.{codes, amount, FlightDate, Move, Hand, Free, Built, Departed, rows_text, manifest_of, line_by, data_by, manifest_cells}
 use Rattle.std.specs.Fmt.{digits}
 use Rattle.serde_json.proofs.OnLiterals.{serde_json_on_literals}
-use Rattle.shipment_machine.specs.Amount.{amount}
-use Rattle.shipment_machine.specs.declared.flight.FlightDate.{FlightDate}
-use Rattle.shipment_machine.specs.declared.moves.Move.{Move}
 use Rattle.shipment_machine.specs.declared.moves.Place.{Place}
-use Rattle.shipment_machine.specs.declared.moves.Place.TheVariants.{Hand, Free, Built, Departed}
-use Rattle.reports.specs.Listings.{rows_text}
-use Rattle.reports.specs.Manifest.{manifest_of}
 use Rattle.reports.specs.declared.form.Form.TheVariants.{Text, Json}
 use Rattle.reports.proofs.Examples.{on_the_day, printed}
-use Rattle.reports.specs.Cells.{line_by, data_by, manifest_cells}
 
 -- a move of pieces of ten kilograms, which names the flight
 abbrev move : ℕ → Place → Place → ℕ → Move

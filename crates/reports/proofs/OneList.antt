@@ -1,15 +1,9 @@
 -- Two lists of the runs of one stock are equal, and so its report has one text.
 use Rattle.std.proofs.Common.{arith, ◌≡◌, ◌≢◌, ◌∙◌, ◌⊎◌, ⊎_elim, inl, inr, ap, sym, subst, refl, ℕ, ◌+◌, ◌<◌, ◌≤◌, Some, List, [], ◌∷◌}
-use Rattle.std.specs.Prelude.{IsTrue, IsSome, is_some}
-use Rattle.std.specs.List.{AllByRecursion, list_any}
-use Rattle.std.proofs.lemmas.Bool.{and_parts, and_from, or_cases, cases_lt, le-leb, leb-true, lt-ltb, ltb-true, false≢true}
-use Rattle.awb_number.specs.Number.{serial_of}
+use Rattle.reports.proofs.Common.{IsTrue, IsSome, is_some, AllByRecursion, list_any, and_parts, and_from, or_cases, cases_lt, le-leb, leb-true, lt-ltb, ltb-true, false≢true, serial_of, report_text, IsStockReport, line_by, stock_cells}
 use Rattle.agent_stock.specs.Stock.{Holders, is_among}
 use Rattle.agent_stock.specs.Runs.{IsMaximalRun, AreApart, AreStockRuns}
 use Rattle.agent_stock.specs.declared.runs.StockRun.{StockRun}
-use Rattle.reports.specs.Lines.{report_text}
-use Rattle.reports.specs.Reports.{IsStockReport}
-use Rattle.reports.specs.Cells.{line_by, stock_cells}
 
 -- each row begins there at least, and behind the one before it
 abbrev StandFrom : ℕ → List StockRun → Type 0

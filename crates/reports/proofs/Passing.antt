@@ -1,30 +1,18 @@
 -- What a pass over movements leaves: the sums of each waybill, in the keys' order.
 use Rattle.std.proofs.Common.{arith, ◌≡◌, ◌∙◌, ap, sym, subst, refl, ℕ, ◌+◌, ◌-◌, ◌<◌, Bool, true, false, cond, ◌==◌, ◌||◌, ◌&&◌, Option, Some, None, List, [], ◌∷◌, ◌++◌, map, append-nil, true≢false}
-use Rattle.std.specs.Prelude.{if◌then◌else◌, is_some}
+use Rattle.reports.proofs.Common.{if◌then◌else◌, is_some, AllByRecursion, flat_map, sum_by, eq_by_cmp, is_eq, nat_cmp, eqb-true, sum_by-cons, HandedOut, amount, brings, has_moves, same_place, takes, tenths_of, waybills_of, FlightDate, Move, Built, BookRow, has_pieces, leaves, manifest_of, manifest_row, takes_away, TakesMove, counted, listed, nothing_of, row_of, tally_in, with_move}
 use Rattle.std.specs.BTreeMap.{BTreeMap, IsOrdered, get, keys}
 use Rattle.std.specs.Cmp.{nat_cmp_total, unsigned_tied, ranked}
-use Rattle.std.specs.List.{AllByRecursion, flat_map, sum_by}
 use Rattle.std.specs.List.Sorted.{IsStrictlySortedBy}
 use Rattle.std.specs.Map.{keys_of, lookup}
 use Rattle.std.specs.Option.{unwrap_or}
-use Rattle.std.specs.Ordering.{eq_by_cmp, is_eq, nat_cmp}
 use Rattle.std.specs.declared.cmp.Ordering.TheVariants.{Less}
-use Rattle.std.proofs.lemmas.Bool.{eqb-true}
 use Rattle.std.proofs.lemmas.List.Elements.{recursion_from_All}
-use Rattle.std.proofs.lemmas.List.Sums.{sum_by-cons}
 use Rattle.std.proofs.lemmas.Map.Views.{All-found}
-use Rattle.row_sinks.specs.Handed.{HandedOut}
-use Rattle.shipment_machine.specs.Amount.{amount}
-use Rattle.shipment_machine.specs.Book.{brings, has_moves, pieces_of, same_place, takes, tenths_of, waybills_of}
+use Rattle.shipment_machine.specs.Book.{pieces_of}
 use Rattle.shipment_machine.specs.Numbers.{IsAscending, is_in}
-use Rattle.shipment_machine.specs.declared.flight.FlightDate.{FlightDate}
-use Rattle.shipment_machine.specs.declared.moves.Move.{Move}
-use Rattle.shipment_machine.specs.declared.moves.Place.TheVariants.{Built}
 use Rattle.shipment_machine.proofs.OnFlight.{Rising-waybills_of, is_in-waybills_of}
 use Rattle.shipment_machine.proofs.Rising.{same_rising}
-use Rattle.station_core.specs.declared.rows.BookRow.{BookRow}
-use Rattle.reports.specs.Manifest.{has_pieces, leaves, manifest_of, manifest_row, takes_away}
-use Rattle.reports.specs.Tallies.{TakesMove, counted, listed, nothing_of, row_of, tally_in, with_move}
 use Rattle.reports.specs.declared.manifest.ManifestRow.{ManifestRow}
 use Rattle.reports.specs.declared.tallies.Count.{Count}
 use Rattle.reports.specs.declared.tallies.Tallies.{Tallies}

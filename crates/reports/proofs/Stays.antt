@@ -1,25 +1,11 @@
 -- The day since which it has lasted for a waybill, by a pass over its movements.
 use Rattle.std.proofs.Common.{arith, zero, suc, ◌≡◌, ◌∙◌, ap, sym, subst, refl, ⊎_elim, ℕ, ◌+◌, ◌-◌, ◌<◌, ◌≤◌, Bool, true, false, ◌==◌, ◌&&◌, ◌||◌, Option, Some, None, Result, Ok, Err, OnOk, List, [], ◌∷◌, ◌++◌, length, take, get_or, append-nil, append_assoc, true≢false}
-use Rattle.std.specs.Prelude.{if◌then◌else◌, filter, nat_lt}
-use Rattle.std.specs.List.{AllZip, slice_get, sum_by}
-use Rattle.std.specs.Result.{IsOk}
+use Rattle.reports.proofs.Common.{if◌then◌else◌, filter, nat_lt, AllZip, slice_get, sum_by, IsOk, cases_lt, false≢true, le-ltb, lt-ltb, length-append, take_all, take_more, sum_by_push, HandedOut, brings, moved_in, moved_out, same_place, takes, Move, Surplus, Keeping, OnlyReads, book_row, movements_for, numbered, ActFault, Of, BookRow, counted}
 use Rattle.std.specs.Option.{option_map}
-use Rattle.std.proofs.lemmas.Bool.{cases_lt, false≢true, le-ltb, lt-ltb}
-use Rattle.std.proofs.lemmas.List.{length-append, take_all, take_more}
-use Rattle.std.proofs.lemmas.List.Sums.{sum_by_push}
-use Rattle.row_sinks.specs.Handed.{HandedOut}
-use Rattle.shipment_machine.specs.Book.{brings, moved_in, moved_out, pieces_of, same_place, takes}
+use Rattle.shipment_machine.specs.Book.{pieces_of}
 use Rattle.shipment_machine.specs.Cargo.{Cargo}
-use Rattle.shipment_machine.specs.declared.moves.Move.{Move}
-use Rattle.shipment_machine.specs.declared.moves.Place.TheVariants.{Surplus}
-use Rattle.station_core.specs.Keeping.{Keeping, OnlyReads}
-use Rattle.station_core.specs.Readers.{book_row, movements_for, numbered}
-use Rattle.station_core.specs.declared.answer.ActFault.{ActFault}
-use Rattle.station_core.specs.declared.rows.BookQuery.TheVariants.{Of}
-use Rattle.station_core.specs.declared.rows.BookRow.{BookRow}
 use Rattle.reports.specs.Days.{AreDated, IsDay, IsSince, lasts, own_moves}
 use Rattle.reports.specs.Spells.{TakesNext, TakesRow, is_there, lasts_by, moved_spell, next_spell, since_after, start_of}
-use Rattle.reports.specs.Tallies.{counted}
 use Rattle.reports.specs.declared.days.Dated.{Dated}
 use Rattle.reports.specs.declared.days.Gathering.{Gathering}
 use Rattle.reports.specs.declared.days.Lasting.{Lasting}

@@ -1,16 +1,8 @@
 -- How the writing of a report ends, whatever the station keeps.
 use Rattle.std.proofs.Common.{arith, ◌≡◌, ◌∙◌, ap, sym, refl, subst, inl, inr, ℕ, ◌+◌, ◌<◌, ◌≤◌, true, false, Some, None, Result, Ok, Err, List, [], ◌∷◌, ◌++◌, length, take, length-append, OnOk, IfErr}
-use Rattle.std.specs.Prelude.{◌⊎◌}
-use Rattle.std.proofs.lemmas.List.{length-take-le}
-use Rattle.station_core.specs.Given.{Given}
-use Rattle.station_core.specs.declared.answer.ActFault.{ActFault}
-use Rattle.row_sinks.specs.Handed.{HandedOut}
-use Rattle.reports.specs.declared.fault.ReportCause.{ReportCause}
+use Rattle.reports.proofs.Common.{◌⊎◌, length-take-le, Given, ActFault, HandedOut, ReportCause, ReportFault, StopsBy, StopsWriting, Progress, Waits, HasGone, HasStuck, Takes, Ends}
 use Rattle.reports.specs.declared.fault.ReportCause.TheVariants as cause
-use Rattle.reports.specs.declared.fault.ReportFault.{ReportFault}
 use Rattle.station_core.specs.Ends.{NoneFailed, OneFailed}
-use Rattle.reports.specs.Ended.{StopsBy, StopsWriting}
-use Rattle.reports.specs.Progress.{Progress, Waits, HasGone, HasStuck, Takes, Ends}
 use Rattle.reports.proofs.Telling.{Took, SameName}
 
 -- all goes well: what stands in front went out with a byte behind it, or waits

@@ -1,18 +1,9 @@
 -- What goes out while rows are taken.
 use Rattle.std.proofs.Common.{arith, ◌≡◌, ◌∙◌, ap, sym, refl, subst, ◌⊎◌, inl, inr, ℕ, ◌+◌, ◌≤◌, Bool, true, false, Some, None, Result, Ok, Err, List, [], ◌∷◌, ◌++◌, length, take, drop, append_assoc, length-append, OnOk, OnErr, IfErr}
 use Rattle.std.proofs.Math.Seq.{take-append-add, take-append_seam}
-use Rattle.std.proofs.lemmas.List.{take-append-le, take-append-drop}
-use Rattle.station_core.specs.Given.{Given}
-use Rattle.station_core.specs.Keeping.{IsReadersFault}
-use Rattle.row_sinks.specs.Handed.{HandedOut}
-use Rattle.station_core.specs.declared.answer.ActFault.{ActFault}
-use Rattle.reports.specs.declared.fault.ReportCause.{ReportCause}
+use Rattle.reports.proofs.Common.{take-append-le, take-append-drop, Given, IsReadersFault, HandedOut, ActFault, ReportCause, ReportFault, Progress, IsWhy, Waits, HasGone, HasStuck, Takes, Ends, HasTold, IsBegun, IsCause, HasEnded, pieces_of, whole_text}
 use Rattle.reports.specs.declared.fault.ReportCause.TheVariants as cause
 use Rattle.station_core.specs.declared.answer.ActFault.TheVariants as act
-use Rattle.reports.specs.declared.fault.ReportFault.{ReportFault}
-use Rattle.reports.specs.Progress.{Progress, IsWhy, Waits, HasGone, HasStuck, Takes, Ends}
-use Rattle.reports.specs.Ended.{HasTold, IsBegun, IsCause, HasEnded}
-use Rattle.reports.specs.Pieces.{pieces_of, whole_text}
 
 -- all of the text went out, but for what waits
 pub record IsWhole (start : Given) (text : List ℕ) (rows : ℕ) (p : Progress) : Type 0 where

@@ -1,12 +1,9 @@
 -- Objects of rows whose texts are put byte by byte.
 use Rattle.std.proofs.Common.{◌≡◌, ℕ, List, [], ◌∷◌, ◌++◌, append_assoc, codes, decimal}
 use Rattle.serde_json.proofs.OnLiterals.{serde_json_on_literals}
-use Rattle.serde_json.specs.Data.{string}
-use Rattle.serde_json.specs.Written.{compact_text}
-use Rattle.awb_number.specs.Number.{number_text}
+use Rattle.reports.proofs.Common.{string, compact_text, number_text, kept_data, message_data, trail_data}
 use Rattle.station_core.specs.declared.rows.Message.{Message}
 use Rattle.station_core.specs.declared.rows.TrailRow.{TrailRow}
-use Rattle.reports.specs.Objects.{kept_data, message_data, trail_data}
 use Rattle.reports.specs.declared.kept.KeptRow.{KeptRow}
 
 put : (old k a l t x : List ℕ) → ((old ++ (k ++ (a ++ l))) ++ t) ++ x ≡ old ++ (k ++ (a ++ (l ++ (t ++ x))))

@@ -1,8 +1,7 @@
 -- Amounts as texts.
 use Rattle.std.proofs.Common.{◌≡◌, ◌∙◌, ◌+◌, ◌/◌, ◌%◌, ℕ, List, [], ◌∷◌, ◌++◌, arith, append_assoc}
-use Rattle.std.specs.Prelude.{codes, decimal}
+use Rattle.shipment_machine.proofs.Common.{codes, decimal, amount, amount_text, pieces_word}
 use Rattle.std.proofs.lemmas.Fmt.{decimal_digit}
-use Rattle.shipment_machine.specs.Amount.{amount, amount_text, pieces_word}
 
 joined : (pieces word kilograms tenth : List ℕ) → pieces ++ 32 ∷ (word ++ 44 ∷ 32 ∷ (kilograms ++ 46 ∷ (tenth ++ codes " kg")))
     ≡ pieces ++ codes " " ++ word ++ codes ", " ++ (kilograms ++ (46 ∷ []) ++ tenth) ++ codes " kg"

@@ -1,20 +1,8 @@
 -- The lines of a manifest, found from their rows, are those of the state.
 use Rattle.std.proofs.Common.{◌≡◌, ℕ, Bool, true, false, ◌&&◌, ◌==◌, Option, Some, None, Result, List, [], ◌∷◌, map, refl, sym, ap, subst, ◌∙◌, arith}
-use Rattle.std.specs.Prelude.{is_none}
-use Rattle.std.specs.Bool.{if◌then◌else◌}
-use Rattle.std.proofs.lemmas.Bool.Decides.{nat_tests}
-use Rattle.agent_stock.specs.declared.stock.Holder.{Holder}
+use Rattle.shipment_machine.proofs.Common.{is_none, if◌then◌else◌, nat_tests, Holder, FlightDate, Expected, CargoLine, Change, Refusal, Cargo, written_all, line_view_of, first_refusal, unless_refused, then_write, row_refusals, row_changes, line_refusals, line_changes, lines_changes, dated, declared_by, expected_after, Earlier, no_earlier, with_line, is_new, expected_so_far, announced_changes}
 use Rattle.agent_stock.specs.declared.stock.Holder.TheVariants as holder
-use Rattle.shipment_machine.specs.declared.flight.FlightDate.{FlightDate}
-use Rattle.shipment_machine.specs.declared.moves.Expected.{Expected}
 use Rattle.shipment_machine.specs.declared.view.LineView.{LineView}
-use Rattle.shipment_machine.specs.declared.command.CargoLine.{CargoLine}
-use Rattle.shipment_machine.specs.declared.plans.Change.{Change}
-use Rattle.shipment_machine.specs.declared.plans.Refusal.{Refusal}
-use Rattle.shipment_machine.specs.Cargo.{Cargo, written_all}
-use Rattle.shipment_machine.specs.Views.{line_view_of}
-use Rattle.shipment_machine.specs.Effect.{first_refusal, unless_refused, then_write, row_refusals, row_changes, line_refusals, line_changes, lines_changes, dated, declared_by, expected_after}
-use Rattle.shipment_machine.specs.Announced.{Earlier, no_earlier, with_line, is_new, expected_so_far, announced_changes}
 use Rattle.shipment_machine.proofs.FlightKeys.{same-refl}
 
 -- what the lines before have left of a waybill: nothing, or an expected row of a declared waybill

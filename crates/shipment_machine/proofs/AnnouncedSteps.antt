@@ -1,12 +1,7 @@
 -- The lines of a manifest, one after another.
 use Rattle.std.proofs.Common.{◌≡◌, ℕ, ◌+◌, ◌<◌, suc, Option, None, Result, Ok, Err, List, ◌∷◌, ◌++◌, length, get_or, drop, refl, sym, ap, ◌∙◌, append_assoc, add-one, drop-cons}
-use Rattle.shipment_machine.specs.declared.flight.FlightDate.{FlightDate}
+use Rattle.shipment_machine.proofs.Common.{FlightDate, CargoLine, Change, Refusal, unless_refused, then_write, Earlier, with_line, refusal_now, changes_now, expected_now, announced_changes}
 use Rattle.shipment_machine.specs.declared.view.LineView.{LineView}
-use Rattle.shipment_machine.specs.declared.command.CargoLine.{CargoLine}
-use Rattle.shipment_machine.specs.declared.plans.Change.{Change}
-use Rattle.shipment_machine.specs.declared.plans.Refusal.{Refusal}
-use Rattle.shipment_machine.specs.Effect.{unless_refused, then_write}
-use Rattle.shipment_machine.specs.Announced.{Earlier, with_line, refusal_now, changes_now, expected_now, announced_changes}
 
 abbrev ok : List Change → Result (List Change) Refusal
 ok changes = Ok changes

@@ -1,8 +1,6 @@
 -- Sums by flight: where no more goes out than in at each flight, no more goes out than in at all.
 use Rattle.std.proofs.Common.{◌≡◌, ℕ, zero, suc, ◌+◌, ◌-◌, ◌≤◌, Bool, true, false, List, [], ◌∷◌, length, refl, sym, ap, ◌∙◌, arith}
-use Rattle.std.specs.Bool.{if◌then◌else◌}
-use Rattle.shipment_machine.specs.declared.flight.FlightDate.{FlightDate}
-use Rattle.shipment_machine.specs.Flights.{same_flight_date}
+use Rattle.shipment_machine.proofs.Common.{if◌then◌else◌, FlightDate, same_flight_date}
 use Rattle.shipment_machine.proofs.FlightKeys.{same-refl, same-alike, same-comm}
 
 -- amounts on flights

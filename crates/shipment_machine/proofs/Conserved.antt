@@ -1,19 +1,7 @@
 -- The amounts of a lawful book agree, and no place holds more than came in.
 use Rattle.std.proofs.Common.{◌≡◌, ℕ, ◌+◌, ◌-◌, ◌≤◌, Bool, true, false, ◌&&◌, ◌||◌, ◌==◌, None, List, [], ◌∷◌, refl, sym, ap, ◌∙◌, arith, true≢false}
-use Rattle.std.specs.Bool.{if◌then◌else◌}
-use Rattle.std.specs.List.{AllByRecursion}
-use Rattle.std.proofs.lemmas.Bool.{and_parts, leb-true}
-use Rattle.std.proofs.lemmas.List.Sums.{sum_by-cons}
-use Rattle.shipment_machine.specs.declared.flight.FlightDate.{FlightDate}
-use Rattle.shipment_machine.specs.declared.moves.Place.{Place}
-use Rattle.shipment_machine.specs.declared.moves.Place.TheVariants.{Hand, Surplus, Free, Built, Missing}
-use Rattle.shipment_machine.specs.declared.moves.Move.{Move}
-use Rattle.shipment_machine.specs.Amount.{IsHeld}
+use Rattle.shipment_machine.proofs.Common.{if◌then◌else◌, AllByRecursion, and_parts, leb-true, sum_by-cons, FlightDate, Place, Hand, Surplus, Free, Built, Missing, Move, IsHeld, pieces_of, tenths_of, moved_in, moved_out, brings, takes, free, built, missing, taken, found, Cargo, IsLawfulMove, IsLawful, IsConserved}
 use Rattle.shipment_machine.specs.Places.{same_place, in_store, is_outside, beyond_store}
-use Rattle.shipment_machine.specs.Book.{pieces_of, tenths_of, moved_in, moved_out, brings, takes, free, built, missing, taken, found}
-use Rattle.shipment_machine.specs.Cargo.{Cargo}
-use Rattle.shipment_machine.specs.Lawful.{IsLawfulMove, IsLawful}
-use Rattle.shipment_machine.specs.Laws.{IsConserved}
 use Rattle.shipment_machine.proofs.BalanceLaws.{in_at, out_at, total_in, total_out}
 use Rattle.shipment_machine.proofs.ByFlight.{Entry, sum_all, sum_at, covered}
 use Rattle.shipment_machine.proofs.Places.{never_surplus, is_built, no_added}

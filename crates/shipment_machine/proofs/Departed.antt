@@ -1,27 +1,8 @@
 -- The state after a departure.
 use Rattle.std.proofs.Common.{◌≡◌, ℕ, ◌-◌, ◌<◌, ◌≤◌, Bool, true, false, ◌||◌, ◌==◌, nat_lt, Option, Some, None, IsSome, IfSome, List, [], ◌∷◌, ◌++◌, map, refl, sym, ap, subst, ◌∙◌, arith, true≢false}
-use Rattle.std.specs.Bool.{if◌then◌else◌}
-use Rattle.std.specs.Str.{bytes_eq}
-use Rattle.std.specs.List.{AllByRecursion, list_any, flat_map}
-use Rattle.std.proofs.lemmas.Bool.{ltb-true}
-use Rattle.std.proofs.lemmas.Bool.Decides.{nat_tests}
-use Rattle.std.proofs.lemmas.List.Folds.{list_any-append}
-use Rattle.station_days.specs.Date.{LocalMinute}
-use Rattle.shipment_machine.specs.declared.amount.Amount.{Amount}
-use Rattle.shipment_machine.specs.declared.flight.FlightDate.{FlightDate}
-use Rattle.shipment_machine.specs.declared.moves.Place.TheVariants.{Built, Departed}
-use Rattle.shipment_machine.specs.declared.moves.Move.{Move}
-use Rattle.shipment_machine.specs.declared.moves.Outbound.{Outbound}
-use Rattle.shipment_machine.specs.declared.view.FlightLoad.{FlightLoad}
-use Rattle.shipment_machine.specs.Flights.{same_flight_date}
-use Rattle.shipment_machine.specs.Book.{same_place, pieces_of, built, has_moves, waybills_on}
-use Rattle.shipment_machine.specs.Cargo.{Cargo}
-use Rattle.shipment_machine.specs.Views.{declaration, loads_of}
-use Rattle.shipment_machine.specs.Effect.{is_closed, move_of, depart_moves}
-use Rattle.shipment_machine.specs.Lawful.{IsLawful, IsLawfulMove, IsNoted, departs_with}
+use Rattle.shipment_machine.proofs.Common.{if◌then◌else◌, bytes_eq, AllByRecursion, list_any, flat_map, ltb-true, nat_tests, list_any-append, LocalMinute, Amount, FlightDate, Built, Departed, Move, Outbound, FlightLoad, same_flight_date, same_place, pieces_of, built, has_moves, waybills_on, Cargo, declaration, loads_of, is_closed, move_of, depart_moves, IsLawful, IsLawfulMove, IsNoted, departs_with, is_in}
 use Rattle.shipment_machine.proofs.Places.{added}
 use Rattle.shipment_machine.proofs.FlightKeys.{same-comm}
-use Rattle.shipment_machine.specs.Numbers.{is_in}
 use Rattle.shipment_machine.proofs.OnFlight.{is_in-waybills_on, none_in}
 use Rattle.shipment_machine.proofs.Conserved.{held_built}
 use Rattle.shipment_machine.proofs.LawfulView.{none_on}

@@ -1,21 +1,7 @@
 -- A departure keeps a state lawful.
 use Rattle.std.proofs.Common.{◌≡◌, ℕ, ◌+◌, ◌-◌, ◌<◌, ◌≤◌, Bool, true, false, ◌&&◌, ◌||◌, ◌==◌, Option, Some, IsSome, List, [], ◌∷◌, ◌++◌, refl, sym, ap, subst, ◌∙◌, arith, append_assoc, true≢false}
-use Rattle.std.specs.List.{list_any}
-use Rattle.std.proofs.lemmas.Bool.Decides.{nat_tests}
-use Rattle.std.proofs.lemmas.List.{append-nil}
-use Rattle.std.proofs.lemmas.List.Sums.{sum_by_push, sum_by-cons, sum_by-append}
-use Rattle.std.proofs.lemmas.List.Folds.{list_any-append}
-use Rattle.station_days.specs.Date.{LocalMinute}
-use Rattle.shipment_machine.specs.declared.amount.Amount.{Amount}
-use Rattle.shipment_machine.specs.declared.flight.FlightDate.{FlightDate}
-use Rattle.shipment_machine.specs.declared.moves.Place.{Place}
-use Rattle.shipment_machine.specs.declared.moves.Place.TheVariants.{Built, Departed}
-use Rattle.shipment_machine.specs.declared.moves.Move.{Move}
-use Rattle.shipment_machine.specs.Flights.{same_flight_date}
-use Rattle.shipment_machine.specs.Book.{same_place, pieces_of, tenths_of, moved_in, moved_out, brings, takes, built}
-use Rattle.shipment_machine.specs.Cargo.{Cargo}
-use Rattle.shipment_machine.specs.Lawful.{IsNoted, departs_with, builds_on, StaysDeparted}
-use Rattle.shipment_machine.specs.Numbers.{IsAscending as Rising, is_in}
+use Rattle.shipment_machine.proofs.Common.{list_any, nat_tests, append-nil, sum_by_push, sum_by-cons, sum_by-append, list_any-append, LocalMinute, Amount, FlightDate, Place, Built, Departed, Move, same_flight_date, same_place, pieces_of, tenths_of, moved_in, moved_out, brings, takes, built, Cargo, IsNoted, departs_with, builds_on, StaysDeparted, is_in}
+use Rattle.shipment_machine.specs.Numbers.{IsAscending as Rising}
 use Rattle.shipment_machine.proofs.Places.{added}
 use Rattle.shipment_machine.proofs.Rising.{below_in, not_in}
 use Rattle.shipment_machine.proofs.SoundBook.{IsFitting, IsSound, Leaves, with_move, sound_after, there_are, same_number}

@@ -1,33 +1,21 @@
 -- The worked rows of the cargo commands, computed.
 use Rattle.std.proofs.Common.{◌≡◌, ℕ, ◌+◌, ◌*◌, Option, Some, None, Result, Ok, Err, List, [], ◌∷◌, ◌++◌, refl, true, false}
 use Rattle.std.specs.Fmt.{digits}
-use Rattle.std.specs.Prelude.{codes, map}
-use Rattle.shipment_machine.specs.Amount.{amount, amount_text}
+use Rattle.shipment_machine.proofs.Common.{codes, map, amount, amount_text, Amount, FlightDate, LocalMinute, Place, Hand, Surplus, Free, Built, Delivered, Missing, Transferred, Move, Declared, ShipmentCommand, Refusal, taken, found, free, built, missing, store, departed, delivered, transferred, Cargo, opening_cargo, Outcome, effect, carried_out, expected_amount}
 use Rattle.shipment_machine.specs.Texts.{refused_with}
-use Rattle.shipment_machine.specs.declared.amount.Amount.{Amount}
 use Rattle.jiff_core.specs.Calendar.{days_of_years, days_of_months, day_count, days_from_civil}
 use Rattle.imp_fields.specs.Flight.{Designator}
-use Rattle.shipment_machine.specs.declared.flight.FlightDate.{FlightDate}
-use Rattle.station_days.specs.Date.{LocalMinute, day_line}
+use Rattle.station_days.specs.Date.{day_line}
 use Rattle.imp_fields.specs.declared.fault.Why.TheVariants as why
-use Rattle.shipment_machine.specs.declared.moves.Place.{Place}
-use Rattle.shipment_machine.specs.declared.moves.Place.TheVariants.{Hand, Surplus, Free, Built, Delivered, Missing, Transferred}
-use Rattle.shipment_machine.specs.declared.moves.Move.{Move}
-use Rattle.shipment_machine.specs.declared.moves.Declared.{Declared}
 use Rattle.shipment_machine.specs.declared.notice.Notice.{Notice}
 use Rattle.shipment_machine.specs.declared.notice.Notice.TheVariants as notice
 use Rattle.shipment_machine.specs.declared.notice.Event.{Event}
 use Rattle.shipment_machine.specs.declared.notice.Event.TheVariants as event
 use Rattle.imp_fields.specs.declared.discrepancy.Discrepancy.TheVariants as discrepancy
 use Rattle.shipment_machine.specs.declared.command.InboundLine.{InboundLine}
-use Rattle.shipment_machine.specs.declared.command.ShipmentCommand.{ShipmentCommand}
 use Rattle.shipment_machine.specs.declared.command.ShipmentCommand.TheVariants as order
 use Rattle.shipment_machine.specs.declared.command.DeskCommand.TheVariants as desk
-use Rattle.shipment_machine.specs.declared.plans.Refusal.{Refusal}
 use Rattle.shipment_machine.specs.declared.plans.Detail.TheVariants as detail
-use Rattle.shipment_machine.specs.Book.{taken, found, free, built, missing, store, departed, delivered, transferred}
-use Rattle.shipment_machine.specs.Cargo.{Cargo, opening_cargo}
-use Rattle.shipment_machine.specs.Effect.{Outcome, effect, carried_out, expected_amount}
 
 -- Short forms.
 

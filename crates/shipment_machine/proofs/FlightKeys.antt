@@ -1,9 +1,7 @@
 -- Flights on a day are compared by their fields.
 use Rattle.std.proofs.Common.{◌≡◌, Bool, true, false, refl, sym, ap, ◌∙◌, true≢false}
-use Rattle.std.proofs.lemmas.Bool.{and_parts, and_from, eqb-true, eq-eqb}
+use Rattle.shipment_machine.proofs.Common.{and_parts, and_from, eqb-true, eq-eqb, FlightDate, same_flight_date}
 use Rattle.imp_fields.proofs.SameFlight.{one_by_fields, same_of_one}
-use Rattle.shipment_machine.specs.declared.flight.FlightDate.{FlightDate}
-use Rattle.shipment_machine.specs.Flights.{same_flight_date}
 
 -- what compares the same is one flight on one day
 pub same-is : (a b : FlightDate) → same_flight_date a b ≡ true → a ≡ b

@@ -1,23 +1,9 @@
 -- Moves onto a flight and off it keep a state lawful.
 use Rattle.std.proofs.Common.{◌≡◌, ◌≢◌, ℕ, ◌+◌, ◌-◌, ◌<◌, ◌≤◌, Bool, true, false, ◌&&◌, ◌||◌, ◌==◌, nat_lt, Option, Some, IsSome, IfSome, List, [], ◌∷◌, ◌++◌, length, refl, sym, ap, subst, ◌∙◌, arith, true≢false, ◌⊎◌, inl, inr}
-use Rattle.std.specs.Bool.{if◌then◌else◌}
-use Rattle.std.specs.Str.{bytes_eq}
-use Rattle.std.specs.List.{AllByRecursion, list_any, filter}
-use Rattle.std.proofs.lemmas.Bool.Decides.{nat_tests}
-use Rattle.station_days.specs.Date.{LocalMinute}
-use Rattle.shipment_machine.specs.declared.flight.FlightDate.{FlightDate}
-use Rattle.shipment_machine.specs.declared.moves.Place.{Place}
-use Rattle.shipment_machine.specs.declared.moves.Place.TheVariants.{Free, Built, Departed}
-use Rattle.shipment_machine.specs.declared.moves.Move.{Move}
-use Rattle.shipment_machine.specs.declared.moves.Outbound.{Outbound}
-use Rattle.shipment_machine.specs.Flights.{same_flight_date}
-use Rattle.shipment_machine.specs.Book.{same_place, pieces_of, moved_in, moved_out, built, waybills_of, waybills_on, put_rising}
-use Rattle.shipment_machine.specs.Cargo.{Cargo}
-use Rattle.shipment_machine.specs.Effect.{is_closed}
-use Rattle.shipment_machine.specs.Lawful.{IsLawful, IsLawfulMove, departs_with, StaysDeparted}
+use Rattle.shipment_machine.proofs.Common.{if◌then◌else◌, bytes_eq, AllByRecursion, list_any, filter, nat_tests, LocalMinute, FlightDate, Place, Free, Built, Departed, Move, Outbound, same_flight_date, same_place, pieces_of, moved_in, moved_out, built, waybills_of, waybills_on, put_rising, Cargo, is_closed, IsLawful, IsLawfulMove, departs_with, StaysDeparted, is_in}
 use Rattle.shipment_machine.proofs.Places.{added}
 use Rattle.shipment_machine.proofs.FlightKeys.{same-sym, same-alike, same-comm}
-use Rattle.shipment_machine.specs.Numbers.{IsAscending as Rising, is_in}
+use Rattle.shipment_machine.specs.Numbers.{IsAscending as Rising}
 use Rattle.shipment_machine.proofs.Rising.{Rising-put_rising, is_in-put_rising, Rising-filter, below_in, yes_here, first_or_later}
 use Rattle.shipment_machine.proofs.OnFlight.{Rising-waybills_of, is_in-waybills_on, same_waybills_on}
 use Rattle.shipment_machine.proofs.SoundBook.{IsFitting, IsSound, with_move, sound_after, move_under, all_map}

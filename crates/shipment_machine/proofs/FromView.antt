@@ -1,16 +1,9 @@
 -- A plan from a view of a lawful state.
 use Rattle.std.proofs.Common.{◌≡◌, ℕ, Option, Result, Ok, Err, sym, ap, subst, ◌∙◌}
-use Rattle.std.specs.Prelude.{IfOk, IfErr}
-use Rattle.station_days.specs.Date.{LocalMinute}
-use Rattle.shipment_machine.specs.declared.command.ShipmentCommand.{ShipmentCommand}
+use Rattle.shipment_machine.proofs.Common.{IfOk, IfErr, LocalMinute, ShipmentCommand, Refusal, IsAnswer, IsViewOf, RefusesAs, StaysLawful, view_of, outcome_of, meant_by, FitsCommand, rows_answer, Cargo, Outcome, effect, carried_out, IsLawful, IsProper}
 use Rattle.shipment_machine.specs.declared.plans.Plan.{Plan}
 use Rattle.shipment_machine.specs.declared.plans.PlanFault.{PlanFault}
-use Rattle.shipment_machine.specs.declared.plans.Refusal.{Refusal}
 use Rattle.shipment_machine.specs.declared.view.View.{View}
-use Rattle.shipment_machine.specs.Agreement.{IsAnswer, IsViewOf, RefusesAs, StaysLawful, view_of, outcome_of, meant_by, FitsCommand, rows_answer}
-use Rattle.shipment_machine.specs.Cargo.{Cargo}
-use Rattle.shipment_machine.specs.Effect.{Outcome, effect, carried_out}
-use Rattle.shipment_machine.specs.Lawful.{IsLawful, IsProper}
 use Rattle.shipment_machine.proofs.ViewAnswers.{fits, answers, planned, refused}
 use Rattle.shipment_machine.proofs.KeepsAll.{keeps_lawful}
 

@@ -1,22 +1,9 @@
 -- Commands that keep a state lawful.
 use Rattle.std.proofs.Common.{◌≡◌, ℕ, Bool, true, false, ◌||◌, ◌==◌, Option, Some, None, is_none, IsSome, IfSome, IfOk, List, [], ◌∷◌, refl, sym, subst, true≢false}
-use Rattle.std.specs.Bool.{if◌then◌else◌}
+use Rattle.shipment_machine.proofs.Common.{if◌then◌else◌, AllByRecursion, ltb-false, append-nil, LocalMinute, Move, Declared, Expected, ShipmentCommand, Refusal, Cargo, declaration, undeclared, Outcome, effect, rule, first_refusal, unless_refused, carried_out, IsLawful, IsLawfulAmount}
 use Rattle.std.specs.Option.{unwrap_or}
-use Rattle.std.specs.List.{AllByRecursion}
-use Rattle.std.proofs.lemmas.Bool.{ltb-false}
-use Rattle.std.proofs.lemmas.List.{append-nil}
-use Rattle.station_days.specs.Date.{LocalMinute}
-use Rattle.shipment_machine.specs.declared.moves.Move.{Move}
-use Rattle.shipment_machine.specs.declared.moves.Declared.{Declared}
-use Rattle.shipment_machine.specs.declared.moves.Expected.{Expected}
-use Rattle.shipment_machine.specs.declared.command.ShipmentCommand.{ShipmentCommand}
 use Rattle.shipment_machine.specs.declared.command.ShipmentCommand.TheVariants as order
 use Rattle.shipment_machine.specs.declared.command.DeskCommand.TheVariants as desk
-use Rattle.shipment_machine.specs.declared.plans.Refusal.{Refusal}
-use Rattle.shipment_machine.specs.Cargo.{Cargo}
-use Rattle.shipment_machine.specs.Views.{declaration, undeclared}
-use Rattle.shipment_machine.specs.Effect.{Outcome, effect, rule, first_refusal, unless_refused, carried_out}
-use Rattle.shipment_machine.specs.Lawful.{IsLawful, IsLawfulAmount}
 use Rattle.shipment_machine.proofs.Places.{noted_under}
 
 -- no test of a list of refusals holds

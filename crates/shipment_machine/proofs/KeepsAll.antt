@@ -1,23 +1,9 @@
 -- Whatever is done, a lawful state stays lawful. The commands that take up few lines are here, the others in files of their own.
 use Rattle.std.proofs.Common.{◌≡◌, ℕ, zero, suc, ◌+◌, ◌-◌, ◌≤◌, min, max, Bool, true, false, ◌||◌, nat_lt, Option, Some, None, IsSome, List, refl, subst, arith, append_assoc, true≢false}
-use Rattle.std.specs.Prelude.{IfOk}
-use Rattle.std.proofs.lemmas.Bool.{ltb-false}
-use Rattle.std.proofs.lemmas.List.Elements.{recursion_from_All}
-use Rattle.station_days.specs.Date.{LocalMinute}
-use Rattle.shipment_machine.specs.declared.amount.Amount.{Amount}
-use Rattle.shipment_machine.specs.declared.flight.FlightDate.{FlightDate}
-use Rattle.shipment_machine.specs.declared.moves.Place.{Place}
-use Rattle.shipment_machine.specs.declared.moves.Place.TheVariants.{Hand, Surplus, Free, Built, Delivered, Missing, Transferred}
-use Rattle.shipment_machine.specs.declared.moves.Move.{Move}
+use Rattle.shipment_machine.proofs.Common.{IfOk, ltb-false, recursion_from_All, LocalMinute, Amount, FlightDate, Place, Hand, Surplus, Free, Built, Delivered, Missing, Transferred, Move, amount, part, plus, same_place, pieces_of, tenths_of, taken, free, built, missing, taken_and_found, Cargo, effect, carried_out, move_of, surplus, is_pair, IsLawful, IsNoted, NamesFlight, HasPieces, KeepsLawful}
 use Rattle.shipment_machine.specs.declared.command.DeskCommand.{DeskCommand}
 use Rattle.shipment_machine.specs.declared.command.DeskCommand.TheVariants as desk
 use Rattle.shipment_machine.specs.declared.command.ShipmentCommand.TheVariants as order
-use Rattle.shipment_machine.specs.Amount.{amount, part, plus}
-use Rattle.shipment_machine.specs.Book.{same_place, pieces_of, tenths_of, taken, free, built, missing, taken_and_found}
-use Rattle.shipment_machine.specs.Cargo.{Cargo}
-use Rattle.shipment_machine.specs.Effect.{effect, carried_out, move_of, surplus}
-use Rattle.shipment_machine.specs.Lawful.{is_pair, IsLawful, IsNoted, NamesFlight, HasPieces}
-use Rattle.shipment_machine.specs.Laws.{KeepsLawful}
 use Rattle.shipment_machine.proofs.Places.{is_built}
 use Rattle.shipment_machine.proofs.Conserved.{came, held_free, held_built, held_missing}
 use Rattle.shipment_machine.proofs.Keeps.{by_refusals, keeps_confirm, keeps_notify}

@@ -1,29 +1,8 @@
 -- Check-in, striking, manifest, rerouting and departure keep a state lawful.
 use Rattle.std.proofs.Common.{◌≡◌, ℕ, ◌+◌, ◌-◌, ◌<◌, ◌≤◌, Bool, true, false, ◌&&◌, ◌==◌, nat_lt, nat_le, Option, Some, None, is_none, IsSome, IfSome, IfOk, List, [], ◌∷◌, ◌++◌, length, refl, sym, ap, subst, ◌∙◌, arith, append_assoc, true≢false, inl, inr}
-use Rattle.std.specs.Prelude.{is_some}
-use Rattle.std.proofs.lemmas.List.{length-map, append-nil}
-use Rattle.std.specs.Bool.{if◌then◌else◌}
-use Rattle.std.specs.Str.{bytes_eq}
-use Rattle.std.proofs.lemmas.Bool.{leb-true, leb-false, ltb-true, ltb-false}
-use Rattle.std.proofs.lemmas.Bool.Decides.{nat_tests}
-use Rattle.imp_fields.specs.Amount.{share_of}
-use Rattle.station_days.specs.Date.{LocalMinute}
-use Rattle.shipment_machine.specs.declared.amount.Amount.{Amount}
-use Rattle.shipment_machine.specs.declared.flight.FlightDate.{FlightDate}
-use Rattle.shipment_machine.specs.declared.moves.Place.TheVariants.{Hand, Surplus, Free, Built, Missing}
-use Rattle.shipment_machine.specs.declared.moves.Move.{Move}
-use Rattle.shipment_machine.specs.declared.moves.Expected.{Expected}
-use Rattle.shipment_machine.specs.declared.moves.Outbound.{Outbound}
-use Rattle.shipment_machine.specs.declared.view.FlightLoad.{FlightLoad}
-use Rattle.shipment_machine.specs.declared.plans.Change.TheVariants.{NoteFlight}
+use Rattle.shipment_machine.proofs.Common.{is_some, length-map, append-nil, if◌then◌else◌, bytes_eq, leb-true, leb-false, ltb-true, ltb-false, nat_tests, share_of, LocalMinute, Amount, FlightDate, Hand, Surplus, Free, Built, Missing, Move, Expected, Outbound, FlightLoad, NoteFlight, part, less, plus, pieces_of, tenths_of, free, built, taken_and_found, waybills_on, Cargo, written_all, declaration, effect, carried_out, move_of, is_closed, unload_of, expected_amount, counted_in, uncounted, counted_more, check_in_moves, struck, IsLawful, IsLawfulAmount, IsNoted, share_heavy, share_leaves}
 use Rattle.shipment_machine.specs.declared.command.ShipmentCommand.TheVariants as order
 use Rattle.shipment_machine.specs.declared.command.DeskCommand.TheVariants as desk
-use Rattle.shipment_machine.specs.Amount.{part, less, plus}
-use Rattle.shipment_machine.specs.Book.{pieces_of, tenths_of, free, built, taken_and_found, waybills_on}
-use Rattle.shipment_machine.specs.Cargo.{Cargo, written_all}
-use Rattle.shipment_machine.specs.Views.{declaration}
-use Rattle.shipment_machine.specs.Effect.{effect, carried_out, move_of, is_closed, unload_of, expected_amount, counted_in, uncounted, counted_more, check_in_moves, struck}
-use Rattle.shipment_machine.specs.Lawful.{IsLawful, IsLawfulAmount, IsNoted}
 use Rattle.shipment_machine.proofs.FlightKeys.{same-refl}
 use Rattle.shipment_machine.proofs.OnFlight.{is_in-waybills_on}
 use Rattle.shipment_machine.proofs.Conserved.{came, held_free}
@@ -33,7 +12,6 @@ use Rattle.shipment_machine.proofs.SoundBook.{there_are}
 use Rattle.shipment_machine.proofs.PlainMoves.{lawful_after}
 use Rattle.shipment_machine.proofs.FlightMoves.{with_note, noted_open, manifested, HasRoom}
 use Rattle.shipment_machine.proofs.Departed.{sent_off, departed_lawful, depart_moves_are}
-use Rattle.imp_fields.proofs.ShareLemmas.{share_heavy, share_leaves}
 use Rattle.shipment_machine.proofs.WrittenRows.{expects}
 use Rattle.shipment_machine.proofs.KeepsMoves.{is_known, with_moves, rests, may_move, inside_fits, outside_fits, came_with, fits_parts}
 

@@ -1,26 +1,10 @@
 -- Moves that keep a state lawful: a part of what is at a place, or pieces from outside.
 use Rattle.std.proofs.Common.{◌≡◌, ℕ, ◌+◌, ◌≤◌, Bool, true, false, not, ◌==◌, nat_le, Option, Some, None, is_none, IsSome, List, [], ◌∷◌, ◌++◌, refl, sym, subst, ◌∙◌, arith, true≢false}
-use Rattle.std.specs.Bool.{if◌then◌else◌}
-use Rattle.std.proofs.lemmas.Bool.{and_parts, leb-true}
-use Rattle.std.proofs.lemmas.Bool.Decides.{nat_tests}
-use Rattle.std.proofs.lemmas.List.{append-nil}
-use Rattle.imp_fields.specs.Amount.{share_of}
-use Rattle.station_days.specs.Date.{LocalMinute}
-use Rattle.shipment_machine.specs.declared.amount.Amount.{Amount}
-use Rattle.shipment_machine.specs.declared.flight.FlightDate.{FlightDate}
-use Rattle.shipment_machine.specs.declared.moves.Place.{Place}
-use Rattle.shipment_machine.specs.declared.moves.Place.TheVariants.{Hand}
-use Rattle.shipment_machine.specs.declared.moves.Move.{Move}
-use Rattle.shipment_machine.specs.Amount.{fits}
-use Rattle.shipment_machine.specs.Book.{same_place, pieces_of, tenths_of, taken}
-use Rattle.shipment_machine.specs.Cargo.{Cargo}
-use Rattle.shipment_machine.specs.Effect.{move_of}
-use Rattle.shipment_machine.specs.Lawful.{is_outside, is_pair, IsLawful, IsNoted, NamesFlight}
+use Rattle.shipment_machine.proofs.Common.{if◌then◌else◌, and_parts, leb-true, nat_tests, append-nil, share_of, LocalMinute, Amount, FlightDate, Place, Hand, Move, fits, same_place, pieces_of, tenths_of, taken, Cargo, move_of, is_outside, is_pair, IsLawful, IsNoted, NamesFlight, share_heavy}
 use Rattle.shipment_machine.proofs.Conserved.{came}
 use Rattle.shipment_machine.proofs.SoundBook.{IsFitting, with_move, there_are, came_after, part_leaves}
 use Rattle.shipment_machine.proofs.Places.{added}
 use Rattle.shipment_machine.proofs.PlainMoves.{sound_of}
-use Rattle.imp_fields.proofs.ShareLemmas.{share_heavy}
 
 pub not_false : (b : Bool) → not b ≡ false → b ≡ true
 not_false true e = refl

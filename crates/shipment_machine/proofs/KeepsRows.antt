@@ -1,38 +1,16 @@
 -- Declarations, manifests' parts and status messages keep a state lawful.
 use Rattle.std.proofs.Common.{◌≡◌, ℕ, ◌+◌, ◌≤◌, max, Bool, true, false, not, ◌&&◌, ◌||◌, Option, Some, None, is_none, IsSome, IfSome, Result, Ok, Err, IfOk, List, [], ◌∷◌, ◌++◌, map, length, refl, sym, subst, arith, true≢false}
-use Rattle.std.specs.Bool.{if◌then◌else◌}
+use Rattle.shipment_machine.proofs.Common.{if◌then◌else◌, bytes_eq, IsTrue, AllByRecursion, filter, list_all, and_parts, append-nil, Move, book_weight_of, LocalMinute, Holder, FlightDate, Declared, Expected, CargoLine, Change, Expect, NotePart, Trail, Refusal, amount, fits, Cargo, written, written_all, declaration_view, effect, carried_out, first_refusal, unless_refused, then_write, declaring, declare, dated, declared_by, all_pieces, booked, expected_amount, expected_after, row_changes, line_refusals, line_changes, lines_changes, lines_for, inbound_flight, inbound_part, announced, IsLawful, IsLawfulAmount, HasPieces, share_heavy}
 use Rattle.std.specs.Option.{unwrap_or}
-use Rattle.std.specs.Str.{bytes_eq}
-use Rattle.std.specs.Prelude.{IsTrue}
-use Rattle.std.specs.List.{AllByRecursion, filter, list_all}
-use Rattle.std.proofs.lemmas.Bool.{and_parts}
 use Rattle.imp_fields.specs.Characters.{is_line}
-use Rattle.std.proofs.lemmas.List.{append-nil}
-use Rattle.shipment_machine.specs.declared.moves.Move.{Move}
-use Rattle.imp_fields.specs.Amount.{book_weight_of}
-use Rattle.station_days.specs.Date.{LocalMinute}
-use Rattle.agent_stock.specs.declared.stock.Holder.{Holder}
 use Rattle.agent_stock.specs.declared.stock.Holder.TheVariants as holder
-use Rattle.shipment_machine.specs.declared.flight.FlightDate.{FlightDate}
-use Rattle.shipment_machine.specs.declared.moves.Declared.{Declared}
-use Rattle.shipment_machine.specs.declared.moves.Expected.{Expected}
 use Rattle.shipment_machine.specs.declared.moves.Part.{Part}
-use Rattle.shipment_machine.specs.declared.command.CargoLine.{CargoLine}
 use Rattle.shipment_machine.specs.declared.command.InboundLine.{InboundLine}
 use Rattle.shipment_machine.specs.declared.command.InboundPart.{InboundPart}
 use Rattle.shipment_machine.specs.declared.command.InboundStatus.{InboundStatus}
 use Rattle.shipment_machine.specs.declared.command.ShipmentCommand.TheVariants as order
 use Rattle.shipment_machine.specs.declared.command.DeskCommand.TheVariants as desk
-use Rattle.shipment_machine.specs.declared.plans.Change.{Change}
-use Rattle.shipment_machine.specs.declared.plans.Change.TheVariants.{Expect, NotePart, Trail}
-use Rattle.shipment_machine.specs.declared.plans.Refusal.{Refusal}
-use Rattle.shipment_machine.specs.Amount.{amount, fits}
-use Rattle.shipment_machine.specs.Cargo.{Cargo, written, written_all}
-use Rattle.shipment_machine.specs.Views.{declaration_view}
-use Rattle.shipment_machine.specs.Effect.{effect, carried_out, first_refusal, unless_refused, then_write, declaring, declare, dated, declared_by, all_pieces, booked, expected_amount, expected_after, row_changes, line_refusals, line_changes, lines_changes, lines_for, inbound_flight, inbound_part, announced}
-use Rattle.shipment_machine.specs.Lawful.{IsLawful, IsLawfulAmount, HasPieces}
 use Rattle.shipment_machine.proofs.Keeps.{NoneHolds, none_holds, by_refusals, declares}
-use Rattle.imp_fields.proofs.ShareLemmas.{share_heavy}
 use Rattle.shipment_machine.proofs.WrittenRows.{declared_rows, known_after, expects, notes_part, trails}
 use Rattle.shipment_machine.proofs.KeepsMoves.{is_known, with_moves, rests, fits_parts}
 

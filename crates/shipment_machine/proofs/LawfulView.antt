@@ -1,27 +1,8 @@
 -- What a view of a lawful state shows is within bounds.
 use Rattle.std.proofs.Common.{◌≡◌, ℕ, ◌+◌, ◌-◌, ◌<◌, Bool, true, false, ◌==◌, nat_lt, Option, Some, None, IsSome, IfSome, List, [], ◌∷◌, map, length, refl, sym, ap, ◌∙◌, arith, true≢false, All}
-use Rattle.std.specs.Prelude.{is_some}
-use Rattle.std.specs.Bool.{if◌then◌else◌}
-use Rattle.std.specs.List.{AllByRecursion, filter}
-use Rattle.std.proofs.lemmas.Bool.{ltb-true}
-use Rattle.std.proofs.lemmas.List.Sums.{sum_by-cons}
-use Rattle.std.proofs.lemmas.List.Elements.{All-cons}
-use Rattle.shipment_machine.specs.declared.flight.FlightDate.{FlightDate}
-use Rattle.shipment_machine.specs.declared.moves.Place.{Place}
-use Rattle.shipment_machine.specs.declared.moves.Place.TheVariants.{Built}
-use Rattle.shipment_machine.specs.declared.moves.Move.{Move}
-use Rattle.shipment_machine.specs.declared.moves.Expected.{Expected}
-use Rattle.shipment_machine.specs.declared.view.FlightLoad.{FlightLoad}
-use Rattle.shipment_machine.specs.Flights.{same_flight_date}
+use Rattle.shipment_machine.proofs.Common.{is_some, if◌then◌else◌, AllByRecursion, filter, ltb-true, sum_by-cons, All-cons, FlightDate, Place, Built, Move, Expected, FlightLoad, same_flight_date, IsHeld, same_place, pieces_of, moved_in, moved_out, brings, built, waybills_of, waybills_on, Cargo, declaration, loads_of, expected_amount, IsOnBoard, IsLawfulMove, IsLawfulAmount, IsNoted, IsLawful}
 use Rattle.shipment_machine.proofs.Places.{no_added}
 use Rattle.shipment_machine.proofs.FlightKeys.{same-is}
-use Rattle.shipment_machine.specs.Amount.{IsHeld}
-use Rattle.shipment_machine.specs.Book.{same_place, pieces_of, moved_in, moved_out, brings, built, waybills_of, waybills_on}
-use Rattle.shipment_machine.specs.Cargo.{Cargo}
-use Rattle.shipment_machine.specs.Views.{declaration, loads_of}
-use Rattle.shipment_machine.specs.Effect.{expected_amount}
-use Rattle.shipment_machine.specs.Agreement.{IsOnBoard}
-use Rattle.shipment_machine.specs.Lawful.{IsLawfulMove, IsLawfulAmount, IsNoted, IsLawful}
 use Rattle.shipment_machine.proofs.Conserved.{held_built}
 
 -- what is expected is within bounds

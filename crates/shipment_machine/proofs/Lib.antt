@@ -1,3 +1,4 @@
+pub mod Common
 pub mod Examples
 pub mod Unlawful
 pub mod Crowd

@@ -1,9 +1,6 @@
 -- The day that a date means.
 use Rattle.std.proofs.Common.{◌≡◌, ℕ, true, false, nat_le, Option, Some, None, IsSome, IfSome, refl, sym, ap, ◌∙◌, true≢false}
-use Rattle.std.specs.Prelude.{◌↔◌, is_some}
-use Rattle.std.proofs.lemmas.Bool.{and_parts, and_from, le-leb, leb-true}
-use Rattle.station_days.specs.Date.{IsMomentDay, is_moment_day}
-use Rattle.shipment_machine.specs.Effect.{is_day}
+use Rattle.shipment_machine.proofs.Common.{◌↔◌, is_some, and_parts, and_from, le-leb, leb-true, IsMomentDay, is_moment_day, is_day}
 
 inside : (day : ℕ) → IsMomentDay day → is_moment_day day ≡ true
 inside day h = and_from _ _ (le-leb 10957 day h.0) (le-leb day 47481 h.1)

@@ -1,13 +1,7 @@
 -- Which waybills are on a flight depends on the balances alone.
 use Rattle.std.proofs.Common.{◌≡◌, ℕ, ◌+◌, ◌-◌, Bool, true, false, ◌&&◌, ◌||◌, ◌==◌, nat_lt, List, [], ◌∷◌, refl, sym, ap, ◌∙◌, arith, zero-add, true≢false}
-use Rattle.std.specs.Bool.{if◌then◌else◌}
-use Rattle.std.proofs.lemmas.List.Sums.{sum_by-cons}
-use Rattle.shipment_machine.specs.declared.flight.FlightDate.{FlightDate}
-use Rattle.shipment_machine.specs.declared.moves.Place.{Place}
-use Rattle.shipment_machine.specs.declared.moves.Move.{Move}
-use Rattle.shipment_machine.specs.Book.{brings, moved_in, moved_out, built, pieces_of, waybills_of, waybills_on, has_moves, same_place}
-use Rattle.shipment_machine.specs.declared.moves.Place.TheVariants.{Built}
-use Rattle.shipment_machine.specs.Numbers.{IsAscending as Rising, is_in}
+use Rattle.shipment_machine.proofs.Common.{if◌then◌else◌, sum_by-cons, FlightDate, Place, Move, brings, moved_in, moved_out, built, pieces_of, waybills_of, waybills_on, has_moves, same_place, Built, is_in}
+use Rattle.shipment_machine.specs.Numbers.{IsAscending as Rising}
 use Rattle.shipment_machine.proofs.Rising.{Rising-put_rising, is_in-put_rising, Rising-filter, is_in-filter, same_rising}
 
 pub Rising-waybills_of : (book : List Move) → Rising (waybills_of book)

@@ -2,8 +2,7 @@
 use Rattle.std.proofs.Common.{ℕ, List, refl, arith}
 use Rattle.std.proofs.lemmas.Option.{none-some}
 use Rattle.agent_stock.specs.declared.stock.Holder.TheVariants.{Used}
-use Rattle.shipment_machine.specs.Cargo.{opening_cargo}
-use Rattle.shipment_machine.specs.Lawful.{IsLawful}
+use Rattle.shipment_machine.proofs.Common.{opening_cargo, IsLawful}
 
 pub opening_lawful : (here : List ℕ) → IsLawful (opening_cargo here)
 opening_lawful here = record {

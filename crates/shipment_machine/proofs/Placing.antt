@@ -1,9 +1,7 @@
 -- A number in its place among ascending ones.
 use Rattle.std.proofs.Common.{◌≡◌, ◌≢◌, ℕ, suc, ◌+◌, ◌<◌, ◌≤◌, true, false, ◌==◌, nat_lt, List, [], ◌∷◌, length, refl, sym, ap, ◌∙◌, get_or, arith}
-use Rattle.std.specs.List.{prefix_len, insert}
-use Rattle.std.proofs.lemmas.Bool.{cond-true, cond-false, ltb-true, ltb-false, le-ltb, lt-ltb, eq-eqb, ne_eqb}
+use Rattle.shipment_machine.proofs.Common.{prefix_len, insert, cond-true, cond-false, ltb-true, ltb-false, le-ltb, lt-ltb, eq-eqb, ne_eqb, put_rising}
 use Rattle.std.proofs.Math.ListN.{get_or-eq_default}
-use Rattle.shipment_machine.specs.Book.{put_rising}
 
 abbrev pub below : ℕ → List ℕ → ℕ
 below q xs = prefix_len (λ n. nat_lt n q) xs

@@ -1,18 +1,6 @@
 -- A move that has nothing to do with a flight keeps a state lawful.
 use Rattle.std.proofs.Common.{◌≡◌, ℕ, ◌+◌, ◌-◌, ◌≤◌, Bool, true, false, ◌&&◌, ◌||◌, ◌==◌, nat_le, List, [], ◌∷◌, ◌++◌, length, refl, sym, subst, ◌∙◌, arith, true≢false}
-use Rattle.std.specs.Prelude.{IsTrue}
-use Rattle.std.specs.List.{list_any}
-use Rattle.std.proofs.lemmas.Bool.{and_parts, and_from, leb-true}
-use Rattle.std.proofs.lemmas.List.Sums.{sum_by_push}
-use Rattle.std.proofs.lemmas.List.Folds.{list_any-append}
-use Rattle.std.proofs.lemmas.Bool.Decides.{nat_tests}
-use Rattle.shipment_machine.specs.declared.flight.FlightDate.{FlightDate}
-use Rattle.shipment_machine.specs.declared.moves.Place.TheVariants.{Built}
-use Rattle.shipment_machine.specs.declared.moves.Move.{Move}
-use Rattle.shipment_machine.specs.Amount.{fits}
-use Rattle.shipment_machine.specs.Book.{same_place, pieces_of, moved_in, moved_out, brings, takes, taken_and_found, built}
-use Rattle.shipment_machine.specs.Cargo.{Cargo}
-use Rattle.shipment_machine.specs.Lawful.{IsLawful, departs_with, builds_on, StaysDeparted}
+use Rattle.shipment_machine.proofs.Common.{IsTrue, list_any, and_parts, and_from, leb-true, sum_by_push, list_any-append, nat_tests, FlightDate, Built, Move, fits, same_place, pieces_of, moved_in, moved_out, brings, takes, taken_and_found, built, Cargo, IsLawful, departs_with, builds_on, StaysDeparted}
 use Rattle.shipment_machine.proofs.Places.{is_built, not_built, not_built_on, added, no_added}
 use Rattle.shipment_machine.proofs.OnFlight.{same_waybills_on}
 use Rattle.shipment_machine.proofs.SoundBook.{IsFitting, IsSound, with_move, sound_after}

@@ -1,10 +1,7 @@
 -- Lists of ascending numbers, and the waybills on a flight.
 use Rattle.std.proofs.Common.{◌≡◌, ◌≢◌, ℕ, ◌<◌, Bool, true, false, ◌&&◌, ◌||◌, ◌==◌, nat_lt, List, [], ◌∷◌, refl, sym, ap, subst, ◌∙◌, arith, true≢false}
-use Rattle.std.specs.Bool.{if◌then◌else◌}
-use Rattle.std.specs.List.{AllByRecursion, filter}
-use Rattle.std.proofs.lemmas.Bool.Decides.{nat_tests}
-use Rattle.shipment_machine.specs.Book.{put_rising}
-use Rattle.shipment_machine.specs.Numbers.{IsAscending as Rising, is_in}
+use Rattle.shipment_machine.proofs.Common.{if◌then◌else◌, AllByRecursion, filter, nat_tests, put_rising, is_in}
+use Rattle.shipment_machine.specs.Numbers.{IsAscending as Rising}
 
 above_trans : (a b : ℕ) (xs : List ℕ) → a < b → AllByRecursion (λ y. b < y) xs → AllByRecursion (λ y. a < y) xs
 above_trans a b [] h all = tt

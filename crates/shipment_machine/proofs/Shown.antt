@@ -1,14 +1,7 @@
 -- What is shown of a waybill in a lawful state is its balances.
 use Rattle.std.proofs.Common.{◌≡◌, ℕ, ◌-◌, ◌≤◌, Bool, false, List, arith}
-use Rattle.std.specs.Prelude.{pos, neg_ℤ, ◌-ℤ◌}
+use Rattle.shipment_machine.proofs.Common.{pos, neg_ℤ, ◌-ℤ◌, Place, Hand, Surplus, Move, same_place, in_store, pieces_of, tenths_of, moved_in, moved_out, held, drawn, Cargo, IsLawful, is_outside, IsBalance, CameFrom, AreBalances}
 use Rattle.std.proofs.lemmas.Int.{ints}
-use Rattle.shipment_machine.specs.declared.moves.Place.{Place}
-use Rattle.shipment_machine.specs.declared.moves.Place.TheVariants.{Hand, Surplus}
-use Rattle.shipment_machine.specs.declared.moves.Move.{Move}
-use Rattle.shipment_machine.specs.Book.{same_place, in_store, pieces_of, tenths_of, moved_in, moved_out, held, drawn}
-use Rattle.shipment_machine.specs.Cargo.{Cargo}
-use Rattle.shipment_machine.specs.Lawful.{IsLawful, is_outside}
-use Rattle.shipment_machine.specs.Laws.{IsBalance, CameFrom, AreBalances}
 use Rattle.shipment_machine.proofs.Conserved.{none_in_surplus, stay_pieces, stay_tenths, store_stays}
 
 left : (i o : ℕ) → o ≤ i → pos (i - o) ≡ pos i -ℤ pos o

@@ -1,19 +1,7 @@
 -- One more move leaves a book sound: no place overdrawn, what came in within bounds, each move lawful.
 use Rattle.std.proofs.Common.{◌≡◌, ℕ, ◌+◌, ◌-◌, ◌*◌, ◌/◌, ◌≤◌, Bool, true, false, ◌&&◌, ◌==◌, IsSome, List, [], ◌∷◌, ◌++◌, refl, sym, ap, subst, arith, true≢false}
-use Rattle.std.specs.Bool.{if◌then◌else◌}
-use Rattle.std.specs.List.{AllByRecursion}
-use Rattle.std.proofs.lemmas.List.Sums.{sum_by_push}
-use Rattle.std.proofs.lemmas.Bool.Decides.{nat_tests}
+use Rattle.shipment_machine.proofs.Common.{if◌then◌else◌, AllByRecursion, sum_by_push, nat_tests, share_of, share_leaves, share_heavy, FlightDate, Place, Hand, Surplus, Move, same_place, pieces_of, tenths_of, moved_in, moved_out, brings, takes, taken, Cargo, is_outside, is_pair, IsStocked, IsCovered, IsNoted, NamesFlight, IsLawfulMove}
 use Rattle.std.proofs.lemmas.Nat.{le-div}
-use Rattle.imp_fields.specs.Amount.{share_of}
-use Rattle.imp_fields.proofs.ShareLemmas.{share_leaves, share_heavy}
-use Rattle.shipment_machine.specs.declared.flight.FlightDate.{FlightDate}
-use Rattle.shipment_machine.specs.declared.moves.Place.{Place}
-use Rattle.shipment_machine.specs.declared.moves.Place.TheVariants.{Hand, Surplus}
-use Rattle.shipment_machine.specs.declared.moves.Move.{Move}
-use Rattle.shipment_machine.specs.Book.{same_place, pieces_of, tenths_of, moved_in, moved_out, brings, takes, taken}
-use Rattle.shipment_machine.specs.Cargo.{Cargo}
-use Rattle.shipment_machine.specs.Lawful.{is_outside, is_pair, IsStocked, IsCovered, IsNoted, NamesFlight, IsLawfulMove}
 use Rattle.shipment_machine.proofs.Conserved.{none_in, came}
 use Rattle.shipment_machine.proofs.Places.{never_surplus, outside_split, outside_too, same_test, noted_under, added, no_added}
 

@@ -1,30 +1,17 @@
 -- A view of a lawful state fits its command, and decides the effect.
 use Rattle.std.proofs.Common.{◌≡◌, ℕ, Bool, true, false, not, Option, Some, None, Result, Ok, Err, List, [], map, length, refl, sym, ap, ◌∙◌, true≢false}
-use Rattle.std.specs.Prelude.{is_some, IfOk, IfErr}
-use Rattle.std.specs.Bool.{if◌then◌else◌}
-use Rattle.std.proofs.lemmas.List.{length-map}
-use Rattle.station_days.specs.Date.{LocalMinute, resolved}
+use Rattle.shipment_machine.proofs.Common.{is_some, IfOk, IfErr, if◌then◌else◌, length-map, LocalMinute, resolved, ShipmentCommand, Change, Refusal, balances_of, Cargo, line_view_of, rows_of, Outcome, reads, effect, decided, unless_refused, first_refusal, announcing, announced, lines_for, is_day, inbound_flight, inbound_part, no_earlier, announced_changes, part_key, AreSound, AreRowsOf, FitsCommand, rows_answer, meant_by, rows_for, outcome_of, RefusesAs, IsAnswer, IsLawful}
 use Rattle.shipment_machine.specs.declared.view.RowsKey.{RowsKey}
 use Rattle.shipment_machine.specs.declared.view.RowsKey.TheVariants as key
 use Rattle.shipment_machine.specs.declared.view.Rows.{Rows}
 use Rattle.shipment_machine.specs.declared.view.Rows.TheVariants as rows
 use Rattle.shipment_machine.specs.declared.command.InboundPart.{InboundPart}
-use Rattle.shipment_machine.specs.declared.command.ShipmentCommand.{ShipmentCommand}
 use Rattle.shipment_machine.specs.declared.command.ShipmentCommand.TheVariants as order
-use Rattle.shipment_machine.specs.declared.plans.Change.{Change}
 use Rattle.shipment_machine.specs.declared.plans.Plan.{Plan}
 use Rattle.shipment_machine.specs.declared.plans.PlanFault.{PlanFault}
 use Rattle.shipment_machine.specs.declared.plans.PlanFault.TheVariants as fault
-use Rattle.shipment_machine.specs.declared.plans.Refusal.{Refusal}
 use Rattle.shipment_machine.specs.declared.plans.Detail.TheVariants as detail
 use Rattle.imp_fields.specs.declared.fault.Why.TheVariants as why
-use Rattle.shipment_machine.specs.Book.{balances_of}
-use Rattle.shipment_machine.specs.Cargo.{Cargo}
-use Rattle.shipment_machine.specs.Views.{line_view_of, rows_of}
-use Rattle.shipment_machine.specs.Effect.{Outcome, reads, effect, decided, unless_refused, first_refusal, announcing, announced, lines_for, is_day, inbound_flight, inbound_part}
-use Rattle.shipment_machine.specs.Announced.{no_earlier, announced_changes, part_key}
-use Rattle.shipment_machine.specs.Agreement.{AreSound, AreRowsOf, FitsCommand, rows_answer, meant_by, rows_for, outcome_of, RefusesAs, IsAnswer}
-use Rattle.shipment_machine.specs.Lawful.{IsLawful}
 use Rattle.shipment_machine.proofs.Conserved.{held_free, held_built, held_missing, missing_came}
 use Rattle.shipment_machine.proofs.LawfulView.{held_expected, on_board, noted_outbound}
 use Rattle.shipment_machine.proofs.AnnouncedIs.{announced_is}

@@ -1,21 +1,9 @@
 -- Written rows keep a state lawful.
 use Rattle.std.proofs.Common.{◌≡◌, ℕ, Bool, true, false, ◌&&◌, ◌==◌, Option, Some, None, IsSome, IfSome, List, [], ◌∷◌, ◌++◌, refl, sym, ap, subst, arith}
-use Rattle.std.specs.Bool.{if◌then◌else◌}
-use Rattle.std.specs.Prelude.{IsTrue}
-use Rattle.std.specs.List.{AllByRecursion}
+use Rattle.shipment_machine.proofs.Common.{if◌then◌else◌, IsTrue, AllByRecursion, nat_tests, Holder, FlightDate, Declared, Expected, Declare, UseUp, Expect, NotePart, Trail, same_flight_date, Cargo, written, written_all, declare, IsLawful, IsLawfulMove, IsLawfulAmount}
 use Rattle.imp_fields.specs.Characters.{is_line}
-use Rattle.std.proofs.lemmas.Bool.Decides.{nat_tests}
-use Rattle.agent_stock.specs.declared.stock.Holder.{Holder}
 use Rattle.agent_stock.specs.declared.stock.Holder.TheVariants as holder
-use Rattle.shipment_machine.specs.declared.flight.FlightDate.{FlightDate}
-use Rattle.shipment_machine.specs.declared.moves.Declared.{Declared}
-use Rattle.shipment_machine.specs.declared.moves.Expected.{Expected}
 use Rattle.shipment_machine.specs.declared.moves.Part.{Part}
-use Rattle.shipment_machine.specs.declared.plans.Change.TheVariants.{Declare, UseUp, Expect, NotePart, Trail}
-use Rattle.shipment_machine.specs.Flights.{same_flight_date}
-use Rattle.shipment_machine.specs.Cargo.{Cargo, written, written_all}
-use Rattle.shipment_machine.specs.Effect.{declare}
-use Rattle.shipment_machine.specs.Lawful.{IsLawful, IsLawfulMove, IsLawfulAmount}
 use Rattle.shipment_machine.proofs.Keeps.{declares}
 use Rattle.shipment_machine.proofs.SoundBook.{move_under, all_map, same_number}
 

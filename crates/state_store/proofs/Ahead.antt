@@ -1,12 +1,7 @@
 -- The entries of a stock that are ahead, and what an entry more says.
 use Rattle.std.proofs.Common.{◌≡◌, ◌∙◌, ℕ, ◌+◌, ◌<◌, ◌≤◌, Bool, true, false, cond, ◌&&◌, nat_le, nat_lt, Option, Some, None, [], ◌∷◌, refl, ap, arith, subst, inl, inr}
-use Rattle.std.proofs.lemmas.Bool.{cases_lt}
-use Rattle.std.proofs.lemmas.Bool.Decides.{nat_tests}
-use Rattle.agent_stock.specs.Stock.{Holders}
-use Rattle.agent_stock.specs.Runs.{AreStockRuns, IsNoneFrom, with_run}
+use Rattle.state_store.proofs.Common.{cases_lt, nat_tests, Holders, AreStockRuns, IsNoneFrom, with_run, Holder, below, named_by, with_numbers}
 use Rattle.agent_stock.specs.declared.runs.StockRun.{StockRun}
-use Rattle.agent_stock.specs.declared.stock.Holder.{Holder}
-use Rattle.state_store.specs.Runs.{below, named_by, with_numbers}
 use Rattle.state_store.proofs.Named.{AreAbove, Entries, Names, Rise, begins, named, one_name}
 
 -- ---- numbers of one holder, some more of them

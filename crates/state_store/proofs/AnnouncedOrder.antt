@@ -1,23 +1,9 @@
 -- The entries of declarations as the rows of the readers.
 use Rattle.std.proofs.Common.{◌≡◌, ◌∙◌, arith, ℕ, Bool, true, false, cond, ◌==◌, Option, Some, None, List, [], ◌∷◌, ◌++◌, map, option_map, find, refl, sym, ap, subst, Less}
-use Rattle.std.specs.BTreeMap.{is_at}
-use Rattle.std.specs.FinMap.{is_sorted}
+use Rattle.state_store.proofs.Common.{is_at, is_sorted, AllByRecursion, flat_map, IsStrictlySortedBy, keys_of, lookup, is_lt, nat_cmp, and_from, eqb-true, common_steps, flat_map-cons, sorted_head, sorted_tail, Move, AreAnnounced, has_come, announced_by, cargo_of, MapState}
 use Rattle.std.specs.FinMap.Entries.{below_all}
-use Rattle.std.specs.List.{AllByRecursion, flat_map}
-use Rattle.std.specs.List.Sorted.{IsStrictlySortedBy}
-use Rattle.std.specs.Map.{keys_of, lookup}
-use Rattle.std.specs.Ordering.{is_lt, nat_cmp}
-use Rattle.std.proofs.lemmas.Bool.{and_from, eqb-true}
-use Rattle.std.proofs.lemmas.Grind.{common_steps}
-use Rattle.std.proofs.lemmas.List.Concat.{flat_map-cons}
-use Rattle.std.proofs.lemmas.Map.Keys.{sorted_head, sorted_tail}
 use Rattle.shipment_machine.specs.declared.moves.Declared.{Declared}
-use Rattle.shipment_machine.specs.declared.moves.Move.{Move}
-use Rattle.station_core.specs.Readers.{AreAnnounced, has_come}
 use Rattle.station_core.specs.declared.rows.AnnouncedRow.{AnnouncedRow}
-use Rattle.state_store.specs.Listed.{announced_by}
-use Rattle.state_store.specs.Maps.{cargo_of}
-use Rattle.state_store.specs.declared.maps.state.MapState.{MapState}
 
 key_is : (k w : ℕ) → is_at (nat_cmp w) k ≡ (w == k)
 key_is k w = grind (arith, common_steps)

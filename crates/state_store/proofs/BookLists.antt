@@ -1,32 +1,9 @@
 -- Rows by sums that are kept in order are those of the book.
 use Rattle.std.proofs.Common.{◌≡◌, ◌∙◌, ℕ, suc, ◌<◌, Bool, true, false, ◌&&◌, ◌||◌, ◌==◌, nat_lt, cond, Option, Some, None, List, [], ◌∷◌, ◌++◌, map, is_some, append_assoc, append-nil, refl, sym, ap, arith, Less, All}
-use Rattle.std.specs.Bool.{if◌then◌else◌}
-use Rattle.std.specs.List.{AllByRecursion, filter, flat_map}
-use Rattle.std.specs.List.Sorted.{IsStrictlySortedBy}
-use Rattle.std.specs.Map.{keys_of, lookup}
-use Rattle.std.specs.Option.{unwrap_or}
-use Rattle.std.specs.Ordering.{nat_cmp}
-use Rattle.std.specs.BTreeMap.{BTreeMap, get, is_at}
-use Rattle.std.proofs.lemmas.Bool.Decides.{nat_tests}
-use Rattle.std.proofs.lemmas.Grind.{common_steps}
-use Rattle.std.proofs.lemmas.List.Concat.{flat_map-cons}
-use Rattle.std.proofs.lemmas.Map.Keys.{sorted_head, sorted_tail}
-use Rattle.shipment_machine.specs.Book.{built, waybills_of, waybills_on}
+use Rattle.state_store.proofs.Common.{if◌then◌else◌, AllByRecursion, filter, flat_map, IsStrictlySortedBy, keys_of, lookup, unwrap_or, nat_cmp, BTreeMap, get, is_at, nat_tests, common_steps, flat_map-cons, sorted_head, sorted_tail, built, waybills_of, waybills_on, FlightDate, Move, Built, asked, waybills_for, WaybillQuery, load_on, loads_on, Load, flow_of, held_of, still, asked_by, loaded, IsWaybillSummed, flow_in, no_flows, Flow}
 use Rattle.shipment_machine.specs.Numbers.{IsAscending, is_in}
-use Rattle.shipment_machine.specs.declared.flight.FlightDate.{FlightDate}
-use Rattle.shipment_machine.specs.declared.moves.Move.{Move}
-use Rattle.shipment_machine.specs.declared.moves.Place.TheVariants.{Built}
 use Rattle.shipment_machine.proofs.OnFlight.{Rising-waybills_of, is_in-waybills_of, is_in-waybills_on}
 use Rattle.shipment_machine.proofs.Rising.{Rising-filter, is_in-filter, same_rising}
-use Rattle.state_store.specs.Waybills.{asked, waybills_for}
-use Rattle.state_store.specs.declared.query.WaybillQuery.{WaybillQuery}
-use Rattle.station_core.specs.Told.{load_on, loads_on}
-use Rattle.station_core.specs.declared.stored.Load.{Load}
-use Rattle.state_store.specs.Flow.{flow_of, held_of, still}
-use Rattle.state_store.specs.Listed.{asked_by, loaded}
-use Rattle.state_store.specs.Summed.{IsWaybillSummed, flow_in}
-use Rattle.state_store.specs.WaybillFlows.{no_flows}
-use Rattle.state_store.specs.declared.maps.flow.Flow.{Flow}
 use Rattle.state_store.specs.declared.maps.waybill_flows.WaybillFlows.{WaybillFlows}
 
 -- one entry further

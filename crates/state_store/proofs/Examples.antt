@@ -1,13 +1,7 @@
 -- The waybills that are asked for in a small book, computed.
 use Rattle.std.proofs.Common.{◌≡◌, ℕ, None, List, [], ◌∷◌, ◌++◌, map, refl}
-use Rattle.std.specs.Prelude.{codes}
-use Rattle.shipment_machine.specs.declared.flight.FlightDate.{FlightDate}
-use Rattle.shipment_machine.specs.declared.moves.Move.{Move}
+use Rattle.state_store.proofs.Common.{codes, FlightDate, Move, Hand, Surplus, Free, Built, Departed, Delivered, Missing, WaybillQuery, Stored, Irregular, waybills_for}
 use Rattle.shipment_machine.specs.declared.moves.Place.{Place}
-use Rattle.shipment_machine.specs.declared.moves.Place.TheVariants.{Hand, Surplus, Free, Built, Departed, Delivered, Missing}
-use Rattle.state_store.specs.declared.query.WaybillQuery.{WaybillQuery}
-use Rattle.state_store.specs.declared.query.WaybillQuery.TheVariants.{Stored, Irregular}
-use Rattle.state_store.specs.Waybills.{waybills_for}
 
 abbrev flight : FlightDate
 flight = record { flight = record { carrier = codes "LH"; number = 400; suffix = None }; day = 20465 }

@@ -1,17 +1,9 @@
 -- Lines that are written one after another, from rows that rise, are those that the rows list.
 use Rattle.std.proofs.Common.{◌≡◌, ◌∙◌, ℕ, Bool, true, false, ◌&&◌, ◌==◌, cond, ◌+◌, ◌<◌, length, take, get_or, Option, Some, None, List, [], ◌∷◌, ◌++◌, find, option_map, refl, sym, ap}
-use Rattle.std.specs.Prelude.{IsTrue, map}
-use Rattle.std.specs.FinMap.{is_sorted}
-use Rattle.std.proofs.lemmas.Bool.{and_parts}
-use Rattle.std.proofs.lemmas.List.{take_more}
-use Rattle.shipment_machine.specs.Flights.{same_flight_date}
-use Rattle.shipment_machine.specs.declared.flight.FlightDate.{FlightDate}
-use Rattle.shipment_machine.specs.declared.moves.Expected.{Expected}
-use Rattle.station_core.specs.Readers.{AreExpectations, by_expectation}
+use Rattle.state_store.proofs.Common.{IsTrue, map, is_sorted, and_parts, take_more, same_flight_date, FlightDate, Expected, AreExpectations, by_expectation, Lines, no_lines, same_line, with_line}
 use Rattle.station_core.specs.declared.rows.Expectation.{Expectation}
 use Rattle.station_core.proofs.Asked.{apart, expectation_total, is_one, one_is, one-refl}
 use Rattle.station_core.proofs.Rising.{not_found}
-use Rattle.state_store.specs.ExpectedLines.{Lines, no_lines, same_line, with_line}
 
 abbrev key : Expectation → FlightDate × ℕ
 key row = (row.flight, row.awb)

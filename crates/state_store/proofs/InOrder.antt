@@ -1,20 +1,9 @@
 -- The entries of a map in the order of the readers, as their rows.
 use Rattle.std.proofs.Common.{◌≡◌, ◌∙◌, ℕ, Bool, true, false, ◌&&◌, cond, List, [], ◌∷◌, ◌++◌, map, option_map, append_assoc, append-nil, Some, find, ◌==◌, refl, sym, ap, subst, Less, Ordering}
-use Rattle.std.specs.FinMap.{is_sorted}
+use Rattle.state_store.proofs.Common.{is_sorted, AllByRecursion, IsStrictlySortedBy, keys_of, lookup, is_lt, and_from, sorted_head, sorted_tail, same_flight_date, Expected, AreExpectations, by_expectation, lines_in, line_of, same_line, FlightKey}
 use Rattle.std.specs.FinMap.Entries.{below_all}
-use Rattle.std.specs.List.{AllByRecursion}
-use Rattle.std.specs.List.Sorted.{IsStrictlySortedBy}
-use Rattle.std.specs.Map.{keys_of, lookup}
-use Rattle.std.specs.Ordering.{is_lt}
-use Rattle.std.proofs.lemmas.Bool.{and_from}
-use Rattle.std.proofs.lemmas.Map.Keys.{sorted_head, sorted_tail}
-use Rattle.shipment_machine.specs.Flights.{same_flight_date}
-use Rattle.shipment_machine.specs.declared.moves.Expected.{Expected}
-use Rattle.station_core.specs.Readers.{AreExpectations, by_expectation}
 use Rattle.station_core.specs.declared.rows.Expectation.{Expectation}
-use Rattle.state_store.specs.ExpectedLines.{lines_in, line_of, same_line}
 use Rattle.state_store.specs.declared.expected_lines.ExpectedLines.{ExpectedLines}
-use Rattle.state_store.specs.declared.flight_key.FlightKey.{FlightKey}
 use Rattle.state_store.proofs.Tied.{by_line}
 
 -- one row further

@@ -3,6 +3,7 @@ mod AnnouncedOrder
 mod BookLists
 mod Examples
 mod Filled
+pub mod Common
 pub mod InOrder
 mod KeptRows
 pub mod Keyed

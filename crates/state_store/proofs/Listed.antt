@@ -1,12 +1,7 @@
 -- The rows of the waybills that are asked for.
 use Rattle.std.proofs.Common.{◌≡◌, ℕ, Bool, true, false, List, [], ◌∷◌, ◌++◌, map, refl, sym, true≢false}
-use Rattle.std.specs.Bool.{if◌then◌else◌}
-use Rattle.std.specs.List.{flat_map}
-use Rattle.shipment_machine.specs.declared.moves.Move.{Move}
-use Rattle.shipment_machine.specs.Book.{balances_of}
+use Rattle.state_store.proofs.Common.{if◌then◌else◌, flat_map, Move, balances_of, WaybillQuery, is_asked_for, with_balances, asked}
 use Rattle.station_core.specs.declared.stored.WaybillBalances.{WaybillBalances}
-use Rattle.state_store.specs.declared.query.WaybillQuery.{WaybillQuery}
-use Rattle.state_store.specs.Waybills.{is_asked_for, with_balances, asked}
 
 module _ {X : Type 0} (row_by : WaybillBalances → X) where
   one_more : (a p : Bool) → a ≡ p → (b : WaybillBalances) (r : X) → row_by b ≡ r → (xs : List WaybillBalances) (ys : List X) → map row_by xs ≡ ys

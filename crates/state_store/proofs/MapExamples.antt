@@ -1,13 +1,8 @@
 -- The definitions on worked rows.
 use Rattle.std.proofs.Common.{◌≡◌, ◌∷◌, [], List, Some, None, Option, ℕ, refl}
-use Rattle.agent_stock.specs.declared.stock.Holder.{Holder}
+use Rattle.state_store.proofs.Common.{Holder, first_movement, drawn_of, held_of, below, named_by, with_numbers, nobody, Flow}
 use Rattle.agent_stock.specs.declared.stock.Holder.TheVariants.{Desk, Void}
 use Rattle.station_core.specs.declared.rows.BookQuery.TheVariants.{After, All, Last}
-use Rattle.state_store.specs.Asked.{first_movement}
-use Rattle.state_store.specs.Flow.{drawn_of, held_of}
-use Rattle.state_store.specs.Runs.{below, named_by, with_numbers}
-use Rattle.state_store.specs.Stock.{nobody}
-use Rattle.state_store.specs.declared.maps.flow.Flow.{Flow}
 use Rattle.shipment_machine.specs.Amount.{amount}
 
 -- the desk has 0200000010 to 0200000014, then five numbers are void

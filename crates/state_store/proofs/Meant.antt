@@ -1,14 +1,11 @@
 -- The day that a date means.
 use Rattle.std.proofs.Common.{◌≡◌, ℕ, true, false, [], Option, Some, sym, ap, ◌∙◌}
-use Rattle.std.specs.Option.{unwrap_or}
-use Rattle.std.proofs.lemmas.Bool.{cond-false, cond-true}
+use Rattle.state_store.proofs.Common.{unwrap_or, cond-false, cond-true, Cargo, part_rows_on}
 use Rattle.station_days.specs.Date.{LocalMinute, resolved}
 use Rattle.shipment_machine.specs.declared.command.InboundPart.{InboundPart}
 use Rattle.shipment_machine.specs.declared.command.ShipmentCommand.TheVariants as order
 use Rattle.shipment_machine.specs.declared.view.Rows.TheVariants as rows
 use Rattle.shipment_machine.specs.Agreement.{rows_for}
-use Rattle.shipment_machine.specs.Cargo.{Cargo}
-use Rattle.state_store.specs.Lines.{part_rows_on}
 use Rattle.shipment_machine.specs.Effect.{is_day}
 
 -- the rows of a part whose date means a day

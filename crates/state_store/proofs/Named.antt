@@ -1,16 +1,7 @@
 -- The entry that names a number's holder, by the look-ups of a map.
 use Rattle.std.proofs.Common.{◌≡◌, ◌∙◌, ℕ, ◌<◌, ◌≤◌, ◌⊎◌, inl, inr, false, cond, nat_le, nat_eq, Option, Some, None, IsSome, List, [], ◌∷◌, refl, sym, ap, arith, subst}
-use Rattle.std.proofs.lemmas.Bool.{cases_lt}
-use Rattle.std.specs.Ordering.{nat_cmp, is_lt, is_gt}
+use Rattle.state_store.proofs.Common.{cases_lt, nat_cmp, is_lt, is_gt, IsStrictlySortedBy, keys_of, lookup, is_at, nat_tests, common_steps, sorted_head, sorted_tail, Holder, named_by}
 use Rattle.std.specs.declared.cmp.Ordering.TheVariants.{Less}
-use Rattle.std.specs.List.Sorted.{IsStrictlySortedBy}
-use Rattle.std.specs.Map.{keys_of, lookup}
-use Rattle.std.specs.BTreeMap.{is_at}
-use Rattle.std.proofs.lemmas.Bool.Decides.{nat_tests}
-use Rattle.std.proofs.lemmas.Grind.{common_steps}
-use Rattle.std.proofs.lemmas.Map.Keys.{sorted_head, sorted_tail}
-use Rattle.agent_stock.specs.declared.stock.Holder.{Holder}
-use Rattle.state_store.specs.Runs.{named_by}
 
 abbrev pub Entries : Type 0
 Entries = List (ℕ × Option Holder)

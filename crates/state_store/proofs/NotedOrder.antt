@@ -1,17 +1,9 @@
 -- The entries of flights as the rows of the readers.
 use Rattle.std.proofs.Common.{◌≡◌, ◌∙◌, List, map, refl, sym, ap, subst}
-use Rattle.std.specs.BTreeMap.{BTreeMap}
-use Rattle.std.specs.FinMap.{is_sorted}
-use Rattle.std.specs.List.Sorted.{IsStrictlySortedBy}
-use Rattle.std.specs.Map.{keys_of}
-use Rattle.shipment_machine.specs.Flights.{same_flight_date}
+use Rattle.state_store.proofs.Common.{BTreeMap, is_sorted, IsStrictlySortedBy, keys_of, same_flight_date, AreNoted, by_flight, by_key, FlightKey, flights_in}
 use Rattle.shipment_machine.specs.declared.moves.Outbound.{Outbound}
-use Rattle.station_core.specs.Readers.{AreNoted, by_flight}
 use Rattle.station_core.specs.declared.rows.NotedFlight.{NotedFlight}
-use Rattle.state_store.specs.FlightKey.{by_key}
-use Rattle.state_store.specs.declared.flight_key.FlightKey.{FlightKey}
 use Rattle.state_store.proofs.InOrder.{found_in, map_map, sorted}
-use Rattle.state_store.specs.Maps.{flights_in}
 
 abbrev pub noted_of : FlightKey × Outbound → NotedFlight
 noted_of e = record { flight = e.0.flight; outbound = e.1 }

@@ -1,20 +1,12 @@
 -- Rows with their numbers from a place on, and those of them that are asked for.
 use Rattle.std.proofs.Common.{◌≡◌, ◌∙◌, ℕ, zero, suc, ◌+◌, ◌-◌, ◌<◌, ◌≤◌, Bool, true, false, nat_lt, min, List, [], ◌∷◌, ◌++◌, drop, length, map, get_or, refl, sym, ap, arith, ◌==◌, ◌⊎◌, inl, inr}
-use Rattle.std.specs.Bool.{if◌then◌else◌}
-use Rattle.std.specs.List.{filter, flat_map}
-use Rattle.std.proofs.lemmas.Bool.{cases_lt}
-use Rattle.std.proofs.lemmas.Bool.Decides.{nat_tests}
-use Rattle.std.proofs.lemmas.List.{drop_all, drop_more}
-use Rattle.std.proofs.lemmas.List.Concat.{flat_map-cons}
-use Rattle.shipment_machine.specs.declared.moves.Move.{Move}
-use Rattle.station_core.specs.Readers.{book_row, last_of, lines_for, movements_for, numbered, trail_row}
+use Rattle.state_store.proofs.Common.{if◌then◌else◌, filter, flat_map, cases_lt, nat_tests, drop_all, drop_more, flat_map-cons, Move, book_row, last_of, lines_for, movements_for, numbered, trail_row, first_line, first_movement, if_line, if_movement, is_movement_of}
 use Rattle.station_core.specs.declared.rows.BookQuery.{BookQuery}
 use Rattle.station_core.specs.declared.rows.BookQuery.TheVariants as book
 use Rattle.station_core.specs.declared.rows.BookRow.{BookRow}
 use Rattle.station_core.specs.declared.rows.TrailQuery.{TrailQuery}
 use Rattle.station_core.specs.declared.rows.TrailQuery.TheVariants as trail
 use Rattle.station_core.specs.declared.rows.TrailRow.{TrailRow}
-use Rattle.state_store.specs.Asked.{first_line, first_movement, if_line, if_movement, is_movement_of}
 
 -- the row at a place, and those behind it
 pub ahead : {X Row : Type 0} (f : ℕ → X → Row) (xs : List X) (at : ℕ) (x : X) → at < length xs → x ≡ get_or xs at x → numbered f (at + 1) (drop at xs) ≡ f (at + 1) x ∷ numbered f (at + 1 + 1) (drop (at + 1) xs)

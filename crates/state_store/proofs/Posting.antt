@@ -1,31 +1,11 @@
 -- What a move more changes of the sums beside the book.
 use Rattle.std.proofs.Common.{◌≡◌, ◌∙◌, ℕ, ◌+◌, Bool, true, false, ◌&&◌, ◌||◌, ◌==◌, Option, Some, None, List, [], ◌∷◌, ◌++◌, is_some, refl, sym, ap, arith, cond, true≢false, is_eq}
-use Rattle.std.specs.Bool.{if◌then◌else◌}
-use Rattle.std.specs.Option.{unwrap_or}
-use Rattle.std.specs.Ordering.{nat_cmp}
-use Rattle.std.specs.BTreeMap.{BTreeMap, get, is_at}
-use Rattle.std.specs.Map.{lookup}
-use Rattle.std.specs.Cmp.{tied_itself, Equal-is, both_ways}
-use Rattle.std.proofs.lemmas.Bool.{and_from, eqb-true}
+use Rattle.state_store.proofs.Common.{if◌then◌else◌, unwrap_or, nat_cmp, BTreeMap, get, is_at, lookup, tied_itself, Equal-is, both_ways, and_from, eqb-true, common_steps, FlightDate, Move, Built, Delivered, Departed, Free, Hand, Missing, Surplus, Transferred, same_flight_date, brings, has_moves, moved_in, moved_out, pieces_of, same_place, takes, tenths_of, same-is, same-refl, by_key, key_total, by_flight, flow_of, flow_with, more, still, IsWaybillSummed, flow_at, flow_by, flow_in, flows_of, flows_with, no_flows, FlightKey, Flow}
 use Rattle.std.proofs.lemmas.List.Folds.{list_any-append}
 use Rattle.std.proofs.lemmas.List.Sums.{sum_by_push}
-use Rattle.std.proofs.lemmas.Grind.{common_steps}
-use Rattle.shipment_machine.specs.declared.flight.FlightDate.{FlightDate}
-use Rattle.shipment_machine.specs.declared.moves.Move.{Move}
 use Rattle.shipment_machine.specs.declared.moves.Place.{Place}
-use Rattle.shipment_machine.specs.declared.moves.Place.TheVariants.{Built, Delivered, Departed, Free, Hand, Missing, Surplus, Transferred}
-use Rattle.shipment_machine.specs.Flights.{same_flight_date}
-use Rattle.shipment_machine.specs.Book.{brings, has_moves, moved_in, moved_out, pieces_of, same_place, takes, tenths_of}
-use Rattle.shipment_machine.proofs.FlightKeys.{same-is, same-refl}
-use Rattle.state_store.specs.FlightKey.{by_key, key_total}
-use Rattle.station_core.specs.Readers.{by_flight}
 use Rattle.shipment_machine.proofs.Places.{same_test}
 use Rattle.state_store.proofs.Tied.{one_flight}
-use Rattle.state_store.specs.Flow.{flow_of, flow_with, more, still}
-use Rattle.state_store.specs.Summed.{IsWaybillSummed, flow_at, flow_by, flow_in}
-use Rattle.state_store.specs.WaybillFlows.{flows_of, flows_with, no_flows}
-use Rattle.state_store.specs.declared.flight_key.FlightKey.{FlightKey}
-use Rattle.state_store.specs.declared.maps.flow.Flow.{Flow}
 use Rattle.state_store.specs.declared.maps.flow.Total.{Total}
 use Rattle.state_store.specs.declared.maps.waybill_flows.WaybillFlows.{WaybillFlows}
 

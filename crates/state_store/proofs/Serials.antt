@@ -1,7 +1,6 @@
 -- Numbers of a run, one further.
 use Rattle.std.proofs.Common.{◌≡◌, ℕ, zero, suc, ◌+◌, ◌-◌, ◌≤◌, ◌<◌, Bool, true, false, cond, ◌&&◌, nat_le, nat_lt, ◌%◌, Some, ◌∙◌, ap, arith}
-use Rattle.std.specs.List.{find, range_with_len}
-use Rattle.std.proofs.lemmas.Bool.Decides.{nat_tests}
+use Rattle.state_store.proofs.Common.{find, range_with_len, nat_tests}
 
 pub not_empty : (first count : ℕ) → (nat_lt 0 count && nat_le count 1_000_000 && nat_le (first % 10_000_000 + count) 10_000_000) ≡ true → first < first + count
 not_empty first count run = grind (arith, nat_tests)

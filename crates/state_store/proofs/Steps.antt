@@ -1,9 +1,6 @@
 -- What the steps of an order change in what is named.
 use Rattle.std.proofs.Common.{◌≡◌, ◌∙◌, ℕ, ◌<◌, ◌≤◌, inl, inr, cond, ◌&&◌, nat_le, nat_lt, nat_eq, Option, Some, None, IsSome, sym, ap, arith}
-use Rattle.std.proofs.lemmas.Bool.{cases_lt}
-use Rattle.std.proofs.lemmas.Bool.Decides.{nat_tests}
-use Rattle.agent_stock.specs.declared.stock.Holder.{Holder}
-use Rattle.state_store.specs.Runs.{named_by}
+use Rattle.state_store.proofs.Common.{cases_lt, nat_tests, Holder, named_by}
 use Rattle.state_store.proofs.Named.{Entries, Begins, begins, Names, Rise, named, one_name}
 
 module _ {X : Type 0} (k j : ℕ) (x y : X) where

@@ -1,10 +1,7 @@
 -- What is in store follows from the other balances.
 use Rattle.std.proofs.Common.{◌≡◌, ℕ, ◌+◌, ◌-◌, List, ap, arith}
-use Rattle.shipment_machine.specs.declared.amount.Amount.{Amount}
-use Rattle.shipment_machine.specs.declared.moves.Move.{Move}
-use Rattle.shipment_machine.specs.Book.{balances_of, store, taken, found, departed, delivered, missing, transferred}
+use Rattle.state_store.proofs.Common.{Amount, Move, balances_of, store, taken, found, departed, delivered, missing, transferred, stored_of}
 use Rattle.shipment_machine.specs.Laws.{IsConserved}
-use Rattle.station_core.specs.Told.{stored_of}
 
 rest : (came stored m d e f : ℕ) → came ≡ stored + (m + (d + (e + (f + 0)))) → came - (d + e + m + f) ≡ stored
 rest came stored m d e f h = omega (arith, h)

@@ -1,11 +1,6 @@
 -- Memory is sound, and no reopening finds it.
 use Rattle.std.proofs.Common.{◌≡◌, Result, Ok, Err, ap}
-use Rattle.std.specs.Prelude.{IfOk, OnOk}
-use Rattle.state_store.specs.Store.{MayLeave, Reads, Survives}
-use Rattle.station_core.specs.Step.{State}
-use Rattle.state_store.specs.Maps.{cargo_of}
-use Rattle.state_store.specs.Shown.{Shows, in_memory}
-use Rattle.state_store.specs.declared.maps.state.MapState.{MapState}
+use Rattle.state_store.proofs.Common.{IfOk, OnOk, MayLeave, Reads, Survives, State, cargo_of, Shows, in_memory, MapState}
 
 pub survives_so : (old new : MapState) → Survives in_memory old new
 survives_so old new = record { clean = λ _. tt; still = λ _ _. tt; sound = λ _. tt; leaves = λ _ found no_one. no_one }

@@ -1,19 +1,7 @@
 -- Keys tie where their flights are one.
 use Rattle.std.proofs.Common.{◌≡◌, ◌∙◌, ℕ, ap, refl, sym, arith, Less, Equal, Greater, is_eq, Ordering, true≢false}
-use Rattle.std.specs.Ordering.{nat_cmp, ordering_then}
-use Rattle.std.specs.Cmp.{tied_itself}
-use Rattle.std.specs.FinMap.{nat_cmp-IsAntisymmetric, slice_cmp-IsAntisymmetric}
-use Rattle.std.proofs.lemmas.Bool.{and_parts, and_from, eqb-true, eq-eqb}
-use Rattle.std.proofs.lemmas.Bool.Decides.{nat_tests}
+use Rattle.state_store.proofs.Common.{nat_cmp, ordering_then, tied_itself, nat_cmp-IsAntisymmetric, slice_cmp-IsAntisymmetric, and_parts, and_from, eqb-true, eq-eqb, nat_tests, one_by_text, same_flight_date, FlightDate, same-is, same-refl, by_flight, line_of, same_line, by_key, key_total, FlightKey}
 use Rattle.imp_fields.specs.Flight.{flight_text}
-use Rattle.imp_fields.proofs.SameFlight.{one_by_text}
-use Rattle.shipment_machine.specs.Flights.{same_flight_date}
-use Rattle.shipment_machine.specs.declared.flight.FlightDate.{FlightDate}
-use Rattle.shipment_machine.proofs.FlightKeys.{same-is, same-refl}
-use Rattle.station_core.specs.Readers.{by_flight}
-use Rattle.state_store.specs.ExpectedLines.{line_of, same_line}
-use Rattle.state_store.specs.FlightKey.{by_key, key_total}
-use Rattle.state_store.specs.declared.flight_key.FlightKey.{FlightKey}
 use Rattle.state_store.proofs.Keyed.{IsKeyed}
 
 pub both_equal : (a b : Ordering) → ordering_then a b ≡ Equal → (a ≡ Equal) × (b ≡ Equal)

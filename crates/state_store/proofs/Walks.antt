@@ -1,9 +1,6 @@
 -- One call after another, and rows that are walked.
 use Rattle.std.proofs.Common.{◌≡◌, ℕ, ◌+◌, ◌<◌, List, [], ◌∷◌, ◌++◌, length, take, map, ap, ◌∙◌, get_or}
-use Rattle.std.specs.Prelude.{Result, Ok, Err, IfOk}
-use Rattle.station_core.specs.Step.{State}
-use Rattle.station_core.proofs.Mapped.{mapped}
-use Rattle.state_store.specs.Store.{Reads, ReadsAtRest, Says, Storing, Survives}
+use Rattle.state_store.proofs.Common.{Result, Ok, Err, IfOk, State, mapped, Reads, ReadsAtRest, Says, Storing, Survives}
 
 -- what is said of a value is said in other words
 pub told_so : {X E : Type 0} (P Q : X → Type 0) (r : Result X E) → ((x : X) → P x → Q x) → IfOk r P → IfOk r Q

@@ -1,34 +1,11 @@
 -- What a row more makes of the state that is shown.
 use Rattle.std.proofs.Common.{◌≡◌, ◌∙◌, ℕ, suc, ◌+◌, ◌<◌, Bool, true, false, ◌&&◌, ◌==◌, cond, nat_le, Some, List, [], ◌∷◌, ◌++◌, length, refl, sym, ap, arith, Ordering}
-use Rattle.std.specs.Bool.{if◌then◌else◌}
-use Rattle.std.specs.Ordering.{nat_cmp, ordering_then}
-use Rattle.std.specs.FinMap.{nat_cmp-IsAntisymmetric, slice_cmp-IsAntisymmetric}
+use Rattle.state_store.proofs.Common.{if◌then◌else◌, nat_cmp, ordering_then, nat_cmp-IsAntisymmetric, slice_cmp-IsAntisymmetric, bytes_eq-refl, bytes_eq-true, nat_cmp_total, tied_itself, BTreeMap, get, is_at, Vec, common_steps, Holders, assigned, covers, and_parts, and_from, eqb-true, eq-eqb, nat_tests, length-append, Cargo, same_part, Move, same-is, same-refl, State, has_room, on_cargo, by_key, declared_in, part_of, trail_in, trail_line, texts_in, Shows, state_of, IsSummed, FlightKey, MapState}
 use Rattle.std.specs.Cmp.Lexicographic.{nat_list_cmp_total, slice_cmp}
-use Rattle.imp_fields.proofs.SameFlight.{bytes_eq-refl, bytes_eq-true}
-use Rattle.std.specs.Cmp.{nat_cmp_total, tied_itself}
-use Rattle.std.specs.BTreeMap.{BTreeMap, get, is_at}
-use Rattle.std.specs.Prelude.{Vec}
-use Rattle.std.proofs.lemmas.Grind.{common_steps}
-use Rattle.agent_stock.specs.Stock.{Holders, assigned, covers}
 use Rattle.agent_stock.specs.declared.stock.Holder.TheVariants.{Used}
 use Rattle.agent_stock.specs.declared.stock.Run.{Run}
-use Rattle.std.proofs.lemmas.Bool.{and_parts, and_from, eqb-true, eq-eqb}
-use Rattle.std.proofs.lemmas.Bool.Decides.{nat_tests}
-use Rattle.std.proofs.lemmas.List.{length-append}
-use Rattle.shipment_machine.specs.Cargo.{Cargo, same_part}
 use Rattle.shipment_machine.specs.declared.moves.Declared.{Declared}
-use Rattle.shipment_machine.specs.declared.moves.Move.{Move}
 use Rattle.shipment_machine.specs.declared.moves.Part.{Part}
-use Rattle.shipment_machine.proofs.FlightKeys.{same-is, same-refl}
-use Rattle.station_core.specs.Step.{State, has_room}
-use Rattle.station_core.specs.Told.{on_cargo}
-use Rattle.state_store.specs.FlightKey.{by_key}
-use Rattle.state_store.specs.Maps.{declared_in, part_of, trail_in, trail_line}
-use Rattle.station_core.specs.Texts.{texts_in}
-use Rattle.state_store.specs.Shown.{Shows, state_of}
-use Rattle.state_store.specs.Summed.{IsSummed}
-use Rattle.state_store.specs.declared.flight_key.FlightKey.{FlightKey}
-use Rattle.state_store.specs.declared.maps.state.MapState.{MapState}
 use Rattle.state_store.specs.declared.maps.state.TrailEntry.{TrailEntry}
 use Rattle.state_store.proofs.Keyed.{IsKeyed}
 use Rattle.state_store.proofs.Tied.{both_equal, flight_tied, one_flight}

@@ -1,7 +1,6 @@
 -- What is asked for of what flights are to bring, from the list of all.
 use Rattle.std.proofs.Common.{◌≡◌, ◌∙◌, ap, sym, refl, ℕ, Bool, true, false, cond, Option, Some, None, List}
-use Rattle.std.specs.Prelude.{◌&&◌, ◌==◌, not}
-use Rattle.std.specs.List.{filter}
+use Rattle.station_core.proofs.Common.{◌&&◌, ◌==◌, not, filter, Expectation, by_flight, by_expectation, AreExpectations, asked_of, asks_for, expected_for}
 use Rattle.std.specs.Cmp.{IsTotalOrder, nat_cmp_total, on_total, then_total}
 use Rattle.std.specs.Cmp.Lexicographic.{nat_list_cmp_total}
 use Rattle.std.specs.Ordering.{is_lt, ordering_reverse}
@@ -13,10 +12,8 @@ use Rattle.shipment_machine.specs.Flights.{same_flight_date}
 use Rattle.shipment_machine.specs.declared.flight.FlightDate.{FlightDate}
 use Rattle.shipment_machine.specs.declared.moves.Expected.{Expected}
 use Rattle.shipment_machine.proofs.FlightKeys.{same-is, same-refl}
-use Rattle.station_core.specs.declared.rows.Expectation.{Expectation}
 use Rattle.station_core.specs.declared.rows.ExpectedQuery.{ExpectedQuery}
 use Rattle.station_core.specs.declared.rows.ExpectedQuery.TheVariants.{All, Open}
-use Rattle.station_core.specs.Readers.{by_flight, by_expectation, AreExpectations, asked_of, asks_for, expected_for}
 use Rattle.station_core.proofs.Rising.{found_kept, kept_rise, passing}
 
 pub flight_total : IsTotalOrder by_flight

@@ -1,12 +1,10 @@
 -- The worked rows of the whole station, computed.
 use Rattle.std.proofs.Common.{◌≡◌, ℕ, ◌+◌, ◌*◌, None, List, [], ◌∷◌, ◌++◌, length, refl}
-use Rattle.std.specs.Prelude.{codes, map}
+use Rattle.station_core.proofs.Common.{codes, map, flat_map, LocalMinute, command_text, Answer, Done, Refused, Input, Keyed, Wire, refusal_text, reply_text, State, opening, after_all, answers_of}
 use Rattle.std.specs.Fmt.{digits}
-use Rattle.std.specs.List.{flat_map}
 use Rattle.jiff_core.specs.Calendar.{days_of_years, days_of_months, day_count, days_from_civil}
 use Rattle.imp_fields.specs.Flight.{Designator}
 use Rattle.shipment_machine.specs.declared.flight.FlightDate.{FlightDate}
-use Rattle.station_days.specs.Date.{LocalMinute}
 use Rattle.agent_stock.specs.declared.stock.Run.{Run}
 use Rattle.agent_stock.specs.declared.stock.Order.{Order}
 use Rattle.agent_stock.specs.declared.stock.Order.TheVariants.{TakeIn, Issue, Void}
@@ -14,15 +12,8 @@ use Rattle.shipment_machine.specs.declared.command.InboundLine.{InboundLine}
 use Rattle.shipment_machine.specs.declared.command.DeskCommand.{DeskCommand}
 use Rattle.shipment_machine.specs.declared.command.DeskCommand.TheVariants.{Notify, Book, Receive, Withdraw, Manifest, Offload, Reroute, Depart, CheckIn, Deliver, Missing, Confirm}
 use Rattle.desk_commands.specs.declared.command.Command.TheVariants.{Stock, Cargo}
-use Rattle.desk_commands.specs.Command.{command_text}
 use Rattle.desk_commands.specs.Day.{day_line}
-use Rattle.station_core.specs.declared.answer.Answer.{Answer}
-use Rattle.station_core.specs.declared.answer.Answer.TheVariants.{Done, Refused}
 use Rattle.telegrams.specs.declared.telegram.Content.TheVariants.{Fwb, Ffm, Fsu}
-use Rattle.station_core.specs.declared.input.Input.{Input}
-use Rattle.station_core.specs.declared.input.Input.TheVariants.{Keyed, Wire}
-use Rattle.station_core.specs.Texts.{refusal_text, reply_text}
-use Rattle.station_core.specs.Step.{State, opening, after_all, answers_of}
 
 -- Short forms.
 

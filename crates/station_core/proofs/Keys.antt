@@ -1,8 +1,6 @@
 -- The length of a key, and that it is ASCII.
 use Rattle.std.proofs.Common.{◌≡◌, ◌≤◌, ◌<◌, ℕ, Bool, true, false, ◌&&◌, nat_le, List, length, arith}
-use Rattle.std.proofs.lemmas.Bool.Decides.{nat_tests}
-use Rattle.std.specs.List.{list_all}
-use Rattle.std.specs.Str.{IsAscii}
+use Rattle.station_core.proofs.Common.{nat_tests, list_all, IsAscii}
 use Rattle.awb_number.specs.Ascii.{IsAscii-tested}
 use Rattle.station_core.specs.Key.{is_key, is_key_byte}
 

@@ -1,3 +1,4 @@
+pub mod Common
 pub mod Asked
 mod Examples
 mod Keys

@@ -1,6 +1,6 @@
 -- What the readers hand out in the worked rows, computed.
 use Rattle.std.proofs.Common.{◌≡◌, ℕ, false, Option, Some, None, List, [], ◌∷◌, length, refl}
-use Rattle.std.specs.Prelude.{codes, map}
+use Rattle.station_core.proofs.Common.{codes, map, opening, shed_rows, irregular_rows, book_rows, book_by, pending_messages, trail_by, waybill_of}
 use Rattle.std.specs.Fmt.{digits}
 use Rattle.jiff_core.specs.Calendar.{days_of_years, days_of_months, day_count, days_from_civil}
 use Rattle.shipment_machine.specs.Amount.{amount}
@@ -14,8 +14,6 @@ use Rattle.station_core.specs.declared.rows.TrailQuery.TheVariants as trail
 use Rattle.station_core.specs.declared.rows.Message.{Message}
 use Rattle.station_core.specs.declared.rows.Waybill.{Waybill}
 use Rattle.desk_commands.specs.Day.{day_line}
-use Rattle.station_core.specs.Step.{opening}
-use Rattle.station_core.specs.Readers.{shed_rows, irregular_rows, book_rows, book_by, pending_messages, trail_by, waybill_of}
 use Rattle.station_core.proofs.Examples.{fra, jfk, received, loaded, left, after, announced, counted, desk, at_time, lh_on, fsu}
 
 -- three pieces are missing

@@ -1,12 +1,6 @@
 -- A refusal changes nothing.
 use Rattle.std.proofs.Common.{◌≡◌, ℕ, true, false, Option, Some, None, Result, Ok, Err, refl}
-use Rattle.std.specs.Bool.{if◌then◌else◌}
-use Rattle.station_days.specs.Date.{LocalMinute}
-use Rattle.shipment_machine.specs.declared.plans.Refusal.{Refusal}
-use Rattle.station_core.specs.declared.answer.Answer.{Answer}
-use Rattle.station_core.specs.declared.answer.Answer.TheVariants.{Refused}
-use Rattle.station_core.specs.declared.input.Input.{Input}
-use Rattle.station_core.specs.Step.{State, stepped, accepted, refused, Acted, acted, with_notices, has_room, kept_with, first_time, answered, repeated, step}
+use Rattle.station_core.proofs.Common.{if◌then◌else◌, LocalMinute, Refusal, Answer, Refused, Input, State, stepped, accepted, refused, Acted, acted, with_notices, has_room, kept_with, first_time, answered, repeated, step}
 
 refused_first : (s : State) (i : Input) (a : Result Acted Refusal) (r : Refusal) → (first_time s i a).answer ≡ Refused r → (first_time s i a).state ≡ s
 refused_first s i (Err e) r h = refl

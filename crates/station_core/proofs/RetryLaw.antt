@@ -1,20 +1,8 @@
 -- Retries act once: the law over every list of events.
 use Rattle.std.proofs.Common.{◌≡◌, ℕ, Bool, true, false, ◌&&◌, ◌||◌, ◌==◌, ◌⊎◌, inl, inr, Option, Some, None, is_none, is_some, Result, Ok, Err, List, [], ◌∷◌, ◌++◌, refl, sym, ap, subst, ◌∙◌, arith, true≢false}
-use Rattle.std.specs.Prelude.{IsTrue}
-use Rattle.std.specs.Bool.{if◌then◌else◌}
-use Rattle.std.specs.List.{AllByRecursion, list_any}
-use Rattle.std.proofs.lemmas.Bool.Decides.{nat_tests}
-use Rattle.std.specs.Str.{bytes_eq}
-use Rattle.station_days.specs.Date.{LocalMinute}
+use Rattle.station_core.proofs.Common.{IsTrue, if◌then◌else◌, AllByRecursion, list_any, nat_tests, bytes_eq, LocalMinute, Refusal, command_text, Answer, Done, Refused, Input, Keyed, Wire, State, Stepped, stepped, accepted, refused, opening, repeated, key_answer, text_answer, Acted, acted, with_notices, has_room, kept_with, first_time, answered, step, after_all, answers_of}
 use Rattle.shipment_machine.specs.Cargo.{Cargo}
-use Rattle.shipment_machine.specs.declared.plans.Refusal.{Refusal}
-use Rattle.desk_commands.specs.Command.{command_text}
-use Rattle.station_core.specs.declared.answer.Answer.{Answer}
-use Rattle.station_core.specs.declared.answer.Answer.TheVariants.{Done, Refused}
 use Rattle.station_core.specs.declared.answer.Reply.{Reply}
-use Rattle.station_core.specs.declared.input.Input.{Input}
-use Rattle.station_core.specs.declared.input.Input.TheVariants.{Keyed, Wire}
-use Rattle.station_core.specs.Step.{State, Stepped, stepped, accepted, refused, opening, repeated, key_answer, text_answer, Acted, acted, with_notices, has_room, kept_with, first_time, answered, step, after_all, answers_of}
 use Rattle.station_core.specs.Retries.{RetryEvent, sent as sending, cut_before, cut_after, reopened, World, after_events, is_done, IfDone, commits, committed, same_identity, same_request, EachOnce, StandsIn, started, ActsOnce}
 
 -- Texts.

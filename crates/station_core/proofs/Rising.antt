@@ -1,8 +1,7 @@
 -- Two lists of rows whose keys strictly rise are equal, where each look-up finds the same in both. A
 -- look-up in those of them that pass a test finds what passes.
 use Rattle.std.proofs.Common.{◌≡◌, ◌∙◌, ap, sym, refl, Bool, true, false, cond, Option, Some, None, List, [], ◌∷◌}
-use Rattle.std.specs.Prelude.{IsTrue, is_some, map}
-use Rattle.std.specs.List.{filter, find}
+use Rattle.station_core.proofs.Common.{IsTrue, is_some, map, filter, find}
 use Rattle.std.specs.FinMap.Entries.{is_sorted, below_all}
 use Rattle.std.specs.Option.{option_map, unwrap_or}
 use Rattle.std.specs.Ordering.{is_lt}

@@ -1,10 +1,7 @@
 -- A run of inputs from a new station keeps it lawful.
 use Rattle.std.proofs.Common.{ℕ, List, [], ◌∷◌}
-use Rattle.station_days.specs.Date.{LocalMinute}
+use Rattle.station_core.proofs.Common.{LocalMinute, Input, AreInputs, State, IsLawfulState, opening, step, after_all}
 use Rattle.shipment_machine.proofs.Opening.{opening_lawful}
-use Rattle.station_core.specs.declared.input.Input.{Input}
-use Rattle.station_core.specs.Ranges.{AreInputs}
-use Rattle.station_core.specs.Step.{State, IsLawfulState, opening, step, after_all}
 use Rattle.station_core.proofs.StepLaw.{step_lawful}
 
 stays_lawful : (inputs : List (Input × LocalMinute)) (s : State) → AreInputs inputs → IsLawfulState s → IsLawfulState (after_all s inputs)

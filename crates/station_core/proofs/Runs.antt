@@ -1,11 +1,7 @@
 -- Runs of inputs, one input longer.
 use Rattle.std.proofs.Common.{◌≡◌, Ok, Err, ℕ, ◌+◌, ◌<◌, List, [], ◌∷◌, ◌++◌, length, get_or, take, refl, sym, ◌∙◌, ap}
-use Rattle.std.proofs.lemmas.List.{take_more}
-use Rattle.station_days.specs.Date.{LocalMinute}
-use Rattle.station_core.specs.declared.input.Input.{Input}
-use Rattle.station_core.specs.declared.answer.Answer.{Answer}
+use Rattle.station_core.proofs.Common.{take_more, LocalMinute, Input, Answer, State, step, after_all, answers_of}
 use Rattle.station_core.specs.declared.answer.ActFault.{ActFault}
-use Rattle.station_core.specs.Step.{State, step, after_all, answers_of}
 
 -- what is answered is no fault
 pub never_both : {a : Answer} {e : ActFault} → Ok a ≡ Err e → ⊥

@@ -1,12 +1,7 @@
 -- A step leaves a lawful station lawful.
 use Rattle.std.proofs.Common.{◌≡◌, ℕ, ◌+◌, ◌≤◌, Bool, true, false, Option, Some, None, IsSome, IfSome, IfOk, Result, Ok, Err, List, [], ◌∷◌, ◌++◌, map, length, refl, arith}
-use Rattle.std.specs.Prelude.{⊤}
-use Rattle.std.specs.Bool.{if◌then◌else◌}
-use Rattle.std.specs.List.{AllByRecursion}
-use Rattle.std.specs.Str.{bytes_eq}
-use Rattle.std.proofs.lemmas.List.{length-append}
+use Rattle.station_core.proofs.Common.{⊤, if◌then◌else◌, AllByRecursion, bytes_eq, length-append, LocalMinute, Refusal, notice_text, IsDeskCommand, Answer, Input, Keyed, Wire, IsInput, IsContent, IsInboundLine, State, IsLawfulState, stepped, accepted, refused, Acted, stock_acted, cargo_acted, shipment_of, acted, sent, with_notices, has_room, keeping_text, kept_with, first_time, answered, repeated, step}
 use Rattle.std.proofs.lemmas.List.Elements.{All-from_recursion}
-use Rattle.station_days.specs.Date.{LocalMinute}
 use Rattle.agent_stock.specs.Stock.{Holders, covers, run_of, holder_after, order_refusal, after_order}
 use Rattle.agent_stock.specs.declared.stock.Holder.{Holder}
 use Rattle.agent_stock.specs.declared.stock.Holder.TheVariants.{Used}
@@ -23,22 +18,14 @@ use Rattle.shipment_machine.specs.declared.command.DeskCommand.TheVariants as de
 use Rattle.shipment_machine.specs.declared.command.ShipmentCommand.TheVariants as shipment
 use Rattle.shipment_machine.specs.declared.plans.Change.{Change}
 use Rattle.shipment_machine.specs.declared.plans.Change.TheVariants.{Declare, UseUp, NoteFlight, Expect, NotePart, Trail, Confirm}
-use Rattle.shipment_machine.specs.declared.plans.Refusal.{Refusal}
 use Rattle.shipment_machine.specs.Cargo.{Cargo, same_part, written, written_all}
 use Rattle.shipment_machine.specs.Effect.{Outcome, used_up, unless_refused, first_refusal, rule, effect, carried_out}
 use Rattle.shipment_machine.specs.Lawful.{IsLawful, IsLawfulMove, IsNoted, IsProper, HasPieces}
 use Rattle.shipment_machine.proofs.KeepsAll.{keeps_lawful}
-use Rattle.telegrams.specs.NoticeText.{notice_text}
 use Rattle.telegrams.specs.declared.telegram.Content.{Content}
 use Rattle.telegrams.specs.declared.telegram.Content.TheVariants as content
-use Rattle.desk_commands.specs.Command.{IsDeskCommand}
 use Rattle.desk_commands.specs.declared.command.Command.TheVariants as command
-use Rattle.station_core.specs.declared.answer.Answer.{Answer}
-use Rattle.station_core.specs.declared.input.Input.{Input}
-use Rattle.station_core.specs.declared.input.Input.TheVariants.{Keyed, Wire}
-use Rattle.station_core.specs.Ranges.{IsInput, IsContent, IsInboundLine}
 use Rattle.station_core.proofs.RetryLaw.{bytes_eq_refl}
-use Rattle.station_core.specs.Step.{State, IsLawfulState, stepped, accepted, refused, Acted, stock_acted, cargo_acted, shipment_of, acted, sent, with_notices, has_room, keeping_text, kept_with, first_time, answered, repeated, step}
 
 -- Another stock and another outbox leave the rest of a lawful cargo lawful.
 

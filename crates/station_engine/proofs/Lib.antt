@@ -1,4 +1,5 @@
 mod Numbering
 mod Reading
+pub mod Common
 pub mod Steps
 mod Walks

@@ -1,16 +1,10 @@
 -- Whether all rows can be numbered after a plan.
 use Rattle.std.proofs.Common.{◌≡◌, ℕ, suc, ◌+◌, Bool, List, [], ◌∷◌, ◌++◌, length, filter, refl, sym, ap, ◌∙◌, arith}
-use Rattle.std.specs.Prelude.{nat_le, ◌&&◌}
-use Rattle.std.proofs.lemmas.List.{length-append}
-use Rattle.shipment_machine.specs.Cargo.{Cargo, written, written_all}
+use Rattle.station_engine.proofs.Common.{nat_le, ◌&&◌, length-append, Cargo, written, written_all, outcome_of, carried_out, has_room, sent, sizes_of}
 use Rattle.shipment_machine.specs.declared.plans.Change.{Change}
 use Rattle.shipment_machine.specs.declared.plans.Change.TheVariants.{Declare, UseUp, NoteFlight, Expect, NotePart, Trail, Confirm}
 use Rattle.shipment_machine.specs.declared.plans.Plan.{Plan}
-use Rattle.shipment_machine.specs.Agreement.{outcome_of}
-use Rattle.shipment_machine.specs.Effect.{carried_out}
-use Rattle.station_core.specs.Step.{has_room, sent}
 use Rattle.station_engine.specs.Room.{is_line}
-use Rattle.station_core.specs.Told.{sizes_of}
 use Rattle.station_core.specs.declared.stored.Sizes.{Sizes}
 
 -- what the changes leave of the numbered rows

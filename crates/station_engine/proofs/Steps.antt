@@ -1,6 +1,6 @@
 -- What a step comes to.
 use Rattle.std.proofs.Common.{◌≡◌, ◌∙◌, ℕ, Bool, true, false, Option, Some, None, IfOk, Result, Ok, Err, List, [], ◌++◌, map, inl, inr, sym, ap, subst, append-nil}
-use Rattle.std.specs.Prelude.{◌⊎◌}
+use Rattle.station_engine.proofs.Common.{◌⊎◌, StaysLawful, outcome_of, Outcome, effect, carried_out, State, IsLawfulState, Stepped, stepped, accepted, refused, waybill_or_nothing, Acted, stock_acted, cargo_acted, shipment_of, acted, sent, with_notices, has_room, keeping_text, kept_with, first_time, answered, repeated, step, with_order, with_plan}
 use Rattle.std.specs.Bool.{if◌then◌else◌}
 use Rattle.station_days.specs.Date.{LocalMinute}
 use Rattle.agent_stock.specs.Stock.{run_of, order_refusal, after_order}
@@ -10,8 +10,6 @@ use Rattle.shipment_machine.specs.declared.command.ShipmentCommand.{ShipmentComm
 use Rattle.shipment_machine.specs.declared.command.ShipmentCommand.TheVariants as shipment
 use Rattle.shipment_machine.specs.declared.plans.Plan.{Plan}
 use Rattle.shipment_machine.specs.declared.plans.Refusal.{Refusal}
-use Rattle.shipment_machine.specs.Agreement.{StaysLawful, outcome_of}
-use Rattle.shipment_machine.specs.Effect.{Outcome, effect, carried_out}
 use Rattle.shipment_machine.specs.Lawful.{IsLawful}
 use Rattle.telegrams.specs.NoticeText.{notice_text}
 use Rattle.desk_commands.specs.declared.command.Command.TheVariants as command
@@ -20,10 +18,7 @@ use Rattle.station_core.specs.declared.answer.Answer.TheVariants.{Refused}
 use Rattle.station_core.specs.declared.input.Input.{Input}
 use Rattle.station_core.specs.declared.input.Input.TheVariants.{Keyed, Wire}
 use Rattle.station_core.proofs.StepLaw.{AreKept, Quiet, all_written_kept, desk_quiet, if_more, kept_now, ordered_lawful, same_parts, sent_lawful, texts_after}
-use Rattle.station_core.specs.Step.{State, IsLawfulState, Stepped, stepped, accepted, refused, waybill_or_nothing, Acted, stock_acted, cargo_acted, shipment_of, acted, sent, with_notices, has_room, keeping_text, kept_with, first_time, answered, repeated, step}
 use Rattle.station_engine.specs.Serving.{IfPlanned, IsAfter, IsEffect, IsNewTo, IsPlanned, Serves}
-use Rattle.station_core.specs.Told.{with_order}
-use Rattle.station_engine.specs.Written.{with_plan}
 
 -- A step, by what is known of its input.
 

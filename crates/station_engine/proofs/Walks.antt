@@ -1,10 +1,7 @@
 -- Rows that are written one after another.
 use Rattle.std.proofs.Common.{◌≡◌, ℕ, ◌+◌, ◌<◌, List, [], ◌∷◌, ◌++◌, length, take, refl, sym, ap, ◌∙◌, get_or}
-use Rattle.std.proofs.lemmas.List.{take_more}
-use Rattle.shipment_machine.specs.Cargo.{Cargo, written, written_all}
+use Rattle.station_engine.proofs.Common.{take_more, Cargo, written, written_all, State, with_changes}
 use Rattle.shipment_machine.specs.declared.plans.Change.{Change}
-use Rattle.station_core.specs.Step.{State}
-use Rattle.station_engine.specs.Written.{with_changes}
 
 written_then : (text : List ℕ) (xs : List Change) (x : Change) (c : Cargo) → written_all text (xs ++ x ∷ []) c ≡ written text x (written_all text xs c)
 written_then text [] x c = refl

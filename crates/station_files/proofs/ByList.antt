@@ -1,27 +1,10 @@
 -- What files hold by a list of their trees: found at an opening, left by a crash and by a close.
 use Rattle.std.proofs.Common.{◌≡◌, ◌≤◌, false, Bool, ℕ, List, Some, Option, refl, sym, subst, inl, inr, arith}
-use Rattle.std.proofs.lemmas.Bool.{cases_eq}
-use Rattle.std.proofs.Math.Logic.{∥∥₁_elim, ∥∥₁_map}
-use Rattle.sqlite_disk.specs.declared.Disk.{Ghosts}
-use Rattle.sqlite_disk.specs.declared.Files.{Files}
+use Rattle.station_files.proofs.Common.{cases_eq, ∥∥₁_elim, ∥∥₁_map, Ghosts, Files, bytes_of, size_in_file, Names, Image, IsIgnored, PageMap, reserved, stored_size, adopts_of, size_is_allowed, Trees, state, schema_in, reading, recovers, IsOurs, Wanted, FileStore, HoldsDatabase, AreDatabases, Held, HoldsByList, HoldsByListAlone, HoldsPages, IsCopiedByList, LeavesByList}
 use Rattle.sqlite_wal.specs.Format.{be32}
-use Rattle.sqlite_wal.specs.PageSize.{bytes_of, size_in_file, Names}
-use Rattle.sqlite_wal.specs.Recovery.{Image, IsIgnored}
 use Rattle.sqlite_wal.specs.declared.page_size.PageSize.{PageSize}
-use Rattle.sqlite_pages.specs.PageMap.{PageMap}
-use Rattle.sqlite_pool.specs.Stored.{reserved, stored_size}
 use Rattle.sqlite_pool.proofs.ProbeLemmas.{size_by_log, size_by_file}
-use Rattle.sqlite_pool.proofs.ResealLemmas.{adopts_of}
-use Rattle.sqlite_pool.proofs.StateLemmas.{size_is_allowed}
-use Rattle.sqlite_trees.specs.Tree.{Trees}
-use Rattle.sqlite_store.specs.FileStore.{state, schema_in, reading, recovers}
-use Rattle.sqlite_store.specs.Listing.{IsOurs}
-use Rattle.sqlite_store.specs.declared.catalog.Wanted.{Wanted}
-use Rattle.sqlite_store.specs.declared.store.FileStore.{FileStore}
-use Rattle.sqlite.specs.Files.{HoldsDatabase}
 use Rattle.sqlite.specs.Closing.{HoldsAlone, IsCopied}
-use Rattle.sqlite.specs.Held.{AreDatabases, Held}
-use Rattle.station_files.specs.ByList.{HoldsByList, HoldsByListAlone, HoldsPages, IsCopiedByList, LeavesByList}
 
 pub in_any_order : {size : ℕ} {is_numbered : Bool} {wanted : List Wanted} {pages : PageMap} → IsOurs size is_numbered wanted pages → IsOurs size false wanted pages
 in_any_order ours = record { file = ours.file; numbered = λ never. absurd (cc) }

@@ -1,23 +1,11 @@
 -- From the end of a connection to the next opening.
 use Rattle.std.proofs.Common.{◌≡◌, ◌∙◌, IsTrue, IfErr, List, length, map, take, Result, Ok, Err, inl, inr, arith, ap, subst, sym}
-use Rattle.std.proofs.Math.Logic.{∥∥₁_map}
+use Rattle.station_files.proofs.Common.{∥∥₁_map, file_state, image_of, over_files, Held, Ghosts, Files, recovers, view, FileStore, Trees, Object, catalog_tree, wanted_of, catalog_rows, HoldsOwn, IsListedBy, ListsStation}
 use Rattle.std.proofs.Math.Seq.{take-length}
 use Rattle.sqlite.proofs.Theorems.{next_run}
-use Rattle.sqlite.specs.Files.{file_state, image_of, over_files}
-use Rattle.sqlite.specs.Held.{state, Held}
-use Rattle.sqlite_disk.specs.declared.Disk.{Ghosts}
-use Rattle.sqlite_disk.specs.declared.Files.{Files}
-use Rattle.sqlite_store.specs.FileStore.{recovers, view}
-use Rattle.sqlite_store.specs.declared.store.FileStore.{FileStore}
-use Rattle.sqlite_trees.specs.Tree.{Trees}
-use Rattle.sqlite_trees.specs.declared.schema.Object.{Object}
+use Rattle.sqlite.specs.Held.{state}
 use Rattle.sqlite_trees.specs.declared.store.Store as trees
-use Rattle.sqlite_trees.specs.Objects.{catalog_tree}
-use Rattle.sqlite_store.specs.Catalog.{wanted_of}
-use Rattle.sqlite_store.specs.Listed.{catalog_rows}
 use Rattle.station_files.specs.Backing.{own_files, whole_files, HasEnded, LeadsOn, LeavesKnown}
-use Rattle.station_files.specs.ByList.{HoldsOwn, IsListedBy}
-use Rattle.station_files.specs.StationTrees.{ListsStation}
 use Rattle.station_files.proofs.OwnFiles.{leaves_own}
 
 -- files that are shown whole

@@ -1,36 +1,21 @@
 -- No two entries of sqlite_schema have one name, so all lists of a file's trees say the same of a
 -- tree with a name.
 use Rattle.std.proofs.Common.{◌≡◌, ◌≢◌, ◌⊎◌, ◌<◌, ℕ, ◌+◌, suc, pos, true, false, None, Some, List, [], ◌∷◌, ◌++◌, map, find, get_or, is_eq, nat_cmp, not, ◌&&◌, unwrap_or, refl, sym, ap, subst, ◌∙◌, inl, inr, arith, ne_eqb}
-use Rattle.std.proofs.lemmas.Bool.{cases_Bool, cases_eq, and_parts}
+use Rattle.station_files.proofs.Common.{cases_Bool, cases_eq, and_parts, list_any, PageMap, header_in, trunks_of, unlocked, IsSoundFile, has_left, has_right, some_from, Has, is_present, same_value, shape_at, rows_at, IsFile, is_listed, listed_from, Wanted, catalog_tree, number_in, row_for, shape_code, version_tree, has_rowid, Shape, Absent, Table, Index, Pageless, FrozenTable, FrozenIndex, value_cmp-apart, value_cmp-Text, Row, bytes, class, column, Value, Null, Int, Real, Text, Blob}
 use Rattle.std.proofs.lemmas.Map.Text.{is_eq-slice_cmp}
 use Rattle.std.proofs.lemmas.Slice.Eq.{bytes_eq-Decides}
 use Rattle.std.specs.Char.{to_ascii_lowercase}
-use Rattle.std.specs.List.{list_any}
 use Rattle.sqlite_btree.proofs.StoredLemmas.{stored_root_live}
 use Rattle.sqlite_btree.specs.Chain.{Layout}
-use Rattle.sqlite_pages.specs.PageMap.{PageMap}
 use Rattle.sqlite_pool.proofs.FileLemmas.{unlocked_lock, unlocked_other}
 use Rattle.sqlite_pool.proofs.FreeLemmas.{live_listed, live_unlisted}
 use Rattle.sqlite_pool.proofs.PoolLemmas.{none_of}
-use Rattle.sqlite_pool.specs.File.{header_in, in_use, trunks_of, unlocked, IsSoundFile}
+use Rattle.sqlite_pool.specs.File.{in_use}
 use Rattle.sqlite_pool.specs.FreeList.{times_free}
 use Rattle.sqlite_pool.specs.Header.{lock_page}
-use Rattle.sqlite_rules.proofs.ListLemmas.{has_left, has_right, some_from}
-use Rattle.sqlite_rules.specs.Lists.{Has}
-use Rattle.sqlite_store.specs.Catalog.{is_present, same_value, shape_at}
-use Rattle.sqlite_store.specs.Db.{roots_of, rows_at, IsFile, IsKept}
-use Rattle.sqlite_store.specs.Listed.{is_listed}
-use Rattle.sqlite_store.specs.Listing.{all_shapes, listed_from}
-use Rattle.sqlite_store.specs.declared.catalog.Wanted.{Wanted}
-use Rattle.sqlite_trees.specs.Objects.{catalog_tree, number_in, row_for, shape_code, version_tree}
+use Rattle.sqlite_store.specs.Db.{roots_of, IsKept}
+use Rattle.sqlite_store.specs.Listing.{all_shapes}
 use Rattle.sqlite_trees.specs.Sound.{are_in_order, head_at, may_follow, same_name, Head}
-use Rattle.sqlite_trees.specs.Tree.{has_rowid}
-use Rattle.sqlite_trees.specs.declared.store.Shape.{Shape}
-use Rattle.sqlite_trees.specs.declared.store.Shape.TheVariants.{Absent, Table, Index, Pageless, FrozenTable, FrozenIndex}
-use Rattle.sqlite_value.proofs.OrderLemmas.{value_cmp-apart, value_cmp-Text}
-use Rattle.sqlite_value.specs.Order.{Row, bytes, class, column}
-use Rattle.sqlite_value.specs.declared.value.Value.{Value}
-use Rattle.sqlite_value.specs.declared.value.Value.TheVariants.{Null, Int, Real, Text, Blob}
 use Rattle.station_files.proofs.SameReading.{root_at, root_by}
 
 -- a value that SQLite holds equal to a text or to NULL is the same

@@ -13,3 +13,4 @@ mod SameReading
 mod StationRows
 mod StationTrees
 mod Unstarted
+pub mod Common

@@ -1,49 +1,21 @@
 -- The rows of sqlite_schema list one schema, whoever reads them; so files hold one database.
 use Rattle.std.proofs.Common.{◌≡◌, true, ◌-◌, ◌<◌, ◌∷◌, ℕ, List, [], Bool, map, length, suc, pos, get_or, refl, sym, ap, ap₂, subst, ◌∙◌, inl, inr, arith}
-use Rattle.sqlite_value.specs.declared.value.Value.TheVariants.{Int}
-use Rattle.sqlite_value.specs.declared.value.Value.{Value}
-use Rattle.sqlite_value.specs.Order.{Row, column, bytes}
+use Rattle.station_files.proofs.Common.{Int, Value, Row, column, bytes, ∥∥₁_elim, Ghosts, Files, Recovers, plain_adopts, IsSound, FileStore, state, view, IsOurs, image_of, HoldsDatabase, wanted_of, Object, PageMap, version_in, recovers_once, Image, all_has, unordered, Trees, View, number_in, shape_code, with_version, Shape, Table, Wanted, rows_at, file_trees, listed_from, meets, unsorted_code, unsorted_plain}
 use Rattle.sqlite_value.specs.contracts.row.Row as row
 use Rattle.std.specs.Coded.{coded_list}
-use Rattle.std.proofs.Math.Logic.{∥∥₁_elim}
 use base.Stored.{Coded-set}
-use Rattle.sqlite_disk.specs.declared.Disk.{Ghosts}
-use Rattle.sqlite_disk.specs.declared.Files.{Files}
-use Rattle.sqlite_pool.specs.Stored.{Recovers}
-use Rattle.sqlite_pool.proofs.ResealLemmas.{plain_adopts}
-use Rattle.sqlite_catalog.specs.Listing.{IsSound}
-use Rattle.sqlite_store.specs.declared.store.FileStore.{FileStore}
-use Rattle.sqlite_store.specs.FileStore.{state, view}
-use Rattle.sqlite_store.specs.Listing.{IsOurs}
-use Rattle.sqlite.specs.Files.{image_of, HoldsDatabase}
-use Rattle.sqlite_store.specs.Catalog.{wanted_of}
-use Rattle.sqlite_trees.specs.declared.schema.Object.{Object}
 use Rattle.station_files.specs.Listed.{IsReadByList}
 use Rattle.station_files.proofs.ByList.{pages_of}
-use Rattle.sqlite_pages.specs.PageMap.{PageMap}
-use Rattle.sqlite_pool.specs.File.{in_use, version_in}
-use Rattle.sqlite_pool.specs.StoredLaws.{recovers_once}
-use Rattle.sqlite_wal.specs.Recovery.{Image}
-use Rattle.sqlite_rules.proofs.ListLemmas.{all_has}
+use Rattle.sqlite_pool.specs.File.{in_use}
 use Rattle.sqlite_schema.specs.declared.schema.Schema.{Schema}
 use Rattle.sqlite_schema.specs.declared.schema.Table.{Table as TableOf}
 use Rattle.sqlite_schema.specs.Rules.{table_reals, index_reals}
-use Rattle.sqlite_catalog.specs.Listing.{unordered}
 use Rattle.sqlite_catalog.specs.Reading.{AreRead, coded_by, IsTableShaped, IsIndexShaped, IsViewShaped}
 use Rattle.sqlite_catalog.proofs.ReadLemmas.{read_once}
-use Rattle.sqlite_trees.specs.Tree.{Trees}
-use Rattle.sqlite_trees.specs.View.{View}
-use Rattle.sqlite_trees.specs.Objects.{number_in, shape_code, with_version}
-use Rattle.sqlite_trees.specs.declared.store.Shape.{Shape}
-use Rattle.sqlite_trees.specs.declared.store.Shape.TheVariants.{Table}
-use Rattle.sqlite_store.specs.declared.catalog.Wanted.{Wanted}
-use Rattle.sqlite_store.specs.Db.{rows_at}
 use Rattle.sqlite_store.specs.Joined.{joined}
-use Rattle.sqlite_store.specs.Listing.{file_trees, listed_from}
 use Rattle.sqlite_store.specs.Roots.{has_index_root}
 use Rattle.sqlite_store.proofs.AlikeLemmas.{same_file}
 use Rattle.sqlite.specs.Opening.{unrooted, unsorted, layout_at, layout_of, shape_of, Suits, HasTree, Knows, Meets, HoldsAt, HoldsIn}
-use Rattle.sqlite.proofs.OpenLemmas.{meets, unsorted_code, unsorted_plain}
 
 abbrev byte_of : ℕ → Value → ℕ
 byte_of at word = get_or (bytes word) at 0

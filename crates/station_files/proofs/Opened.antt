@@ -1,20 +1,8 @@
 -- Files that are opened behind a call that read them.
 use Rattle.std.proofs.Common.{◌≡◌, ◌≢◌, ◌%◌, ◌∙◌, IsTrue, List, false, ap, sym, subst, subst₂, inl, inr, arith}
-use Rattle.sqlite_disk.specs.declared.Disk.{Ghosts}
-use Rattle.sqlite_disk.specs.declared.Files.{Files}
-use Rattle.sqlite_pages.specs.PageMap.{PageMap}
-use Rattle.sqlite_pool.proofs.ResealLemmas.{adopts_of, plain_adopts}
-use Rattle.sqlite_pool.specs.Stored.{stored_size, IsUnreadable, Recovers, RecoversAs}
-use Rattle.sqlite_pool.specs.StoredLaws.{carried, readable, RecoversAs-from}
-use Rattle.sqlite_store.proofs.StoreLemmas.{pair}
-use Rattle.sqlite_store.specs.Unopened.{image, state_of, Opens}
+use Rattle.station_files.proofs.Common.{Ghosts, Files, PageMap, adopts_of, plain_adopts, stored_size, IsUnreadable, Recovers, RecoversAs, carried, readable, RecoversAs-from, pair, image, state_of, Opens, Object, bytes_of, Image, stays_something, stored_used, image_of, BeginsWell, IsKept}
 use Rattle.sqlite_store.specs.declared.store.open.Unopened.{Unopened}
-use Rattle.sqlite_trees.specs.declared.schema.Object.{Object}
-use Rattle.sqlite_wal.specs.PageSize.{bytes_of}
-use Rattle.sqlite_wal.specs.Recovery.{Image}
 use Rattle.sqlite_wal.specs.State.{State}
-use Rattle.sqlite.proofs.FileLemmas.{stays_something, stored_used}
-use Rattle.sqlite.specs.Files.{image_of, BeginsWell, IsKept}
 use Rattle.station_files.specs.Listed.{IsUnopened}
 
 module _ {D : Type 0} {g : Ghosts D} (old mid : Unopened D g) (new : State) (pages : PageMap) where

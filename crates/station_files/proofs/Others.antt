@@ -1,19 +1,10 @@
 -- Each call of a store leaves the trees of other programs as they were.
 use Rattle.std.proofs.Common.{◌≡◌, unwrap_or, ◌≢◌, ◌<◌, ◌-◌, ℕ, false, List, [], ◌∷◌, length, take, Option, Result, Ok, Err, IfErr, OnOk, IsTrue, refl, sym, ap, subst, ◌∙◌, inl, inr, arith, slice_index, slice_index_or}
-use Rattle.std.proofs.lemmas.Result.{on_ok_weaker}
+use Rattle.station_files.proofs.Common.{on_ok_weaker, Has, has_at, has_either, has_front, Row, catalog_tree, row_for, version_tree, object_row, Creates, Trees, put_row, with_tree, Snapshot, View, newest, snapshot, GoesBack, IsClean, IsFailure, IsQuiet, Marks, Releases, SetsTree, Object, Shape, AreApart}
 use Rattle.std.proofs.lemmas.List.{get_or_default, take-append-drop}
-use Rattle.sqlite_rules.specs.Lists.{Has}
-use Rattle.sqlite_rules.proofs.ListLemmas.{has_at, has_either, has_front}
-use Rattle.sqlite_value.specs.Order.{Row}
-use Rattle.sqlite_trees.specs.Objects.{catalog_tree, row_for, version_tree, object_row, Creates}
-use Rattle.sqlite_trees.specs.Tree.{Trees, put_row, with_tree}
-use Rattle.sqlite_trees.specs.View.{Snapshot, View, newest, snapshot, GoesBack, IsClean, IsFailure, IsQuiet, Marks, Releases, SetsTree}
 use Rattle.sqlite_trees.specs.declared.error.StoreError.{StoreError}
-use Rattle.sqlite_trees.specs.declared.schema.Object.{Object}
-use Rattle.sqlite_trees.specs.declared.store.Shape.{Shape}
 use Rattle.sqlite_trees.specs.declared.store.Store.{Ghosts}
 use Rattle.station_files.specs.Others.{AreCalls, MayShow, SameOthers, Shows, SparesOthers}
-use Rattle.station_files.specs.Own.{AreApart}
 use Rattle.station_files.proofs.Owning.{last, other_found, with_other}
 
 pub same_others : (numbers : List ℕ) (db : Trees) → SameOthers numbers db db

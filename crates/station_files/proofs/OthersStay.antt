@@ -1,22 +1,11 @@
 -- Calls of a store leave the trees of other programs in its files as they were.
 use Rattle.std.proofs.Common.{◌≡◌, ◌∙◌, List, ℕ, Option, inl, inr, refl, sym, ap, subst, arith}
-use Rattle.std.proofs.Math.Logic.{∥∥₁_elim, ∥∥₁_map}
-use Rattle.sqlite_disk.specs.declared.Disk.{Ghosts}
-use Rattle.sqlite_disk.specs.declared.Files.{Files}
-use Rattle.sqlite_rules.specs.Lists.{Has}
+use Rattle.station_files.proofs.Common.{∥∥₁_elim, ∥∥₁_map, Ghosts, Files, Has, adopts_of, Trees, Snapshot, reading, recovers, schema_in, state, view, settled_at, FileStore, over_files, IsReadByTheirs}
 use Rattle.sqlite_wal.proofs.LogLemmas.{SeenMayStay}
-use Rattle.sqlite_pool.proofs.ResealLemmas.{adopts_of}
-use Rattle.sqlite_trees.specs.Tree.{Trees}
-use Rattle.sqlite_trees.specs.View.{Snapshot}
 use Rattle.sqlite_trees.specs.declared.store.Store as trees
-use Rattle.sqlite_store.specs.FileStore.{reading, recovers, schema_in, state, view}
-use Rattle.sqlite_store.specs.Laws.{settled_at}
-use Rattle.sqlite_store.specs.declared.store.FileStore.{FileStore}
-use Rattle.sqlite.specs.Files.{over_files}
 use Rattle.station_files.specs.declared.own_trees.OwnTrees.{OwnTrees}
 use Rattle.station_files.specs.Others.{MayShow, SparesOthers}
 use Rattle.station_files.specs.OthersStay.{CallsSpareOthers}
-use Rattle.station_files.specs.OwnFiles.{IsReadByTheirs}
 use Rattle.station_files.proofs.ByList.{in_any_order}
 use Rattle.station_files.proofs.Others.{calls_spare}
 

@@ -3,44 +3,16 @@ use Rattle.std.proofs.Common.{◌≡◌, ◌≢◌, ◌<◌, ◌%◌, ℕ, List,
 use Rattle.std.specs.Coded.{coded_list}
 use base.Stored.{Coded-set}
 use Rattle.sqlite_value.specs.contracts.row.Row as row
-use Rattle.sqlite_catalog.specs.Listing.{Lists}
-use Rattle.sqlite_disk.specs.declared.Disk.{Ghosts}
-use Rattle.sqlite_disk.specs.declared.Files.{Files}
-use Rattle.std.proofs.Math.Logic.{∥∥₁_elim, ∥∥₁_map}
-use Rattle.sqlite_wal.specs.Recovery.{Image}
+use Rattle.station_files.proofs.Common.{Lists, Ghosts, Files, ∥∥₁_elim, ∥∥₁_map, Image, PageMap, Adopts, Recovers, recovers_once, adopts_of, plain_adopts, size_is_allowed, settled, file_alone, catalog_tree, Trees, Object, wanted_of, IsFile, log_frames, reading, schema_in, state, view, stays_at, kept_schema, AreDatabases, catalog_rows, file_trees, listed_from, read_by, FileStore, image_of, station_schema, AreBeside, HoldsByList, HoldsOwn, HoldsPages, IsListedBy, own_trees, rows_from, may_leave_own, FindsOwn, HoldsOwnAlone, IsReadByTheirs, LeavesOwn, ListsStation}
 use Rattle.sqlite_wal.proofs.LogLemmas.{SeenMayStay}
 use Rattle.sqlite_wal.proofs.StateLemmas.{clean_of}
-use Rattle.sqlite_pages.specs.PageMap.{PageMap}
-use Rattle.sqlite_pool.specs.Stored.{Adopts, Recovers}
-use Rattle.sqlite_pool.specs.StoredLaws.{recovers_once}
-use Rattle.sqlite_pool.proofs.ResealLemmas.{adopts_of, plain_adopts}
-use Rattle.sqlite_pool.proofs.StateLemmas.{size_is_allowed, settled, file_alone}
-use Rattle.sqlite_trees.specs.Objects.{catalog_tree}
-use Rattle.sqlite_trees.specs.Tree.{Trees}
-use Rattle.sqlite_trees.specs.declared.schema.Object.{Object}
-use Rattle.sqlite_store.specs.Catalog.{wanted_of}
-use Rattle.sqlite_store.specs.Db.{IsFile}
-use Rattle.sqlite_store.specs.FileStore.{log_frames, reading, schema_in, state, view}
-use Rattle.sqlite_store.specs.Laws.{stays_at}
-use Rattle.sqlite_store.specs.Saved.{kept_schema}
-use Rattle.sqlite.specs.Held.{AreDatabases}
 use Rattle.std.proofs.Common.{IsTrue}
-use Rattle.sqlite_store.specs.Listed.{catalog_rows}
-use Rattle.sqlite_store.specs.Listing.{file_trees, listed_from, read_by}
-use Rattle.sqlite_store.specs.declared.store.FileStore.{FileStore}
-use Rattle.sqlite.specs.Files.{image_of}
 use Rattle.sqlite.specs.State.{State}
 use Rattle.station_schema.specs.Own.{IsOwn}
-use Rattle.station_schema.specs.Schema.{station_schema}
-use Rattle.station_files.specs.Beside.{AreBeside}
-use Rattle.station_files.specs.ByList.{HoldsByList, HoldsOwn, HoldsPages, IsListedBy}
-use Rattle.station_files.specs.Own.{own_trees, rows_from}
-use Rattle.station_files.specs.OwnFiles.{may_leave_own, FindsOwn, HoldsOwnAlone, IsReadByTheirs, LeavesOwn}
 use Rattle.station_files.proofs.ByList.{in_any_order}
 use Rattle.station_files.proofs.OwnReading.{own_reading}
 use Rattle.station_files.proofs.SameReading.{same_reading}
 use Rattle.station_files.proofs.StationTrees.{same_rows}
-use Rattle.station_files.specs.StationTrees.{ListsStation}
 
 -- what files with these pages hold by this list, all of it or some of its trees, is what the
 -- pages read as by it

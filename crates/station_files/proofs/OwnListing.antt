@@ -1,18 +1,6 @@
 -- Rows that list the trees that are asked for, one place at a time.
 use Rattle.std.proofs.Common.{◌≡◌, ◌<◌, ◌-◌, ◌+◌, ℕ, ℤ, zero, suc, pos, Bool, true, false, cond, ◌&&◌, List, [], ◌∷◌, ◌++◌, length, map, take, find, get_or, slice_get, ltb, ltb-true, ltb-false, option_map, Option, None, Some, unwrap_or, refl, sym, ap, ap₂, ◌∙◌, inl, inr, arith}
-use Rattle.std.proofs.lemmas.Bool.{cases_Bool}
-use Rattle.std.specs.List.{list_all}
-use Rattle.sqlite_value.specs.declared.value.Value.TheVariants.{Int}
-use Rattle.sqlite_value.specs.Order.{Row, column}
-use Rattle.sqlite_trees.specs.Objects.{listing, number_in, shape_code, IsListed}
-use Rattle.sqlite_trees.specs.Tree.{has_rowid}
-use Rattle.sqlite_trees.specs.declared.schema.Object.{Object}
-use Rattle.sqlite_trees.specs.declared.store.Shape.{Shape}
-use Rattle.sqlite_trees.specs.declared.store.Shape.TheVariants.{Absent, Table, Index, Pageless, FrozenTable, FrozenIndex}
-use Rattle.sqlite_store.specs.Catalog.{is_present, wanted_of}
-use Rattle.sqlite_store.specs.Listing.{listed, listed_from}
-use Rattle.station_files.specs.Beside.{is_known}
-use Rattle.station_files.specs.Own.{rows_from, shown_row}
+use Rattle.station_files.proofs.Common.{cases_Bool, list_all, Int, Row, column, listing, number_in, shape_code, IsListed, has_rowid, Object, Shape, Absent, Table, Index, Pageless, FrozenTable, FrozenIndex, is_present, wanted_of, listed, listed_from, is_known, rows_from, shown_row}
 
 -- the first five columns have the rowid
 pub find_taken : (id : ℤ) (rows : List Row) → find (has_rowid id) (map (take 5) rows) ≡ option_map (take 5) (find (has_rowid id) rows)

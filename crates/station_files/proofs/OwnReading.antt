@@ -1,20 +1,10 @@
 -- The trees with some numbers are read as the list of them alone reads them.
 use Rattle.std.proofs.Common.{◌≡◌, ◌≢◌, ◌<◌, ◌≤◌, ◌+◌, ℕ, pos, find, List, [], length, get_or, option_map, Option, None, Some, unwrap_or, refl, sym, ap, ◌∙◌, inl, inr, arith, ltb, eq-eqb, ne_eqb, ltb-true, ltb-false}
-use Rattle.std.proofs.Math.Path.{fun_ext}
-use Rattle.std.proofs.lemmas.Bool.{cases_eq, cases_Bool}
-use Rattle.sqlite_value.specs.Order.{Row, column}
-use Rattle.sqlite_trees.specs.Objects.{catalog_tree, version_tree, number_in, row_for, shape_code}
+use Rattle.station_files.proofs.Common.{fun_ext, cases_eq, cases_Bool, Row, column, catalog_tree, version_tree, number_in, row_for, shape_code, has_rowid, Absent, PageMap, Wanted, reals_at, shape_at, is_listed, file_trees, listed_from, reals_if_present, own_trees, renumbered, rows_from}
 use Rattle.sqlite_trees.specs.Listing.{same_code}
-use Rattle.sqlite_trees.specs.Tree.{has_rowid}
-use Rattle.sqlite_trees.specs.declared.store.Shape.TheVariants.{Absent}
-use Rattle.sqlite_pages.specs.PageMap.{PageMap}
 use Rattle.sqlite_pool.specs.File.{in_use}
-use Rattle.sqlite_store.specs.declared.catalog.Wanted.{Wanted}
-use Rattle.sqlite_store.specs.Catalog.{reals_at, shape_at}
 use Rattle.sqlite_store.specs.Db.{trees_in}
-use Rattle.sqlite_store.specs.Listed.{is_listed}
-use Rattle.sqlite_store.specs.Listing.{all_reals, all_shapes, all_trees, file_trees, listed_from, reals_if_present}
-use Rattle.station_files.specs.Own.{own_trees, renumbered, rows_from}
+use Rattle.sqlite_store.specs.Listing.{all_reals, all_shapes, all_trees}
 use Rattle.station_files.specs.OwnRows.{found_own, found_none}
 use Rattle.station_files.proofs.SameReading.{root_of_row, same_trees}
 

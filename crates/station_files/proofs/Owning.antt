@@ -1,25 +1,12 @@
 -- What a call does to the trees that are shown is what it does inside.
 use Rattle.std.proofs.Common.{◌≡◌, ◌≢◌, ◌<◌, ◌≤◌, ◌-◌, ◌+◌, if◌then◌else◌, ℕ, pos, ◌++◌, List, [], ◌∷◌, length, map, suc, zero, Bool, true, false, Option, Some, None, Result, Ok, Err, IfErr, OnOk, find, get_or, option_map, Ordering, Less, Equal, Greater, is_eq, refl, sym, ap, ap₂, subst, ◌∙◌, inl, inr, arith, ltb, ne_eqb, eq-eqb, ltb-true, ltb-false, slice_index, slice_index_or, take, drop, add-one, append_assoc, append-nil, subst₂, IsTrue}
-use Rattle.std.proofs.Math.Path.{fun_ext}
+use Rattle.station_files.proofs.Common.{fun_ext, cases_eq, cases_Bool, AllByRecursion, Int, Text, Row, column, value_cmp, value_cmp-Int, value_cmp_total, catalog_tree, version_tree, version_rows, object_row, set_at, Creates, IsListed, Trees, rowid, has_rowid, with_tree, put_row, Snapshot, View, doubt, newest, snapshot, Commits, GoesBack, IsClean, IsFailure, IsRolledBack, KeepsCommitted, Marks, Releases, SetsTree, Object, Shape, Absent, Table, own_reals, own_shapes, own_snapshot, own_trees, own_view, reals_by, renumbered, rows_from, shapes_by, shown_row, AreApart, AreLaidOut, IsNumberOf, IsShown, Layout}
 use Rattle.std.proofs.Math.Seq.{drop-cons}
-use Rattle.std.proofs.lemmas.Bool.{cases_eq, cases_Bool}
 use Rattle.std.proofs.lemmas.Bool.Decides.{nat_tests}
 use Rattle.std.proofs.lemmas.Int.{ints}
 use Rattle.std.proofs.lemmas.List.{length-map, map-append, take-map}
-use Rattle.std.specs.List.{AllByRecursion}
 use Rattle.std.specs.Ordering.{match_ordering}
-use Rattle.sqlite_value.specs.declared.value.Value.TheVariants.{Int, Text}
-use Rattle.sqlite_value.specs.Order.{Row, column, value_cmp}
-use Rattle.sqlite_value.proofs.OrderLemmas.{value_cmp-Int, value_cmp_total}
-use Rattle.sqlite_trees.specs.Objects.{catalog_tree, version_tree, version_rows, object_row, set_at, Creates, IsListed}
-use Rattle.sqlite_trees.specs.Tree.{Trees, rowid, has_rowid, with_tree, put_row}
-use Rattle.sqlite_trees.specs.View.{Snapshot, View, doubt, newest, snapshot, Commits, GoesBack, IsClean, IsFailure, IsRolledBack, KeepsCommitted, Marks, Releases, SetsTree}
 use Rattle.sqlite_trees.specs.declared.error.StoreError.{StoreError}
-use Rattle.sqlite_trees.specs.declared.schema.Object.{Object}
-use Rattle.sqlite_trees.specs.declared.store.Shape.{Shape}
-use Rattle.sqlite_trees.specs.declared.store.Shape.TheVariants.{Absent, Table}
-use Rattle.station_files.specs.Own.{own_reals, own_shapes, own_snapshot, own_trees, own_view, reals_by, renumbered, rows_from, shapes_by, shown_row, AreApart, AreLaidOut, IsNumberOf, IsShown}
-use Rattle.station_files.specs.declared.layout.Layout.{Layout}
 use Rattle.station_files.specs.OwnLaws.{all_past, id_below, kind_of, own_at, own_past, own_values, value_at, value_past, GoBack, IsPast}
 
 id_same : (a : ℕ) → value_cmp (Int (pos a)) (Int (pos a)) ≡ Equal

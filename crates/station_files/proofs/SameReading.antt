@@ -1,20 +1,10 @@
 -- Two lists with the same rows read the same pages alike, whatever the order of trees in the pages.
 use Rattle.std.proofs.Common.{◌≡◌, ℕ, zero, suc, ◌+◌, true, cond, ◌&&◌, List, [], ◌∷◌, ◌++◌, map, pos, get_or, refl, sym, ap, ◌∙◌, inl, inr, arith, eq-eqb, ne_eqb, lt-ltb, le-ltb}
-use Rattle.std.proofs.lemmas.Bool.{cases_eq}
-use Rattle.std.proofs.Math.Path.{fun_ext}
-use Rattle.sqlite_pages.specs.PageMap.{PageMap}
+use Rattle.station_files.proofs.Common.{cases_eq, fun_ext, PageMap, Value, Row, column, value_cmp-Int, Shape, Absent, Table, Index, Pageless, FrozenTable, FrozenIndex, catalog_tree, version_tree, row_for, Wanted, is_present, page_number, reals_at, root_in, same_value, shape_at, rows_at, shown, thawed, same_listing, file_trees, listed, listed_from, reals_if_present}
 use Rattle.sqlite_pool.specs.File.{in_use}
-use Rattle.sqlite_value.specs.declared.value.Value.{Value}
-use Rattle.sqlite_value.specs.Order.{Row, column}
-use Rattle.sqlite_value.proofs.OrderLemmas.{value_cmp-Int}
-use Rattle.sqlite_trees.specs.declared.store.Shape.{Shape}
-use Rattle.sqlite_trees.specs.declared.store.Shape.TheVariants.{Absent, Table, Index, Pageless, FrozenTable, FrozenIndex}
-use Rattle.sqlite_trees.specs.Objects.{catalog_tree, version_tree, row_for}
-use Rattle.sqlite_store.specs.declared.catalog.Wanted.{Wanted}
-use Rattle.sqlite_store.specs.Catalog.{describes, is_about, is_present, page_number, reals_at, root_in, same_value, shape_at}
-use Rattle.sqlite_store.specs.Db.{roots_of, rows_at, shown, thawed, trees_in}
-use Rattle.sqlite_store.specs.Listed.{same_listing}
-use Rattle.sqlite_store.specs.Listing.{all_reals, all_shapes, all_trees, file_trees, listed, listed_from, reals_if_present}
+use Rattle.sqlite_store.specs.Catalog.{describes, is_about}
+use Rattle.sqlite_store.specs.Db.{roots_of, trees_in}
+use Rattle.sqlite_store.specs.Listing.{all_reals, all_shapes, all_trees}
 use Rattle.sqlite_store.proofs.PadLemmas.{same_shown}
 
 -- the root of the first entry with these columns

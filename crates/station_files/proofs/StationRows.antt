@@ -1,28 +1,13 @@
 -- The rows that list some trees of a store, one by one; and those of a database of a station.
 use Rattle.std.proofs.Common.{◌≡◌, ◌<◌, ℕ, ◌+◌, zero, suc, pos, Bool, true, ◌&&◌, ◌||◌, List, [], ◌∷◌, ◌++◌, length, map, find, get_or, slice_get, option_map, unwrap_or, Option, None, Some, eqb, eqb-true, refl, sym, ap, ap₂, subst, ◌∙◌, inl, inr, arith}
-use Rattle.std.proofs.lemmas.Bool.{and_parts, cases_eq, or_cases}
+use Rattle.station_files.proofs.Common.{and_parts, cases_eq, or_cases, list_all, list_any, is_index_row, is_table_row, is_view_row, IsIndexRow, IsTableRow, IsViewRow, Lists, all_has, has_either, has_filtered, has_kept, has_left, has_right, some_has, test_has, Has, text_or_null, wanted_of, listed, listed_from, listing, number_in, shape_code, has_rowid, rowid, Object, Shape, Row, column, Int, Text, renumbered, rows_from, shown_row, name_of, ListsIndex, ListsStation, ListsTable, station_schema}
 use Rattle.std.specs.Borrow.{Bor}
-use Rattle.std.specs.List.{list_all, list_any}
 use Rattle.sqlite_catalog.proofs.LayoutLemmas.{row_kind, zipped_left, zipped_right}
-use Rattle.sqlite_catalog.specs.Listing.{is_index_row, is_table_row, is_view_row, IsIndexRow, IsTableRow, IsViewRow, Lists}
-use Rattle.sqlite_rules.proofs.ListLemmas.{all_has, has_either, has_filtered, has_kept, has_left, has_right, some_has, test_has}
-use Rattle.sqlite_rules.specs.Lists.{Has}
 use Rattle.sqlite_schema.specs.Rules.{index_reals, table_reals}
 use Rattle.sqlite_schema.specs.declared.schema.Index.{Index}
 use Rattle.sqlite_schema.specs.declared.schema.Table.{Table}
-use Rattle.sqlite_store.specs.Catalog.{text_or_null, wanted_of}
-use Rattle.sqlite_store.specs.Listing.{listed, listed_from}
-use Rattle.sqlite_trees.specs.Objects.{listing, number_in, shape_code}
-use Rattle.sqlite_trees.specs.Tree.{has_rowid, rowid}
-use Rattle.sqlite_trees.specs.declared.schema.Object.{Object}
-use Rattle.sqlite_trees.specs.declared.store.Shape.{Shape}
 use Rattle.sqlite_trees.specs.declared.store.Shape.TheVariants as shape
-use Rattle.sqlite_value.specs.Order.{Row, column}
-use Rattle.sqlite_value.specs.declared.value.Value.TheVariants.{Int, Text}
 use Rattle.station_files.proofs.EntryNames.{IsWord, IsWorded}
-use Rattle.station_files.specs.Own.{renumbered, rows_from, shown_row}
-use Rattle.station_files.specs.StationTrees.{name_of, ListsIndex, ListsStation, ListsTable}
-use Rattle.station_schema.specs.Schema.{station_schema}
 
 -- the row that is shown at a place
 abbrev pub row_at : ℕ → List ℕ → List Row → ℕ → Option Row

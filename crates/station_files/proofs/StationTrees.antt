@@ -1,25 +1,9 @@
 -- Two lists of a file's trees, each of which lists those of a station, list the same rows.
 use Rattle.std.proofs.Common.{◌≡◌, ◌<◌, ◌≤◌, ℕ, ◌+◌, pos, List, [], ◌∷◌, zero, suc, length, map, get_or, slice_get, ltb, ltb-true, ltb-false, Option, None, Some, refl, sym, ap, subst, ◌∙◌, inl, inr, arith}
-use Rattle.std.proofs.lemmas.Bool.{and_parts, cases_Bool}
-use Rattle.sqlite_catalog.specs.Listing.{Lists}
-use Rattle.sqlite_pages.specs.PageMap.{PageMap}
+use Rattle.station_files.proofs.Common.{and_parts, cases_Bool, Lists, PageMap, wanted_of, rows_at, IsFile, listed_from, Wanted, number_in, rowid, Object, Table, Row, column, Int, rows_from, AreLow, name_of, ListsStation, station_schema, Has}
 use Rattle.sqlite_pool.specs.File.{in_use}
-use Rattle.sqlite_store.specs.Catalog.{wanted_of}
-use Rattle.sqlite_store.specs.Db.{rows_at, IsFile}
-use Rattle.sqlite_store.specs.Listing.{listed_from}
-use Rattle.sqlite_store.specs.declared.catalog.Wanted.{Wanted}
-use Rattle.sqlite_trees.specs.Objects.{number_in}
-use Rattle.sqlite_trees.specs.Tree.{rowid}
-use Rattle.sqlite_trees.specs.declared.schema.Object.{Object}
-use Rattle.sqlite_trees.specs.declared.store.Shape.TheVariants.{Table}
-use Rattle.sqlite_value.specs.Order.{Row, column}
-use Rattle.sqlite_value.specs.declared.value.Value.TheVariants.{Int}
 use Rattle.station_files.proofs.EntryNames.{entry_of, says_the_same, IsWorded}
 use Rattle.station_files.proofs.StationRows.{has_shown, has_tree, listed_within, named, object_row, row_at, rows_same, shown_has, shows, IsNamed}
-use Rattle.station_files.specs.Own.{rows_from, AreLow}
-use Rattle.station_files.specs.StationTrees.{name_of, ListsStation}
-use Rattle.station_schema.specs.Schema.{station_schema}
-use Rattle.sqlite_rules.specs.Lists.{Has}
 
 same_place : (a b : ℕ) (row : Row) → rowid row ≡ Int (pos (a + 1)) → rowid row ≡ Int (pos (b + 1)) → a ≡ b
 same_place a b row p q = omega (arith, ap number_in (sym p ∙ q))

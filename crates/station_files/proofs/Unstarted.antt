@@ -1,28 +1,13 @@
 -- What a database that was only begun leaves of its files.
 use Rattle.std.proofs.Common.{◌⊎◌, ◌∙◌, ℕ, true, [], refl, subst, inl, inr}
-use Rattle.std.proofs.Math.Logic.{∥∥₁_map}
-use Rattle.sqlite_wal.specs.PageSize.{IsPageSize}
-use Rattle.sqlite_wal.specs.Recovery.{Image, AreWhole}
-use Rattle.sqlite_pages.specs.PageMap.{PageMap}
-use Rattle.sqlite_pool.specs.File.{in_use, version_in}
-use Rattle.sqlite_pool.specs.Opening.{IsBlankFile, IsNew}
-use Rattle.sqlite_pool.specs.Stored.{stored_size, Recovers}
-use Rattle.sqlite_pool.specs.StoredLaws.{trimmed_whole}
-use Rattle.sqlite_pool.proofs.ResealLemmas.{adopts_of}
-use Rattle.sqlite_trees.specs.Tree.{Trees}
+use Rattle.station_files.proofs.Common.{∥∥₁_map, IsPageSize, Image, AreWhole, PageMap, version_in, IsBlankFile, IsNew, stored_size, Recovers, trimmed_whole, adopts_of, Trees, catalog_rows, file_trees, IsOurs, HoldsDatabase, IsEmpty, Ghosts, Files, OnlyReads, pair, same_image}
+use Rattle.sqlite_pool.specs.File.{in_use}
 use Rattle.sqlite_store.specs.Db.{trees_in}
-use Rattle.sqlite_store.specs.Listed.{catalog_rows}
-use Rattle.sqlite_store.specs.Listing.{all_trees, file_trees, IsOurs}
+use Rattle.sqlite_store.specs.Listing.{all_trees}
 use Rattle.sqlite_store.specs.Opening.{IsFresh}
 use Rattle.sqlite_store.proofs.BuildLemmas.{new_is_empty}
 use Rattle.sqlite_store.proofs.ListingLemmas.{past_version, named_tree}
-use Rattle.sqlite.specs.Files.{HoldsDatabase, IsEmpty}
 use Rattle.sqlite.proofs.ListingLemmas.{empty_is_sound}
-use Rattle.sqlite_disk.specs.declared.Disk.{Ghosts}
-use Rattle.sqlite_disk.specs.declared.Files.{Files}
-use Rattle.sqlite_wal.specs.Reads.{OnlyReads}
-use Rattle.sqlite_store.proofs.StoreLemmas.{pair}
-use Rattle.sqlite.proofs.FileLemmas.{same_image}
 use Rattle.sqlite.specs.declared.file.Leftover.{Leftover}
 use Rattle.sqlite.specs.declared.file.Leftover.TheVariants as rest
 use Rattle.station_files.specs.Begun.{IsUnstarted, LeavesUnstarted}

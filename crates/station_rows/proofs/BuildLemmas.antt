@@ -1,34 +1,9 @@
 -- The table `build`.
 use Rattle.std.proofs.Common.{ap, ap₂, filter, map, refl, sym, false, true, pos, inl, Ok, Err, Result, List, [], ℕ, ℤ, int_cmp, int_eq, ◌∙◌, ◌∷◌, ◌≡◌}
-use Rattle.std.specs.FinMap.{entries}
-use Rattle.std.specs.Ordering.{eq_by_cmp, ordering_then}
-use Rattle.std.specs.Prelude.{IfOk, Vec, ◌&&◌}
+use Rattle.station_rows.proofs.Common.{entries, eq_by_cmp, ordering_then, IfOk, Vec, ◌&&◌, Row, Output, Query, output, output_cmp, IsUnchanged, Shown, State, Term, eval_all, Error, Int, Text, value_cmp-Int, Eq, pair_cmp, map_back, at_ints, at_texts, last_key, last_term, then_term, bytes_cmp, one_table, first_true, int_both, int_tied, pair_eq, second_true, texts_both, cast_int, cast_null, Asks, by_column, Reads, build_same, build_total, edits_builds, build, station_schema, BuildKey, Build, IsStation, build_cmp, build_in, build_row, tables_of, typed_builds, is_on, pieces_in, pieces_read, pieces_shown}
 use Rattle.std.specs.declared.alloc.Global.{Global}
-use Rattle.sqlite.specs.Order.{Row}
-use Rattle.sqlite.specs.Query.{Output, Query, output, output_cmp}
-use Rattle.sqlite.specs.State.{IsUnchanged, Shown, State}
-use Rattle.sqlite.specs.Term.{Term, eval_all}
-use Rattle.sqlite.specs.declared.error.Error.{Error}
-use Rattle.sqlite.specs.declared.types.Value.TheVariants.{Int, Text}
-use Rattle.sqlite_value.proofs.OrderLemmas.{value_cmp-Int}
 use Rattle.sqlite_value.specs.Keys.{first_key}
-use Rattle.sqlite_sql.specs.declared.ops.CompareOp.TheVariants.{Eq}
 use Rattle.sqlite_trees.proofs.ListLemmas.{map-map}
-use Rattle.sqlite_keyed.proofs.SortLemmas.{pair_cmp}
-use Rattle.sqlite_keyed.proofs.ListLemmas.{map_back}
-use Rattle.sqlite_typed.proofs.TestLemmas.{at_ints, at_texts, last_key, last_term, then_term}
-use Rattle.sqlite_typed.specs.Tests.{bytes_cmp}
-use Rattle.station_schema.proofs.Keyed.{one_table}
-use Rattle.station_schema.proofs.OneRow.{first_true, int_both, int_tied, pair_eq, second_true, texts_both}
-use Rattle.station_schema.proofs.Shared.{cast_int, cast_null}
-use Rattle.station_schema.proofs.AnyTexts.{Asks, by_column}
-use Rattle.station_schema.specs.Effects.{Reads}
-use Rattle.station_schema.proofs.Keys.{build_same, build_total}
-use Rattle.station_schema.proofs.Stored.{edits_builds}
-use Rattle.station_schema.specs.Schema.{build, station_schema}
-use Rattle.station_schema.specs.Tables.{BuildKey, Build, IsStation, build_cmp, build_in, build_row, tables_of, typed_builds}
-use Rattle.station_rows.specs.Meant.{is_on, pieces_in}
-use Rattle.station_rows.specs.Shown.{pieces_read, pieces_shown}
 use Rattle.station_rows.proofs.KeyedLemmas.{IsTableOf, KeyedTable, lists}
 use Rattle.station_rows.proofs.Terms.{columns, key_terms}
 use Rattle.station_rows.proofs.Texts.{build_names, list_build_is, list_build_text, list_pieces_columns, list_pieces_is, list_pieces_names, list_pieces_text}

@@ -1,23 +1,7 @@
 -- The table `counts`.
 use Rattle.std.proofs.Common.{ap, ap₂, filter, map, refl, sym, false, true, List, [], ℤ, int_cmp, int_eq, ◌∙◌, ◌∷◌, ◌≡◌}
-use Rattle.std.specs.FinMap.{entries}
-use Rattle.std.specs.Ordering.{eq_by_cmp, ordering_then}
-use Rattle.std.specs.Prelude.{◌&&◌}
-use Rattle.sqlite.specs.Order.{Row}
-use Rattle.sqlite.specs.State.{Shown, State}
-use Rattle.sqlite.specs.declared.types.Value.TheVariants.{Int}
-use Rattle.sqlite_value.proofs.OrderLemmas.{value_cmp-Int}
+use Rattle.station_rows.proofs.Common.{entries, eq_by_cmp, ordering_then, ◌&&◌, Row, Shown, State, Int, value_cmp-Int, Eq, unfiltered, at_ints, last_key, last_term, then_key, then_term, int_both, int_tied, pair_eq, cast_int, cast_null, count_same, count_total, edits_counts, counts, CountKey, Count, IsStation, count_cmp, count_in, count_row, tables_of, typed_counts, counts_for}
 use Rattle.sqlite_value.specs.Keys.{first_key}
-use Rattle.sqlite_sql.specs.declared.ops.CompareOp.TheVariants.{Eq}
-use Rattle.sqlite_typed.proofs.AnswerLemmas.{unfiltered}
-use Rattle.sqlite_typed.proofs.TestLemmas.{at_ints, last_key, last_term, then_key, then_term}
-use Rattle.station_schema.proofs.OneRow.{int_both, int_tied, pair_eq}
-use Rattle.station_schema.proofs.Shared.{cast_int, cast_null}
-use Rattle.station_schema.proofs.Keys.{count_same, count_total}
-use Rattle.station_schema.proofs.Stored.{edits_counts}
-use Rattle.station_schema.specs.Schema.{counts}
-use Rattle.station_schema.specs.Tables.{CountKey, Count, IsStation, count_cmp, count_in, count_row, tables_of, typed_counts}
-use Rattle.station_rows.specs.Meant.{counts_for}
 use Rattle.station_rows.proofs.KeyedLemmas.{IsTableOf, KeyedTable, lists}
 use Rattle.station_rows.proofs.Texts.{all_count_is, all_count_text, list_count_is, list_count_text}
 

@@ -1,24 +1,7 @@
 -- The table `expected`.
 use Rattle.std.proofs.Common.{ap, ap₂, map, refl, sym, false, true, List, [], int_cmp, int_eq, ◌∙◌, ◌∷◌, ◌≡◌}
-use Rattle.std.specs.FinMap.{entries}
-use Rattle.std.specs.Ordering.{eq_by_cmp}
-use Rattle.std.specs.Prelude.{◌&&◌}
-use Rattle.sqlite.specs.Order.{Row}
-use Rattle.sqlite.specs.State.{Shown, State}
-use Rattle.sqlite.specs.declared.types.Value.TheVariants.{Int, Text}
-use Rattle.sqlite_value.proofs.OrderLemmas.{value_cmp-Int, value_cmp-Text}
+use Rattle.station_rows.proofs.Common.{entries, eq_by_cmp, ◌&&◌, Row, Shown, State, Int, Text, value_cmp-Int, value_cmp-Text, Eq, pair_cmp, unfiltered, at_ints, at_texts, last_key, last_term, then_key, then_term, bytes_cmp, int_tied, pair_eq, cast_int, cast_null, expected_same, expected_total, edits_expected, expected, ExpectedKey, Expected, IsStation, expected_cmp, expected_in, expected_row, tables_of, typed_expected}
 use Rattle.sqlite_value.specs.Keys.{first_key}
-use Rattle.sqlite_sql.specs.declared.ops.CompareOp.TheVariants.{Eq}
-use Rattle.sqlite_keyed.proofs.SortLemmas.{pair_cmp}
-use Rattle.sqlite_typed.proofs.AnswerLemmas.{unfiltered}
-use Rattle.sqlite_typed.proofs.TestLemmas.{at_ints, at_texts, last_key, last_term, then_key, then_term}
-use Rattle.sqlite_typed.specs.Tests.{bytes_cmp}
-use Rattle.station_schema.proofs.OneRow.{int_tied, pair_eq}
-use Rattle.station_schema.proofs.Shared.{cast_int, cast_null}
-use Rattle.station_schema.proofs.Keys.{expected_same, expected_total}
-use Rattle.station_schema.proofs.Stored.{edits_expected}
-use Rattle.station_schema.specs.Schema.{expected}
-use Rattle.station_schema.specs.Tables.{ExpectedKey, Expected, IsStation, expected_cmp, expected_in, expected_row, tables_of, typed_expected}
 use Rattle.station_rows.proofs.KeyedLemmas.{IsTableOf, KeyedTable, lists}
 use Rattle.station_rows.proofs.Texts.{all_expected_is, all_expected_text}
 

@@ -1,24 +1,8 @@
 -- The moves of a flight whose numbers lie in a range.
 use Rattle.std.proofs.Common.{ℕ, ℤ, List, [], ◌∷◌, ◌≡◌, codes, false, filter, map, refl}
-use Rattle.sqlite.proofs.Callers.{reads_as}
-use Rattle.sqlite.specs.Collation.TheVariants.{Binary}
-use Rattle.sqlite.specs.Command.TheVariants.{Select}
+use Rattle.station_rows.proofs.Common.{reads_as, Binary, Select, Row, Shown, State, Term, col, op2, Int, Text, Compare, Eq, Gt, Le, at_ints, at_texts, last_term, then_term, Asks, asks, by_column, one_table, rows_by_key, station_schema, IsStation, move_id, move_in, move_row, tables_of, typed_moves, is_flown_within, move_shown}
 use Rattle.sqlite.specs.Listing.{understood}
-use Rattle.sqlite.specs.Order.{Row}
-use Rattle.sqlite.specs.State.{Shown, State}
-use Rattle.sqlite.specs.Term.{Term, col, op2}
-use Rattle.sqlite.specs.declared.types.Value.TheVariants.{Int, Text}
-use Rattle.sqlite_sql.specs.declared.ops.BinaryOp.TheVariants.{Compare}
-use Rattle.sqlite_sql.specs.declared.ops.CompareOp.TheVariants.{Eq, Gt, Le}
 use Rattle.sqlite_tied.specs.Compute.{everything}
-use Rattle.sqlite_typed.proofs.TestLemmas.{at_ints, at_texts, last_term, then_term}
-use Rattle.station_schema.proofs.AnyTexts.{Asks, asks, by_column}
-use Rattle.station_schema.proofs.Keyed.{one_table}
-use Rattle.station_schema.proofs.Listed.{rows_by_key}
-use Rattle.station_schema.specs.Schema.{station_schema}
-use Rattle.station_schema.specs.Tables.{IsStation, move_id, move_in, move_row, tables_of, typed_moves}
-use Rattle.station_rows.specs.Meant.{is_flown_within}
-use Rattle.station_rows.specs.Shown.{move_shown}
 use Rattle.station_rows.proofs.Texts.{move_columns, move_names}
 
 abbrev pub within_move_text : List ℕ

@@ -1,14 +1,7 @@
 -- The table `kept_text`.
 use Rattle.std.proofs.Common.{refl, false, List, [], ℕ, ℤ, ◌∷◌}
-use Rattle.sqlite.specs.declared.types.Value.TheVariants.{Text}
+use Rattle.station_rows.proofs.Common.{Text, Eq, at_texts, last_term, cast_int, cast_null, kept_text_same, kept_text_total, edits_kept_texts, kept_text, kept_text_cmp, kept_text_in, kept_text_row, typed_kept_texts}
 use Rattle.sqlite_value.specs.Keys.{first_key}
-use Rattle.sqlite_sql.specs.declared.ops.CompareOp.TheVariants.{Eq}
-use Rattle.sqlite_typed.proofs.TestLemmas.{at_texts, last_term}
-use Rattle.station_schema.proofs.Shared.{cast_int, cast_null}
-use Rattle.station_schema.proofs.Keys.{kept_text_same, kept_text_total}
-use Rattle.station_schema.proofs.Stored.{edits_kept_texts}
-use Rattle.station_schema.specs.Schema.{kept_text}
-use Rattle.station_schema.specs.Tables.{kept_text_cmp, kept_text_in, kept_text_row, typed_kept_texts}
 use Rattle.station_rows.proofs.KeyedLemmas.{IsTableOf, KeyedTable}
 
 abbrev pub kept_text_table : KeyedTable (List ℕ) ℤ

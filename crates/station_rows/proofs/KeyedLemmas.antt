@@ -2,37 +2,16 @@
 use Rattle.std.proofs.Common.{Bool, List, None, Ok, Option, Ordering, Some, [], cond, filter, length, map, not, option_map, pos, refl, subst, sym, true, ℕ, ℤ, ◌++◌, ◌+◌, ◌/◌, ◌∙◌, ◌∷◌, ◌≡◌, ◌≢◌}
 use Rattle.std.proofs.lemmas.List.{append-nil}
 use Rattle.std.specs.Cmp.{IsTotalOrder}
-use Rattle.std.specs.FinMap.{FinMap, IsAntisymmetric, entries, from_entries, get, insert, remove}
-use Rattle.std.specs.List.{AllByRecursion, list_all}
-use Rattle.std.specs.Ordering.{eq_by_cmp}
-use Rattle.std.specs.Prelude.{option_to_list, ◌&&◌}
-use Rattle.sqlite.proofs.Callers.{reads_as}
+use Rattle.station_rows.proofs.Common.{FinMap, IsAntisymmetric, entries, from_entries, get, insert, remove, AllByRecursion, list_all, eq_by_cmp, option_to_list, ◌&&◌, reads_as, Delete, Insert, Select, Update, Database, value_rows, Row, output, output_cmp, Executes, Shown, Shows, State, Term, col, eval_all, holds, Trees, Int, turn_eq, plain, Key, one_table, IsPlaced, delete_ran, insert_ran, update_ran, Asks, Means, asks, Edits, IsInside, station_schema, IsStation, Tables, tables_of}
 use Rattle.sqlite.specs.Cast.{cast_row}
-use Rattle.sqlite.specs.Command.TheVariants.{Delete, Insert, Select, Update}
 use Rattle.sqlite.specs.Edit.{edit_of, next_rowid}
-use Rattle.sqlite.specs.Effect.{Database, value_rows}
-use Rattle.sqlite.specs.Order.{Row}
-use Rattle.sqlite.specs.Query.{output, output_cmp}
 use Rattle.sqlite.specs.Rowids.TheVariants.{Chosen}
 use Rattle.sqlite.specs.Source.TheVariants.{Values}
-use Rattle.sqlite.specs.State.{Executes, Shown, Shows, State}
 use Rattle.sqlite.specs.Table.{Table}
-use Rattle.sqlite.specs.Term.{Term, col, eval_all, holds}
-use Rattle.sqlite.specs.Tree.{Trees}
-use Rattle.sqlite.specs.declared.types.Value.TheVariants.{Int}
 use Rattle.sqlite_schema.specs.Rules.{Keeps, clashes}
 use Rattle.sqlite_schema.specs.declared.schema.Constraint.TheVariants.{Unique}
-use Rattle.sqlite_typed.proofs.TestLemmas.{turn_eq}
-use Rattle.sqlite_value.specs.Keys.{plain}
-use Rattle.sqlite_value.specs.declared.keys.Key.{Key}
 use Rattle.station_schema.proofs.ColumnKeys.{Compares, IsMap, deleted_at, inserted, map_of, row_shown, rows_in_order, updated_at}
-use Rattle.station_schema.proofs.Keyed.{one_table}
-use Rattle.station_schema.proofs.Ran.{IsPlaced, delete_ran, insert_ran, update_ran}
-use Rattle.station_schema.proofs.AnyTexts.{Asks, Means, asks}
 use Rattle.station_schema.specs.ColumnKeys.{AreEntries, adjust}
-use Rattle.station_schema.specs.Calls.{Edits, IsInside}
-use Rattle.station_schema.specs.Schema.{station_schema}
-use Rattle.station_schema.specs.Tables.{IsStation, Tables, tables_of}
 use Rattle.station_rows.proofs.Terms.{insert_terms, key_terms, update_terms}
 
 -- its place in the schema, its rows as entries of a map, and that map

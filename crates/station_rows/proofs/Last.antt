@@ -1,26 +1,13 @@
 -- SELECT .. ORDER BY the key downwards LIMIT n, over one table whose key is made of columns.
 use Rattle.std.proofs.Common.{◌≡◌, ℕ, zero, suc, ◌-◌, ℤ, pos, length, drop, arith, List, [], ◌∷◌, ◌++◌, map, filter, take, reverse, Bool, true, Option, None, Some, append_assoc, append-nil, refl, sym, ap, subst, ◌∙◌, Ordering, Less, IsPermutation}
-use Rattle.std.specs.Prelude.{option_to_list}
-use Rattle.std.specs.List.{AllByRecursion, list_all, last_or}
+use Rattle.station_rows.proofs.Common.{option_to_list, AllByRecursion, list_all, last_or, FinMap, entries, Null, Int, Row, Trees, IsAscending, Query, Output, output, output_cmp, as_count, limited, Term, eval, eval_all, holds, Answers, Key, sorted_unique, all-append, map-map, map_same, filter-map, ascending-append, ascending-filter, ascending-map, IsPermutation-filter, at_end, last_table, matches_are, one_table, no_overlay}
 use Rattle.std.specs.Cmp.{IsTotalOrder}
-use Rattle.std.specs.FinMap.{FinMap, entries}
 use Rattle.std.proofs.lemmas.List.{map-append, reverse-append, reverse-reverse, length-reverse, length-drop, take-append-drop, take_all, take_at, take-map}
 use Rattle.std.proofs.lemmas.List.Sorted.{IsPermutation-map, IsPermutation-trans, IsPermutation-sym, IsPermutation-reverse}
-use Rattle.sqlite.specs.declared.types.Value.TheVariants.{Null, Int}
-use Rattle.sqlite.specs.Order.{Row}
-use Rattle.sqlite.specs.Tree.{Trees, IsAscending}
 use Rattle.sqlite.specs.Schema.{Schema}
 use Rattle.sqlite.specs.Program.{overlay}
-use Rattle.sqlite.specs.Query.{Query, Output, output, output_cmp, as_count, limited}
-use Rattle.sqlite.specs.Term.{Term, eval, eval_all, holds}
-use Rattle.sqlite.specs.Effect.{Answers}
-use Rattle.sqlite_value.specs.declared.keys.Key.{Key}
 use Rattle.sqlite_sql.proofs.QueryLemmas.{output_cmp_total}
-use Rattle.sqlite_keyed.proofs.SortLemmas.{sorted_unique}
-use Rattle.sqlite_keyed.proofs.ListLemmas.{all-append, map-map, map_same, filter-map, ascending-append, ascending-filter, ascending-map, IsPermutation-filter}
-use Rattle.sqlite_typed.proofs.AnswerLemmas.{at_end, last_table, matches_are}
 use Rattle.station_schema.specs.ColumnKeys.{numbered}
-use Rattle.station_schema.proofs.Keyed.{one_table, no_overlay}
 use Rattle.station_schema.proofs.ColumnKeys.{number, entry, IsMap, same_rows}
 use Rattle.station_schema.proofs.Maps.{all_passed, ascending_where, entries_rise}
 

@@ -1,3 +1,4 @@
+pub mod Common
 pub mod BuildLemmas
 pub mod CountLemmas
 pub mod ExpectedLemmas

@@ -1,28 +1,7 @@
 -- What the statements on `outbox` do.
 use Rattle.std.proofs.Common.{List, Ok, [], false, filter, map, refl, ℕ, ℤ, ◌∷◌, ◌≡◌}
-use Rattle.sqlite.proofs.Callers.{reads_as}
-use Rattle.sqlite.specs.Command.TheVariants.{Select}
-use Rattle.sqlite.specs.Effect.{value_rows}
-use Rattle.sqlite.specs.Order.{Row}
-use Rattle.sqlite.specs.State.{Executes, Shown, State}
-use Rattle.sqlite.specs.declared.types.Value.TheVariants.{Int}
-use Rattle.sqlite_sql.specs.declared.ops.CompareOp.TheVariants.{Gt}
-use Rattle.sqlite_keyed.proofs.KeyedLemmas.{IsKeyedBy-insert_by}
-use Rattle.sqlite_keyed.specs.Keyed.{insert_by}
-use Rattle.sqlite_typed.proofs.TestLemmas.{at_ints, last_term}
-use Rattle.station_schema.proofs.Keyed.{one_table, puts}
-use Rattle.station_schema.proofs.Listed.{rows_by_key}
-use Rattle.station_schema.proofs.Ran.{IsPlaced, insert_ran}
-use Rattle.station_schema.proofs.Shared.{cast_int, cast_null}
-use Rattle.station_schema.proofs.AnyTexts.{asks, by_column}
-use Rattle.station_schema.proofs.Stored.{edits_outbox}
-use Rattle.station_schema.specs.Calls.{Edits, IsInside}
-use Rattle.station_schema.specs.Schema.{outbox, station_schema}
-use Rattle.station_schema.specs.Tables.{IsStation, Message, message_id, message_in, message_row, tables_of, typed_outbox}
-use Rattle.station_rows.specs.Meant.{is_message_after, with_message}
-use Rattle.station_rows.specs.Shown.{message_shown}
+use Rattle.station_rows.proofs.Common.{reads_as, Select, value_rows, Row, Executes, Shown, State, Int, Gt, IsKeyedBy-insert_by, insert_by, at_ints, last_term, one_table, puts, rows_by_key, IsPlaced, insert_ran, cast_int, cast_null, asks, by_column, edits_outbox, Edits, IsInside, outbox, station_schema, IsStation, Message, message_id, message_in, message_row, tables_of, typed_outbox, is_message_after, with_message, message_shown, insert_message_text}
 use Rattle.station_rows.proofs.Texts.{after_message_is, after_message_text, after_message_where, insert_message_is, message_columns, message_names, message_terms}
-use Rattle.station_rows.specs.Ran.{insert_message_text}
 
 message_placed : IsPlaced station_schema 8 outbox
 message_placed = record { there = refl; uncounted = refl; unstamped = refl; idle = λ _ _ _. refl }

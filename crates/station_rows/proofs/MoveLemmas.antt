@@ -1,29 +1,7 @@
 -- What the statements on `moves` do.
 use Rattle.std.proofs.Common.{List, Ok, [], ap, false, filter, map, refl, true, ℕ, ℤ, ◌∙◌, ◌∷◌, ◌≡◌}
-use Rattle.sqlite.proofs.Callers.{reads_as}
-use Rattle.sqlite.specs.Command.TheVariants.{Select}
-use Rattle.sqlite.specs.Effect.{value_rows}
-use Rattle.sqlite.specs.Order.{Row}
-use Rattle.sqlite.specs.State.{Executes, Shown, State}
-use Rattle.sqlite.specs.declared.types.Value.TheVariants.{Int, Text}
-use Rattle.sqlite_sql.specs.declared.ops.CompareOp.TheVariants.{Eq, Gt}
-use Rattle.sqlite_keyed.proofs.KeyedLemmas.{IsKeyedBy-insert_by}
-use Rattle.sqlite_keyed.specs.Keyed.{insert_by}
-use Rattle.sqlite_typed.proofs.AnswerLemmas.{unfiltered}
-use Rattle.sqlite_typed.proofs.TestLemmas.{at_ints, at_texts, last_term, then_term}
-use Rattle.station_schema.proofs.Keyed.{one_table, puts}
-use Rattle.station_schema.proofs.Listed.{rows_by_key}
-use Rattle.station_schema.proofs.Ran.{IsPlaced, insert_ran}
-use Rattle.station_schema.proofs.Shared.{cast_int, cast_null}
-use Rattle.station_schema.proofs.AnyTexts.{asks, by_column}
-use Rattle.station_schema.proofs.Stored.{edits_moves}
-use Rattle.station_schema.specs.Calls.{Edits, IsInside}
-use Rattle.station_schema.specs.Schema.{moves, station_schema}
-use Rattle.station_schema.specs.Tables.{IsStation, Move, move_id, move_in, move_row, tables_of, typed_moves}
-use Rattle.station_rows.specs.Meant.{is_move_after, is_flown, is_of, with_move}
-use Rattle.station_rows.specs.Shown.{move_shown}
+use Rattle.station_rows.proofs.Common.{reads_as, Select, value_rows, Row, Executes, Shown, State, Int, Text, Eq, Gt, IsKeyedBy-insert_by, insert_by, unfiltered, at_ints, at_texts, last_term, then_term, one_table, puts, rows_by_key, IsPlaced, insert_ran, cast_int, cast_null, asks, by_column, edits_moves, Edits, IsInside, moves, station_schema, IsStation, Move, move_id, move_in, move_row, tables_of, typed_moves, is_move_after, is_flown, is_of, with_move, move_shown, insert_move_text}
 use Rattle.station_rows.proofs.Texts.{after_move_is, after_move_text, after_move_where, all_move_is, all_move_text, flown_move_is, flown_move_text, flown_move_where, insert_move_is, list_move_is, list_move_text, list_move_where, move_columns, move_names, move_terms}
-use Rattle.station_rows.specs.Ran.{insert_move_text}
 
 move_placed : IsPlaced station_schema 4 moves
 move_placed = record { there = refl; uncounted = refl; unstamped = refl; idle = λ _ _ _. refl }

@@ -2,9 +2,7 @@
 use Rattle.std.proofs.Common.{ℕ, List, [], codes, refl}
 use Rattle.sqlite.specs.Listing.{understood}
 use Rattle.sqlite_tied.specs.Compute.{everything}
-use Rattle.station_schema.proofs.AnyTexts.{Asks}
-use Rattle.station_schema.proofs.Keyed.{one_table}
-use Rattle.station_schema.specs.Schema.{station_schema}
+use Rattle.station_rows.proofs.Common.{Asks, one_table, station_schema}
 use Rattle.station_rows.proofs.Terms.{columns, key_terms}
 use Rattle.station_rows.proofs.Texts.{count_names}
 

@@ -1,19 +1,7 @@
 -- The table `part`.
 use Rattle.std.proofs.Common.{ap₂, refl, sym, false, List, [], ℕ, int_cmp, int_eq, ◌∙◌, ◌∷◌, ◌≡◌}
-use Rattle.std.specs.Ordering.{eq_by_cmp}
-use Rattle.std.specs.Prelude.{◌&&◌}
-use Rattle.sqlite.specs.declared.types.Value.TheVariants.{Int, Text}
+use Rattle.station_rows.proofs.Common.{eq_by_cmp, ◌&&◌, Int, Text, Eq, pair_cmp, at_ints, at_texts, last_term, then_term, bytes_cmp, int_tied, pair_eq, cast_int, cast_null, part_same, part_total, edits_parts, part, PartKey, part_cmp, part_in, part_row, typed_parts}
 use Rattle.sqlite_value.specs.Keys.{first_key}
-use Rattle.sqlite_sql.specs.declared.ops.CompareOp.TheVariants.{Eq}
-use Rattle.sqlite_keyed.proofs.SortLemmas.{pair_cmp}
-use Rattle.sqlite_typed.proofs.TestLemmas.{at_ints, at_texts, last_term, then_term}
-use Rattle.sqlite_typed.specs.Tests.{bytes_cmp}
-use Rattle.station_schema.proofs.OneRow.{int_tied, pair_eq}
-use Rattle.station_schema.proofs.Shared.{cast_int, cast_null}
-use Rattle.station_schema.proofs.Keys.{part_same, part_total}
-use Rattle.station_schema.proofs.Stored.{edits_parts}
-use Rattle.station_schema.specs.Schema.{part}
-use Rattle.station_schema.specs.Tables.{PartKey, part_cmp, part_in, part_row, typed_parts}
 use Rattle.station_rows.proofs.KeyedLemmas.{IsTableOf, KeyedTable}
 
 abbrev pub part_table : KeyedTable PartKey (List ℕ)

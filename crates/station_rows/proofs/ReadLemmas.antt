@@ -2,25 +2,12 @@
 use Rattle.std.proofs.Common.{Bool, Err, List, None, Ok, Option, Result, Some, [], ap, inl, subst, false, true, map, option_map, refl, sym, take, get_or, length, ℕ, ◌+◌, ◌<◌, ◌++◌, ◌∙◌, ◌∷◌, ◌≡◌}
 use native.Mathlib.Numerals.{unary_clauses}
 use Rattle.std.proofs.Math.Seq.{take-suc}
-use Rattle.std.specs.Prelude.{IfOk, IsErr, Vec, option_to_list}
+use Rattle.station_rows.proofs.Common.{IfOk, IsErr, Vec, option_to_list, IsPlain, Held, state, Row, HasCleanDisk, IsUnchanged, Shown, State, Error, map_back, Query, Asks, Reads, Stops, still_plain, station_schema, IsStation, AreRead, Queries}
 use Rattle.std.specs.declared.alloc.Global.{Global}
-use Rattle.sqlite.proofs.Callers.{IsPlain}
-use Rattle.sqlite.specs.Held.{Held, state}
 use Rattle.sqlite.specs.Listing.{understood}
-use Rattle.sqlite.specs.Order.{Row}
-use Rattle.sqlite.specs.State.{HasCleanDisk, IsUnchanged, Shown, State}
-use Rattle.sqlite.specs.declared.error.Error.{Error}
 use Rattle.sqlite_trees.specs.declared.store.Store.{Ghosts}
-use Rattle.sqlite_keyed.proofs.ListLemmas.{map_back}
-use Rattle.sqlite.specs.Query.{Query}
 use Rattle.station_schema.proofs.Handing.{hands}
-use Rattle.station_schema.proofs.AnyTexts.{Asks}
-use Rattle.station_schema.specs.Effects.{Reads, Stops}
 use Rattle.station_schema.specs.Streams.{Streams, StreamsRows}
-use Rattle.station_schema.proofs.Statements.{still_plain}
-use Rattle.station_schema.specs.Schema.{station_schema}
-use Rattle.station_schema.specs.Tables.{IsStation}
-use Rattle.station_rows.specs.Queries.{AreRead, Queries}
 
 and_one : {X : Type 0} (reads : Row → X → Type 0) (rows : List Row) (xs : List X) (row : Row) (x : X) → AreRead reads rows xs → reads row x → AreRead reads (rows ++ row ∷ []) (xs ++ x ∷ [])
 and_one reads [] [] row x are is = (is, tt)

@@ -1,10 +1,6 @@
 -- The terms of the statements on a table, by how many columns it has and how many of them are its key.
 use Rattle.std.proofs.Common.{List, [], map, suc, zero, ℕ, ◌++◌, ◌+◌, ◌-◌, ◌∷◌}
-use Rattle.sqlite.specs.Collation.TheVariants.{Binary}
-use Rattle.sqlite.specs.Term.{Term, col, lit, op2}
-use Rattle.sqlite.specs.declared.types.Value.TheVariants.{Null}
-use Rattle.sqlite_sql.specs.declared.ops.BinaryOp.TheVariants.{Compare}
-use Rattle.sqlite_sql.specs.declared.ops.CompareOp.TheVariants.{Eq}
+use Rattle.station_rows.proofs.Common.{Binary, Term, col, lit, op2, Null, Compare, Eq}
 
 -- so many numbers from this one on
 abbrev pub from : ℕ → ℕ → List ℕ

@@ -1,29 +1,7 @@
 -- What the statements on `trail` do.
 use Rattle.std.proofs.Common.{List, Ok, [], ap, false, filter, map, refl, true, ℕ, ℤ, ◌∙◌, ◌∷◌, ◌≡◌}
-use Rattle.sqlite.proofs.Callers.{reads_as}
-use Rattle.sqlite.specs.Command.TheVariants.{Select}
-use Rattle.sqlite.specs.Effect.{value_rows}
-use Rattle.sqlite.specs.Order.{Row}
-use Rattle.sqlite.specs.State.{Executes, Shown, State}
-use Rattle.sqlite.specs.declared.types.Value.TheVariants.{Int}
-use Rattle.sqlite_sql.specs.declared.ops.CompareOp.TheVariants.{Eq, Gt}
-use Rattle.sqlite_keyed.proofs.KeyedLemmas.{IsKeyedBy-insert_by}
-use Rattle.sqlite_keyed.specs.Keyed.{insert_by}
-use Rattle.sqlite_typed.proofs.AnswerLemmas.{unfiltered}
-use Rattle.sqlite_typed.proofs.TestLemmas.{at_ints, last_term}
-use Rattle.station_schema.proofs.Keyed.{one_table, puts}
-use Rattle.station_schema.proofs.Listed.{rows_by_key}
-use Rattle.station_schema.proofs.Ran.{IsPlaced, insert_ran}
-use Rattle.station_schema.proofs.Shared.{cast_int, cast_null}
-use Rattle.station_schema.proofs.AnyTexts.{asks, by_column}
-use Rattle.station_schema.proofs.Stored.{edits_trail}
-use Rattle.station_schema.specs.Calls.{Edits, IsInside}
-use Rattle.station_schema.specs.Schema.{station_schema, trail}
-use Rattle.station_schema.specs.Tables.{IsStation, TrailLine, tables_of, trail_id, trail_in, trail_row, typed_trail}
-use Rattle.station_rows.specs.Meant.{is_line_after, is_line_of, with_trail_line}
-use Rattle.station_rows.specs.Shown.{trail_shown}
+use Rattle.station_rows.proofs.Common.{reads_as, Select, value_rows, Row, Executes, Shown, State, Int, Eq, Gt, IsKeyedBy-insert_by, insert_by, unfiltered, at_ints, last_term, one_table, puts, rows_by_key, IsPlaced, insert_ran, cast_int, cast_null, asks, by_column, edits_trail, Edits, IsInside, station_schema, trail, IsStation, TrailLine, tables_of, trail_id, trail_in, trail_row, typed_trail, is_line_after, is_line_of, with_trail_line, trail_shown, insert_trail_text}
 use Rattle.station_rows.proofs.Texts.{after_trail_is, after_trail_text, after_trail_where, all_trail_is, all_trail_text, insert_trail_is, of_trail_is, of_trail_text, of_trail_where, trail_columns, trail_names, trail_terms}
-use Rattle.station_rows.specs.Ran.{insert_trail_text}
 
 trail_placed : IsPlaced station_schema 7 trail
 trail_placed = record { there = refl; uncounted = refl; unstamped = refl; idle = λ _ _ _. refl }

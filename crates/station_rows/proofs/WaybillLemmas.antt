@@ -1,33 +1,8 @@
 -- What the statements on `waybill2` do.
 use Rattle.std.proofs.Common.{List, Ok, [], ap, false, int_eq, map, refl, true, ℕ, ℤ, ◌∙◌, ◌∷◌, ◌≡◌}
-use Rattle.std.specs.List.{list_all}
-use Rattle.std.specs.Prelude.{option_to_list}
-use Rattle.sqlite.proofs.Callers.{reads_as}
-use Rattle.sqlite.specs.Command.TheVariants.{Select}
-use Rattle.sqlite.specs.Effect.{value_rows}
-use Rattle.sqlite.specs.Order.{Row}
-use Rattle.sqlite.specs.State.{Executes, Shown, State}
-use Rattle.sqlite.specs.Term.{holds}
-use Rattle.sqlite.specs.declared.types.Value.TheVariants.{Int, Null, Text}
-use Rattle.sqlite_sql.specs.declared.ops.CompareOp.TheVariants.{Eq}
-use Rattle.sqlite_keyed.proofs.KeyedLemmas.{IsKeyedBy-insert_by}
-use Rattle.sqlite_keyed.specs.Keyed.{IsKeyedBy, get_by, insert_by}
+use Rattle.station_rows.proofs.Common.{list_all, option_to_list, reads_as, Select, value_rows, Row, Executes, Shown, State, holds, Int, Null, Text, Eq, IsKeyedBy-insert_by, IsKeyedBy, get_by, insert_by, unfiltered, at_ints, last_term, one_table, puts, changed_at, row_at, rows_by_key, IsPlaced, insert_ran, update_ran, cast_int, cast_null, asks, by_column, edits_waybills, Edits, IsInside, station_schema, waybill2, IsStation, Waybill, tables_of, typed_waybills, waybill_id, waybill_in, waybill_row, changing_waybill, with_waybill, waybill_shown, insert_waybill_text, update_waybill_text}
 use Rattle.sqlite_keyed.specs.Lists.{update_where}
-use Rattle.sqlite_typed.proofs.AnswerLemmas.{unfiltered}
-use Rattle.sqlite_typed.proofs.TestLemmas.{at_ints, last_term}
-use Rattle.station_schema.proofs.Keyed.{one_table, puts}
-use Rattle.station_schema.proofs.Listed.{changed_at, row_at, rows_by_key}
-use Rattle.station_schema.proofs.Ran.{IsPlaced, insert_ran, update_ran}
-use Rattle.station_schema.proofs.Shared.{cast_int, cast_null}
-use Rattle.station_schema.proofs.AnyTexts.{asks, by_column}
-use Rattle.station_schema.proofs.Stored.{edits_waybills}
-use Rattle.station_schema.specs.Calls.{Edits, IsInside}
-use Rattle.station_schema.specs.Schema.{station_schema, waybill2}
-use Rattle.station_schema.specs.Tables.{IsStation, Waybill, tables_of, typed_waybills, waybill_id, waybill_in, waybill_row}
-use Rattle.station_rows.specs.Meant.{changing_waybill, with_waybill}
-use Rattle.station_rows.specs.Shown.{waybill_shown}
 use Rattle.station_rows.proofs.Texts.{all_waybill_is, all_waybill_text, get_waybill_is, get_waybill_text, insert_waybill_is, update_waybill_is, update_waybill_terms, waybill_columns, waybill_key_is, waybill_names, waybill_terms}
-use Rattle.station_rows.specs.Ran.{insert_waybill_text, update_waybill_text}
 
 waybill_placed : IsPlaced station_schema 13 waybill2
 waybill_placed = record { there = refl; uncounted = refl; unstamped = refl; idle = λ _ _ _. refl }

@@ -1,18 +1,9 @@
 -- What a statement that writes does, whatever the statement.
 use Rattle.std.proofs.Common.{List, Ok, Result, ℕ}
-use Rattle.sqlite.specs.Command.TheVariants.{Delete, Insert, Update}
-use Rattle.sqlite.specs.Held.{Held, state}
-use Rattle.sqlite.specs.Order.{Row}
+use Rattle.station_rows.proofs.Common.{Delete, Insert, Update, Held, state, Row, CommitsBy, Executes, HasCleanDisk, State, Survives, Error, Means, changes, execute_survives, Alters, Edits, IsInside, station_schema, Tables}
 use Rattle.sqlite.specs.Source.{Source}
-use Rattle.sqlite.specs.State.{CommitsBy, Executes, HasCleanDisk, State, Survives}
-use Rattle.sqlite.specs.declared.error.Error.{Error}
 use Rattle.sqlite_schema.specs.declared.program.Program.{Program}
 use Rattle.sqlite_trees.specs.declared.store.Store.{Ghosts}
-use Rattle.station_schema.proofs.AnyTexts.{Means}
-use Rattle.station_schema.proofs.Statements.{changes, execute_survives}
-use Rattle.station_schema.specs.Calls.{Alters, Edits, IsInside}
-use Rattle.station_schema.specs.Schema.{station_schema}
-use Rattle.station_schema.specs.Tables.{Tables}
 
 pub made_by : {S : Type 0} (g : Ghosts S) (old new : Held S) (sql : List ℕ) (params : Row) (change : Tables → Tables) → ((count : ℕ) → IsInside (state g old) → Executes sql params (state g old) (state g new) (Ok count) → Edits (state g old) (state g new) change)
     → (r : Result ℕ Error) → (HasCleanDisk (state g new) → Executes sql params (state g old) (state g new) r) → Alters g old new r change

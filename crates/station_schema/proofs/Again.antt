@@ -1,28 +1,14 @@
 -- The tables of a database that obeys the schema of a station are a station's.
 use Rattle.std.proofs.Common.{◌≡◌, ◌++◌, ℕ, List, IsTrue, [], ◌∷◌, refl, sym, ap, subst, ◌∙◌, arith, codes}
-use Rattle.sqlite.specs.Schema.{Schema}
-use Rattle.sqlite.specs.State.{IsLive}
-use Rattle.sqlite.specs.Held.{Held, state}
-use Rattle.sqlite.specs.Kind.TheVariants.{Integer}
+use Rattle.station_schema.proofs.Common.{Schema, IsLive, Held, state, Integer, IsLaidOut, Keeps, View, IsShaped, IsOrdered, catalog_tree, IsListed, Ghosts, AreEntries, AreListed, key_column, schema_with, old_schema, station_schema, station, waybill, waybill2, stock, flight, moves, expected, part, trail, outbox, kept_key, kept_text, counts, build, IsTyped, IsStation, IsOldStation, LiesInOrder, drop, AllByRecursion, Table}
 use Rattle.sqlite_schema.specs.declared.schema.Constraint.TheVariants.{Datatype, NotNull, Unique}
-use Rattle.sqlite_schema.specs.Rules.{IsLaidOut, Keeps}
 use Rattle.sqlite_catalog.specs.Listing.{IsSound}
 use Rattle.sqlite_catalog.proofs.LayoutLemmas.{laid_out, objects_rise}
-use Rattle.sqlite_trees.specs.View.{View, IsShaped, IsOrdered}
-use Rattle.sqlite_trees.specs.Objects.{catalog_tree, IsListed}
-use Rattle.sqlite_trees.specs.declared.store.Store.{Ghosts}
 use Rattle.sqlite_trees.specs.declared.store.Shape.TheVariants.{Table as Rows}
-use Rattle.station_schema.specs.ColumnKeys.{AreEntries, AreListed}
-use Rattle.station_schema.specs.Schema.{key_column, schema_with, old_schema, station_schema, station, waybill, waybill2, stock, flight, moves, expected, part, trail, outbox, kept_key, kept_text, counts, build}
 use Rattle.station_schema.specs.Tables as table
-use Rattle.station_schema.specs.Tables.{IsTyped, IsStation, IsOldStation}
 use Rattle.station_schema.proofs.Keys.{stock_total, flight_total, expected_total, part_total, kept_total, kept_text_total, count_total, build_total}
-use Rattle.station_schema.specs.Own.{LiesInOrder}
 use Rattle.station_schema.proofs.Compared.{stock_compares, flight_compares, expected_compares, part_compares, kept_compares, kept_text_compares, count_compares, build_compares}
 use Rattle.station_schema.proofs.Typed.{wanted_of, rows_listed, rows_entered}
-use Rattle.std.specs.Prelude.{drop}
-use Rattle.std.specs.List.{AllByRecursion}
-use Rattle.sqlite.specs.Table.{Table}
 
 -- the tables of both versions, and more of them
 module _ (more : List Table) (v : View) (listed : IsListed (v.trees catalog_tree) v.shape v.reals) (ordered : IsOrdered v.shape v.trees) (schema : Schema) (sound : IsSound schema v.trees) (has : schema ≡ schema_with more) where

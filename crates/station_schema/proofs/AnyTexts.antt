@@ -1,17 +1,9 @@
 -- What texts mean under a schema.
 use Rattle.std.proofs.Common.{◌≡◌, ℕ, List, [], codes, false, Ok, Some, slice_get, refl}
 use Rattle.sqlite.specs.Collation.TheVariants.{Binary}
-use Rattle.sqlite_value.specs.declared.keys.Key.{Key}
-use Rattle.sqlite.specs.Term.{Term, col}
-use Rattle.sqlite_schema.specs.declared.program.Program.{Program}
-use Rattle.sqlite.specs.Query.{Query}
-use Rattle.sqlite.specs.Schema.{Schema}
-use Rattle.sqlite.specs.Command.{Command}
-use Rattle.sqlite.specs.Command.TheVariants.{Select, CreateTable, CreateIndex, Begin, Commit, Rollback}
+use Rattle.station_schema.proofs.Common.{Key, Term, col, Program, Query, Schema, Command, Select, CreateTable, CreateIndex, Begin, Commit, Rollback, reads_listing, IsPlain, command_of, statement_of, Table}
 use Rattle.sqlite_tied.specs.Compute.{everything}
-use Rattle.sqlite.specs.Listing.{understood, reads_listing}
-use Rattle.sqlite.proofs.Callers.{IsPlain, command_of, statement_of}
-use Rattle.sqlite.specs.Table.{Table}
+use Rattle.sqlite.specs.Listing.{understood}
 use Rattle.sqlite.specs.Compile.{table_defined_by, index_defined_by}
 use Rattle.sqlite_schema.specs.declared.schema.Index.{Index}
 

@@ -1,43 +1,10 @@
 -- What each kind of statement does to a table whose key is made of columns, whatever the table.
 use Rattle.std.proofs.Common.{◌≡◌, ◌≤◌, ◌<ℤ◌, ℕ, ℤ, pos, ◌+ℤ◌, List, [], ◌∷◌, ◌++◌, map, filter, length, Bool, true, false, cond, not, None, option_map, refl, sym, ap, ap₂, subst, ◌∙◌, arith, int_eq, Ordering, Less, IsPermutation}
-use Rattle.std.specs.Prelude.{option_to_list, ◌&&◌, drop}
-use Rattle.std.specs.List.{AllByRecursion, list_all}
-use Rattle.std.specs.Cmp.{IsTotalOrder}
-use Rattle.std.specs.Ordering.{eq_by_cmp}
-use Rattle.std.specs.FinMap.{FinMap, IsAntisymmetric, find, entries, get, insert, remove, from_entries, get-from_entries, from_entries_push}
-use Rattle.std.proofs.lemmas.Int.{ints}
-use Rattle.std.proofs.lemmas.List.Sorted.{IsPermutation-map, IsPermutation-trans, IsPermutation-sym, length_permutation}
-use Rattle.sqlite.specs.declared.types.Value.TheVariants.{Null, Int}
-use Rattle.sqlite.specs.Order.{Row}
-use Rattle.sqlite.specs.Tree.{Trees, rowid, IsAscending}
-use Rattle.sqlite.specs.Edit.{id_in, next_rowid, edit_of, Applies}
-use Rattle.sqlite.specs.Rowids.TheVariants.{Chosen, Given}
-use Rattle.sqlite.specs.Table.{Table}
-use Rattle.sqlite.specs.Schema.{Schema}
-use Rattle.sqlite.specs.Program.{overlay}
-use Rattle.sqlite.specs.Query.{Output, output, output_cmp}
-use Rattle.sqlite.specs.Term.{Term, eval_all, holds}
-use Rattle.sqlite.specs.Effect.{Answers}
-use Rattle.sqlite_schema.specs.declared.schema.Keys.{Keys}
-use Rattle.sqlite_rules.specs.Calls.{ids_of}
-use Rattle.sqlite_value.specs.declared.keys.Key.{Key}
-use Rattle.sqlite_value.specs.Keys.{plain}
-use Rattle.sqlite_schema.specs.Rules.{agree, differ, clashes}
-use Rattle.sqlite_sql.specs.declared.ops.CompareOp.TheVariants.{Ne}
+use Rattle.station_schema.proofs.Common.{option_to_list, ◌&&◌, drop, AllByRecursion, list_all, IsTotalOrder, eq_by_cmp, FinMap, IsAntisymmetric, find, entries, get, insert, remove, from_entries, get-from_entries, from_entries_push, ints, IsPermutation-map, IsPermutation-trans, IsPermutation-sym, length_permutation, Null, Int, Row, Trees, rowid, IsAscending, id_in, next_rowid, edit_of, Applies, Chosen, Given, Table, Schema, overlay, Output, output, output_cmp, Term, eval_all, holds, Answers, Keys, ids_of, Key, plain, agree, differ, clashes, Ne, IsKeyedBy, next_key, insert_by, above_all, IsKeyedBy-insert_by, IsKeyedBy-delete_where, IsKeyedBy-update_where, sorted_unique, map_back, all_weaker, all_both, all_map, all_unmap, none_from_any, map-map, map_same, filter-map, filter_same, ascending-append, ascending-filter, ascending-map, ascending_weaker, IsPermutation-filter, at_end, last_table, matches_are, at_ints, numbered, numbered_in, AreEntries, adjust, length-map, update_where, cast_row}
 use Rattle.sqlite_sql.proofs.QueryLemmas.{output_cmp_total}
-use Rattle.sqlite_keyed.specs.Keyed.{IsKeyedBy, next_key, insert_by}
-use Rattle.sqlite_keyed.proofs.KeyedLemmas.{above_all, IsKeyedBy-insert_by, IsKeyedBy-delete_where, IsKeyedBy-update_where}
 use Rattle.sqlite_keyed.proofs.SliceLemmas.{insert_next}
-use Rattle.sqlite_keyed.proofs.SortLemmas.{sorted_unique}
-use Rattle.sqlite_keyed.proofs.ListLemmas.{map_back, all_weaker, all_both, all_map, all_unmap, none_from_any, map-map, map_same, filter-map, filter_same, ascending-append, ascending-filter, ascending-map, ascending_weaker, IsPermutation-filter}
-use Rattle.sqlite_typed.proofs.AnswerLemmas.{at_end, last_table, matches_are}
-use Rattle.sqlite_typed.proofs.TestLemmas.{at_ints}
-use Rattle.station_schema.specs.ColumnKeys.{numbered, numbered_in, AreEntries, adjust}
 use Rattle.station_schema.proofs.Keyed.{one_table, no_overlay, any_rows, few_rows, puts, removed_any, changed, fold-map}
 use Rattle.station_schema.proofs.Maps.{all_passed, ascending_where, same_one, map_one, entries_of, entries_rise, entry_at, removed_is, found_none, at_most_one, adjusted_is, changes_at}
-use Rattle.std.proofs.lemmas.List.{length-map}
-use Rattle.sqlite_keyed.specs.Lists.{update_where}
-use Rattle.sqlite.specs.Cast.{cast_row}
 
 abbrev pub number : {E : Type 0} → ℤ × E → ℤ
 number n = n.0

@@ -1,16 +1,10 @@
 -- How UNIQUE compares the keys that are made of columns.
 use Rattle.std.proofs.Common.{◌≡◌, ◌∙◌, [], ◌∷◌, ap₂, refl, sym, false, int_cmp, int_eq}
-use Rattle.std.specs.Prelude.{◌&&◌}
-use Rattle.std.specs.Ordering.{eq_by_cmp}
+use Rattle.station_schema.proofs.Common.{◌&&◌, eq_by_cmp, Eq, pair_cmp, at_ints, at_texts, last_term, then_term, bytes_cmp, StockKey, FlightKey, ExpectedKey, PartKey, stock_cmp, stock_row, flight_cmp, flight_row, expected_cmp, expected_row, part_cmp, part_row, kept_cmp, kept_row, kept_text_cmp, kept_text_row, count_cmp, count_row, build_cmp, build_row}
 use Rattle.sqlite_value.specs.Keys.{first_key}
-use Rattle.sqlite_sql.specs.declared.ops.CompareOp.TheVariants.{Eq}
-use Rattle.sqlite_keyed.proofs.SortLemmas.{pair_cmp}
-use Rattle.sqlite_typed.proofs.TestLemmas.{at_ints, at_texts, last_term, then_term}
-use Rattle.sqlite_typed.specs.Tests.{bytes_cmp}
 use Rattle.station_schema.proofs.ColumnKeys.{Compares}
 use Rattle.station_schema.proofs.OneRow.{int_tied, pair_eq}
 use Rattle.station_schema.proofs.Keys.{stock_total, flight_total, expected_total, part_total, kept_total, kept_text_total, count_total, build_total}
-use Rattle.station_schema.specs.Tables.{StockKey, FlightKey, ExpectedKey, PartKey, stock_cmp, stock_row, flight_cmp, flight_row, expected_cmp, expected_row, part_cmp, part_row, kept_cmp, kept_row, kept_text_cmp, kept_text_row, count_cmp, count_row, build_cmp, build_row}
 
 -- two numbers; a text and a number; a text and two numbers; the key of a part
 numbers_eq : (j k : StockKey) → eq_by_cmp stock_cmp j k ≡ (int_eq j.0 k.0 && int_eq j.1 k.1)

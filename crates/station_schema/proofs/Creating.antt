@@ -1,22 +1,12 @@
 -- From no tables to those of a station.
 use Rattle.std.proofs.Common.{◌≡◌, ◌<◌, ◌+◌, ◌++◌, ℕ, zero, suc, true, false, IsTrue, List, [], ◌∷◌, length, refl, sym, ap, subst, ◌∙◌, get_or, drop, map, arith, Result, Ok, Err}
-use Rattle.std.proofs.lemmas.List.{length-map}
+use Rattle.station_schema.proofs.Common.{length-map, AllByRecursion, lacks_sequence, Database, Schema, State, Executes, KeepsCommit, Shows, Survives, Table, Trees, Error, IsMade, Makes, IsInside, no_schema, station_schema, station, waybill, waybill2, stock, flight, moves, expected, part, trail, outbox, kept_key, kept_text, counts, build, moves_index}
 use Rattle.std.specs.Borrow.{Bor}
 use Rattle.std.specs.Fmt.{digits}
-use Rattle.std.specs.List.{AllByRecursion}
 use Rattle.sqlite.specs.Change.{created, next_tree, KeepsRows}
-use Rattle.sqlite.specs.Does.{lacks_sequence}
-use Rattle.sqlite.specs.Effect.{Database}
-use Rattle.sqlite.specs.Schema.{Schema}
-use Rattle.sqlite.specs.State.{State, CommitsBy, Executes, KeepsCommit, Shows, Survives}
-use Rattle.sqlite.specs.Table.{Table}
-use Rattle.sqlite.specs.Tree.{Trees}
-use Rattle.sqlite.specs.declared.error.Error.{Error}
-use Rattle.station_schema.specs.Effects.{IsMade, Makes}
+use Rattle.sqlite.specs.State.{CommitsBy}
 use Rattle.station_schema.proofs.Making.{makes_it, create_survives, indexes_it, index_survives}
 use Rattle.station_schema.proofs.AnyTexts.{IsCreate}
-use Rattle.station_schema.specs.Calls.{IsInside}
-use Rattle.station_schema.specs.Schema.{no_schema, station_schema, station, waybill, waybill2, stock, flight, moves, expected, part, trail, outbox, kept_key, kept_text, counts, build, moves_index}
 use Rattle.station_schema.specs.declared.declarations.TheConstants.{DECLARATIONS, STATION, WAYBILL, STOCK, FLIGHT, MOVES, MOVES_AWB, EXPECTED, PART, TRAIL, OUTBOX, KEPT_KEY, KEPT_TEXT, COUNTS, BUILD, WAYBILL2}
 use Rattle.station_schema.proofs.Stored.{made_station}
 use Rattle.station_schema.proofs.Texts.{made, station_is, waybill_is, stock_is, flight_is, moves_is, moves_awb_is, expected_is, part_is, trail_is, outbox_is, kept_key_is, kept_text_is, counts_is, build_is, waybill2_is}

@@ -1,5 +1,5 @@
 -- A store in files lies in order, where the disk may show what it holds.
-use Rattle.std.specs.Prelude.{◌≡◌, IsTrue, List}
+use Rattle.station_schema.proofs.Common.{◌≡◌, IsTrue, List, IsOrdered, catalog_tree, IsListed, LiesInOrder}
 use Rattle.std.proofs.Common.{subst}
 use Rattle.std.proofs.Math.Logic.{∥∥₁_elim}
 use Rattle.sqlite_disk.specs.declared.Disk.{Ghosts}
@@ -9,9 +9,7 @@ use Rattle.sqlite_pool.specs.StoredLaws.{recovers_once}
 use Rattle.sqlite_pool.specs.File.{in_use}
 use Rattle.sqlite_pool.proofs.StateLemmas.{settled}
 use Rattle.sqlite_pages.specs.PageMap.{PageMap}
-use Rattle.sqlite_trees.specs.View.{IsOrdered}
 use Rattle.sqlite_trees.specs.Props.{IsOrdered-prop}
-use Rattle.sqlite_trees.specs.Objects.{catalog_tree, IsListed}
 use Rattle.sqlite_store.specs.declared.catalog.Wanted.{Wanted}
 use Rattle.sqlite_store.specs.declared.store.FileStore.{FileStore}
 use Rattle.sqlite_store.specs.FileStore.{state, schema_in, schema_of, view}
@@ -21,7 +19,6 @@ use Rattle.sqlite_store.specs.Listed.{catalog_rows, is_listed}
 use Rattle.sqlite_store.specs.Listing.{all_shapes, file_trees, IsOurs}
 use Rattle.sqlite_store.proofs.ListingLemmas.{all_ordered}
 use Rattle.sqlite.specs.Files.{over_files}
-use Rattle.station_schema.specs.Own.{LiesInOrder}
 
 module _ {D : Type 0} {g : Ghosts D} (stays : SeenMayStay g) (it : FileStore D g) (is_open : IsTrue (view it).is_open) where
   abbrev pages : PageMap

@@ -1,29 +1,15 @@
 -- Rows that a query gives one at a time, and the sink that takes them.
 use Rattle.std.proofs.Common.{◌≡◌, ◌⊎◌, inl, inr, ℕ, ◌≤◌, Bool, true, false, List, [], ◌∷◌, ◌++◌, append-nil, append_assoc, map, take, length, ap, Some, None, Ok, Err, Result, IsTrue, refl, sym, ◌∙◌, subst, arith}
-use Rattle.std.specs.Prelude.{IsErr}
+use Rattle.station_schema.proofs.Common.{IsErr, take-map, Held, state, Database, reads_listing, IsSourceOf, Row, State, HasCleanDisk, IsStatement, IsUnchanged, ShowsRows, Survives, Error, Compiled, Ghosts, Command, Select, Query, Schema, begins_shown, command_of, EndsIn, given_begin, unchanged_then, survives_then, Stops}
 use Rattle.std.proofs.Math.Seq.{take-append_seam}
-use Rattle.std.proofs.lemmas.List.{take-map}
 use Rattle.sqlite.specs.Given.{HasGiven, IsPlain}
-use Rattle.sqlite.specs.Held.{Held, state}
-use Rattle.sqlite.specs.Effect.{Database}
 use Rattle.sqlite.specs.Clock.{timed}
-use Rattle.sqlite.specs.Listing.{understood, reads_listing, IsSourceOf}
-use Rattle.sqlite.specs.Order.{Row}
-use Rattle.sqlite.specs.State.{State, HasCleanDisk, IsStatement, IsUnchanged, ShowsRows, Survives, FailsToQuery, Shown, Begins}
-use Rattle.sqlite.specs.declared.error.Error.{Error}
-use Rattle.sqlite_resolve.specs.declared.compiled.Compiled.{Compiled}
+use Rattle.sqlite.specs.Listing.{understood}
+use Rattle.sqlite.specs.State.{FailsToQuery, Shown, Begins}
 use Rattle.sqlite_resolve.specs.declared.error.CompileError.{CompileError}
-use Rattle.sqlite_trees.specs.declared.store.Store.{Ghosts}
-use Rattle.sqlite.specs.Command.{Command}
-use Rattle.sqlite.specs.Command.TheVariants.{Select}
-use Rattle.sqlite.specs.Query.{Query}
-use Rattle.sqlite.specs.Schema.{Schema}
-use Rattle.sqlite.proofs.Callers.{begins_shown, command_of, EndsIn, given_begin, unchanged_then}
-use Rattle.sqlite.proofs.StateLemmas.{survives_then}
 use Rattle.sqlite.proofs.StreamLemmas.{given_plain, rolled_back_since}
 use Rattle.station_schema.proofs.Inside.{query_stops}
 use Rattle.station_schema.proofs.AnyTexts.{asks}
-use Rattle.station_schema.specs.Effects.{Stops}
 use Rattle.station_schema.specs.Streams.{IsBeginning, Moves, Streams, StreamsRows, taking}
 use Rattle.row_sinks.specs.Handed.{HandedOut}
 

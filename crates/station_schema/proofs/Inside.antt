@@ -1,21 +1,11 @@
 -- What a statement does to a connection in a transaction, whatever the statement.
 use Rattle.std.proofs.Common.{◌≡◌, ◌≢◌, inl, inr, ℕ, List, true, false, cond, None, Ok, Err, IsTrue, Result, sym, ap, subst, ◌∙◌, arith}
 use Rattle.std.proofs.lemmas.Bool.{cases_Bool}
-use Rattle.sqlite.specs.Order.{Row}
-use Rattle.sqlite.specs.Tree.{Trees}
-use Rattle.sqlite.specs.Schema.{Schema}
-use Rattle.sqlite.specs.Command.{Command}
-use Rattle.sqlite.specs.Command.TheVariants.{Commit, Release}
-use Rattle.sqlite_resolve.specs.declared.compiled.Compiled.{Compiled}
-use Rattle.sqlite.specs.declared.error.Error.{Error}
+use Rattle.station_schema.proofs.Common.{Row, Trees, Schema, Command, Commit, Release, Compiled, Error, State, KeepsCommit, Shows, HasCleanDisk, Survives, IsUnchanged, Fails, Executes, RunsCommand, shows_rows, FailsToShow, ShowsRows, survives_then, IsPlain, command_of, Vec, IfOk, IfErr, Stops, Reads}
 use Rattle.sqlite.specs.Clock.{timed}
 use Rattle.sqlite.specs.Listing.{understood}
-use Rattle.sqlite.specs.State.{State, KeepsCommit, Shows, HasCleanDisk, Survives, IsUnchanged, Fails, Executes, ExecutesIn, IsNotRun, RunsCommand, shows_rows, FailsToQuery, FailsToShow, Shown, ShowsRows, CommitsBy}
-use Rattle.sqlite.proofs.StateLemmas.{survives_then}
-use Rattle.sqlite.proofs.Callers.{IsPlain, command_of}
-use Rattle.std.specs.Prelude.{Vec, IfOk, IfErr}
+use Rattle.sqlite.specs.State.{ExecutesIn, IsNotRun, FailsToQuery, Shown, CommitsBy}
 use Rattle.std.specs.declared.alloc.Global.{Global}
-use Rattle.station_schema.specs.Effects.{Stops, Reads}
 
 pub transaction_stays : (old new : State) → IsTrue old.in_transaction → Shows old new new.now (cond old.in_transaction old.committed new.now) old.in_transaction → Shows old new new.now old.committed true
 transaction_stays old new begun h = subst (λ b. Shows old new new.now (cond b old.committed new.now) b) begun h

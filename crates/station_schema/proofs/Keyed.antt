@@ -1,37 +1,10 @@
 -- What each kind of statement does to a table that stands for a list of typed rows, in the order of their rowids.
 use Rattle.std.proofs.Common.{◌≡◌, ◌<ℤ◌, ℕ, ℤ, pos, negsuc, List, [], ◌∷◌, map, filter, fold, length, slice_get, Bool, true, false, cond, not, Some, None, Option, refl, sym, ap, ap₂, subst, ◌∙◌, arith, nat_le, int_eq, int_cmp, Greater, is_some, unwrap_or, ◌≤◌, ◌-◌, ◌^◌, IsPermutation}
-use Rattle.std.specs.Prelude.{◌||◌, ◌&&◌, drop}
-use Rattle.std.specs.List.{AllByRecursion, list_all}
-use Rattle.std.specs.Ordering.{match_ordering}
-use Rattle.std.proofs.lemmas.Int.{ints}
-use Rattle.std.proofs.lemmas.List.Sorted.{length_permutation}
-use Rattle.sqlite.specs.declared.types.Value.TheVariants.{Null, Int}
-use Rattle.sqlite.specs.Order.{Row}
-use Rattle.sqlite_value.proofs.OrderLemmas.{value_cmp-Int}
-use Rattle.sqlite.specs.Tree.{Trees, rowid, put_row}
-use Rattle.sqlite.specs.Edit.{is_taken, are_fresh, id_in, edit_of, numbered, with_rowid, without_all, put_all, left_by, Applies}
-use Rattle.sqlite.specs.Cast.{cast_row}
-use Rattle.sqlite_rules.specs.Calls.{ids_of}
+use Rattle.station_schema.proofs.Common.{◌||◌, ◌&&◌, drop, AllByRecursion, list_all, match_ordering, ints, length_permutation, Null, Int, Row, value_cmp-Int, Trees, rowid, put_row, is_taken, are_fresh, id_in, edit_of, with_rowid, without_all, put_all, left_by, Applies, cast_row, ids_of, IsPermutation-map, IsPermutation-sym, Chosen, Given, Table, Keys, overlay, Query, Output, output, inner, end, Term, lit, eval_all, holds, Schema, Answers, Key, length-map, one_permutation, IsKeyedBy, has_key, insert_by, update_where, delete_where, without_key, Less-from_lt, all_weaker, all_map, all-filter, map-map, map_same, Source, at_end, last_table, matches_are}
+use Rattle.sqlite.specs.Edit.{numbered}
 use Rattle.sqlite_keyed.proofs.WriteLemmas.{removes_delete}
-use Rattle.std.proofs.lemmas.List.Sorted.{IsPermutation-map, IsPermutation-sym}
 use Rattle.std.proofs.Common.{subst₂}
-use Rattle.sqlite.specs.Rowids.TheVariants.{Chosen, Given}
-use Rattle.sqlite.specs.Table.{Table}
-use Rattle.sqlite_schema.specs.declared.schema.Keys.{Keys}
-use Rattle.sqlite.specs.Program.{overlay}
-use Rattle.sqlite.specs.Query.{Query, Output, output, inner, end}
-use Rattle.sqlite.specs.Term.{Term, lit, eval_all, holds}
-use Rattle.sqlite.specs.Schema.{Schema}
-use Rattle.sqlite.specs.Effect.{Answers}
-use Rattle.sqlite_value.specs.declared.keys.Key.{Key}
-use Rattle.std.proofs.lemmas.List.{length-map}
-use Rattle.sqlite.proofs.Callers.{one_permutation}
-use Rattle.sqlite_keyed.specs.Keyed.{IsKeyedBy, has_key, insert_by}
-use Rattle.sqlite_keyed.specs.Lists.{update_where, delete_where, without_key}
 use Rattle.station_schema.proofs.Many.{any_order}
-use Rattle.sqlite_keyed.proofs.KeyedLemmas.{Less-from_lt}
-use Rattle.sqlite_keyed.proofs.ListLemmas.{all_weaker, all_map, all-filter, map-map, map_same}
-use Rattle.sqlite_typed.proofs.AnswerLemmas.{Source, at_end, last_table, matches_are}
 use Rattle.sqlite_typed.proofs.RowLemmas.{puts-map, deletes-map}
 
 -- a query with no subquery in FROM reads the trees themselves

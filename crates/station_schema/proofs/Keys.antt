@@ -1,11 +1,7 @@
 -- The orders of the keys that are made of columns.
 use Rattle.std.proofs.Common.{int_cmp}
-use Rattle.std.specs.Cmp.{IsTotalOrder, int_cmp_total}
-use Rattle.std.specs.FinMap.{IsAntisymmetric, int_cmp-IsAntisymmetric}
-use Rattle.sqlite_typed.specs.Tests.{bytes_cmp}
-use Rattle.sqlite_keyed.proofs.SortLemmas.{pair_cmp}
+use Rattle.station_schema.proofs.Common.{IsTotalOrder, int_cmp_total, IsAntisymmetric, int_cmp-IsAntisymmetric, bytes_cmp, pair_cmp, stock_cmp, flight_cmp, expected_cmp, part_cmp, kept_cmp, kept_text_cmp, count_cmp, build_cmp}
 use Rattle.station_schema.proofs.OneRow.{pair_total, pair_same, texts_total, texts_same}
-use Rattle.station_schema.specs.Tables.{stock_cmp, flight_cmp, expected_cmp, part_cmp, kept_cmp, kept_text_cmp, count_cmp, build_cmp}
 
 pub stock_total : IsTotalOrder stock_cmp
 stock_total = pair_total int_cmp int_cmp int_cmp_total int_cmp_total

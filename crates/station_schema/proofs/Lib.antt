@@ -1,3 +1,4 @@
+pub mod Common
 pub mod Again
 pub mod Begun
 pub mod Compared

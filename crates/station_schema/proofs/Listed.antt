@@ -1,29 +1,6 @@
 -- What each kind of statement does to a table whose key is the rowid, whatever the table.
 use Rattle.std.proofs.Common.{◌≡◌, ◌<ℤ◌, ℕ, ℤ, List, [], ◌∷◌, map, filter, length, Bool, true, false, cond, Some, None, refl, sym, ap, ap₂, subst, ◌∙◌, arith, int_eq, map-id, ◌≤◌}
-use Rattle.std.specs.Prelude.{option_to_list, drop, Option}
-use Rattle.std.specs.List.{AllByRecursion, list_all}
-use Rattle.std.proofs.lemmas.Int.{ints}
-use Rattle.sqlite.specs.declared.types.Value.TheVariants.{Null, Int}
-use Rattle.sqlite.specs.Order.{Row, value_cmp}
-use Rattle.sqlite_value.proofs.OrderLemmas.{value_cmp-Int}
-use Rattle.sqlite.specs.Tree.{Trees, rowid}
-use Rattle.sqlite.specs.Edit.{id_in, edit_of, Applies}
-use Rattle.sqlite.specs.Cast.{cast_row}
-use Rattle.sqlite_rules.specs.Calls.{ids_of}
-use Rattle.sqlite.specs.Rowids.TheVariants.{Given}
-use Rattle.sqlite.specs.Table.{Table}
-use Rattle.sqlite_schema.specs.declared.schema.Keys.{Keys}
-use Rattle.sqlite.specs.Program.{overlay}
-use Rattle.sqlite.specs.Term.{Term, eval_all, holds}
-use Rattle.sqlite.specs.Schema.{Schema}
-use Rattle.sqlite.specs.Effect.{Answers}
-use Rattle.sqlite_typed.proofs.TestLemmas.{last_key}
-use Rattle.sqlite_keyed.specs.Keyed.{IsKeyedBy, get_by}
-use Rattle.sqlite_keyed.specs.Lists.{update_where}
-use Rattle.sqlite_keyed.proofs.KeyedLemmas.{IsKeyedBy-update_where}
-use Rattle.sqlite_keyed.proofs.ListLemmas.{all_weaker, filter_none}
-use Rattle.sqlite_typed.proofs.AnswerLemmas.{answer_by_keys}
-use Rattle.station_schema.specs.ColumnKeys.{AreListed}
+use Rattle.station_schema.proofs.Common.{option_to_list, drop, Option, AllByRecursion, list_all, ints, Null, Int, Row, value_cmp, value_cmp-Int, Trees, rowid, id_in, edit_of, Applies, cast_row, ids_of, Given, Table, Keys, overlay, Term, eval_all, holds, Schema, Answers, last_key, IsKeyedBy, get_by, update_where, IsKeyedBy-update_where, all_weaker, filter_none, answer_by_keys, AreListed}
 use Rattle.station_schema.proofs.Keyed.{one_table, few_rows, changed, seen}
 use Rattle.station_schema.proofs.AnyTexts.{by_column}
 

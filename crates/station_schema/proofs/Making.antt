@@ -1,20 +1,10 @@
 -- CREATE TABLE, inside a transaction.
 use Rattle.std.proofs.Common.{◌≡◌, ℕ, List, [], ◌∷◌, false, None, Ok, Err, Result, sym, ap, subst, ◌∙◌}
-use Rattle.sqlite.specs.Table.{Table}
-use Rattle.std.specs.List.{AllByRecursion}
-use Rattle.sqlite.specs.Schema.{Schema}
-use Rattle.sqlite.specs.Command.TheVariants.{CreateTable, CreateIndex}
-use Rattle.sqlite.specs.declared.error.Error.{Error}
+use Rattle.station_schema.proofs.Common.{Table, AllByRecursion, Schema, CreateTable, CreateIndex, Error, Tally, lacks_sequence, Does, MakesIndex, Defines, AtPlace, mode_of, Database, State, Executes, Writes, Survives, survives_weaker, runs_as, IsMade, Makes}
 use Rattle.sqlite.specs.Change.{created, indexed, next_tree, KeepsRows}
-use Rattle.sqlite.specs.Does.{Tally, lacks_sequence, Does, MakesIndex, Defines, AtPlace}
-use Rattle.sqlite.specs.State.{mode_of}
-use Rattle.sqlite.specs.Effect.{Database}
-use Rattle.sqlite.specs.State.{State, Executes, Writes, Survives, CommitsBy}
-use Rattle.sqlite.proofs.StateLemmas.{survives_weaker}
-use Rattle.sqlite.proofs.Callers.{runs_as}
+use Rattle.sqlite.specs.State.{CommitsBy}
 use Rattle.sqlite_schema.specs.declared.schema.Index.{Index}
 use Rattle.std.proofs.Common.{slice_get}
-use Rattle.station_schema.specs.Effects.{IsMade, Makes}
 use Rattle.station_schema.proofs.Inside.{execute_stops, keeps, commits_nothing, transaction_stays}
 use Rattle.station_schema.proofs.Shared.{went, same_value}
 use Rattle.station_schema.proofs.AnyTexts.{IsCreate, IsIndex}

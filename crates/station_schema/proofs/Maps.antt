@@ -1,16 +1,7 @@
 -- Maps and lists of entries: each key once, in some order.
 use Rattle.std.proofs.Common.{◌≡◌, ◌≤◌, List, [], ◌∷◌, map, filter, length, Bool, true, false, cond, not, T, Some, None, Option, option_map, is_eq, is_lt, refl, sym, ap, subst, ◌∙◌, arith, Ordering, Less, Equal, Greater, IsPermutation}
-use Rattle.std.specs.Prelude.{option_to_list, unwrap_or, ◌&&◌}
-use Rattle.std.specs.List.{AllByRecursion}
-use Rattle.std.specs.Cmp.{IsTotalOrder, eq_by_cmp_equiv}
-use Rattle.std.specs.Ordering.{eq_by_cmp}
-use Rattle.std.specs.FinMap.{FinMap, IsAntisymmetric, find, put, is_sorted, entries, entries_sorted, empty, get, insert, remove, from_entries, get-insert, get-entries, get-from_entries, get-remove, entries-insert, len-empty, len-entries, same_map}
+use Rattle.station_schema.proofs.Common.{option_to_list, unwrap_or, ◌&&◌, AllByRecursion, IsTotalOrder, eq_by_cmp_equiv, eq_by_cmp, FinMap, IsAntisymmetric, find, put, is_sorted, entries, entries_sorted, empty, get, insert, remove, from_entries, get-insert, get-entries, get-from_entries, get-remove, entries-insert, len-empty, len-entries, same_map, length_permutation, IsPermutation-refl, IsPermutation-cons, IsPermutation-trans, IsPermutation-middle, IsAscending, all_weaker, all_both, filter_none, one_permutation, adjust}
 use Rattle.std.specs.FinMap.Entries.{below_all, by_order, where_key, find-where_key}
-use Rattle.std.proofs.lemmas.List.Sorted.{length_permutation, IsPermutation-refl, IsPermutation-cons, IsPermutation-trans, IsPermutation-middle}
-use Rattle.sqlite.specs.Tree.{IsAscending}
-use Rattle.sqlite_keyed.proofs.ListLemmas.{all_weaker, all_both, filter_none}
-use Rattle.sqlite.proofs.Callers.{one_permutation}
-use Rattle.station_schema.specs.ColumnKeys.{adjust}
 
 no_entries : {E : Type 0} (es : List E) → length es ≡ 0 → es ≡ []
 no_entries [] h = refl

@@ -1,15 +1,12 @@
 -- A store in memory lies in order.
-use Rattle.std.specs.Prelude.{◌==◌, ℕ, zero, suc, List, [], ◌∷◌, map, true, false, refl, if◌then◌else◌}
+use Rattle.station_schema.proofs.Common.{◌==◌, ℕ, zero, suc, List, [], ◌∷◌, map, true, false, refl, if◌then◌else◌, catalog_tree, version_tree, version_rows, with_version, IsShaped, IsOrdered, LiesInOrder}
 use Rattle.std.proofs.Math.Logic.{∥∥₁_elim}
 use Rattle.sqlite_trees.specs.declared.memory.tree.Tree.{Tree}
 use Rattle.sqlite_trees.specs.declared.store.Shape.TheVariants.{Table}
 use Rattle.sqlite_trees.specs.Memory.{shape_of, rows_of, shapes, forest, objects_of, all_shapes, heading}
 use Rattle.sqlite_trees.specs.Listing.{objects_are_ordered, objects_are_listed}
-use Rattle.sqlite_trees.specs.Objects.{catalog_tree, version_tree, version_rows, with_version}
 use Rattle.sqlite_trees.specs.Props.{IsShaped-prop}
-use Rattle.sqlite_trees.specs.View.{IsShaped, IsOrdered}
 use Rattle.sqlite.specs.Steps.{over_memory}
-use Rattle.station_schema.specs.Own.{LiesInOrder}
 
 trees_are_ordered : (trees : List Tree) → IsOrdered (shape_of trees) (rows_of trees)
 trees_are_ordered [] t = refl

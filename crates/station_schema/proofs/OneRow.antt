@@ -1,13 +1,7 @@
 -- The orders of the keys that are made of columns.
 use Rattle.std.proofs.Common.{◌≡◌, ◌∙◌, ap, sym, Bool, true, false, ℤ, ℕ, List, refl, ap₂, arith, Ordering, Less, Equal, Greater, is_eq, int_eq, int_cmp}
-use Rattle.std.specs.Prelude.{◌&&◌}
-use Rattle.std.specs.Cmp.{IsTotalOrder, on_total, then_total, tied_itself}
-use Rattle.std.specs.Ordering.{eq_by_cmp, ordering_then}
-use Rattle.std.specs.FinMap.{IsAntisymmetric, nat_cmp-IsAntisymmetric, slice_cmp-IsAntisymmetric}
-use Rattle.std.proofs.lemmas.Int.{ints}
+use Rattle.station_schema.proofs.Common.{◌&&◌, IsTotalOrder, on_total, then_total, tied_itself, eq_by_cmp, ordering_then, IsAntisymmetric, nat_cmp-IsAntisymmetric, slice_cmp-IsAntisymmetric, ints, pair_cmp, bytes_cmp}
 use Rattle.std.proofs.lemmas.Cmp.{nat_list_cmp_total}
-use Rattle.sqlite_keyed.proofs.SortLemmas.{pair_cmp}
-use Rattle.sqlite_typed.specs.Tests.{bytes_cmp}
 
 both_tied : (a b : Ordering) → ordering_then a b ≡ Equal → (a ≡ Equal) × (b ≡ Equal)
 both_tied Less b h = absurd (cc)

@@ -1,13 +1,11 @@
 -- Memory that was just opened.
 use Rattle.std.proofs.Common.{ap}
-use Rattle.std.specs.Prelude.{IfOk, Result, Ok, Err}
+use Rattle.station_schema.proofs.Common.{IfOk, Result, Ok, Err, Held, Database, Tables, tables_of}
 use Rattle.sqlite_trees.specs.declared.memory.MemStore.{MemStore}
-use Rattle.sqlite.specs.Held.{Held, state as held}
+use Rattle.sqlite.specs.Held.{state as held}
 use Rattle.sqlite.specs.Steps.{over_memory, IsEmpty}
-use Rattle.sqlite.specs.Effect.{Database}
 use Rattle.station_schema.specs.Store.{IsAtRest}
 use Rattle.station_schema.specs.Connection.{view_of}
-use Rattle.station_schema.specs.Tables.{Tables, tables_of}
 
 abbrev tables_in : Database → Tables
 tables_in db = tables_of db.trees

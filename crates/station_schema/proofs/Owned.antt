@@ -1,9 +1,7 @@
 -- Trees of which a database reads the schema of a station.
 use Rattle.std.proofs.Common.{◌≡◌, ◌∙◌}
-use Rattle.sqlite.specs.Effect.{Database, IsDatabase}
+use Rattle.station_schema.proofs.Common.{Database, IsDatabase, IsOwn, IsOldOwn, old_schema, station_schema}
 use Rattle.sqlite_catalog.proofs.ReadLemmas.{lists_once}
-use Rattle.station_schema.specs.Own.{IsOwn, IsOldOwn}
-use Rattle.station_schema.specs.Schema.{old_schema, station_schema}
 
 -- a schema is read out of trees in one way
 pub owns : (db : Database) → db.schema ≡ station_schema → IsDatabase db → IsOwn db.trees

@@ -1,22 +1,9 @@
 -- What an INSERT, an UPDATE or a DELETE ran, whatever the schema and the table.
 use Rattle.std.proofs.Common.{◌≡◌, ℕ, List, [], Ok, Some, None, length, slice_get, false, cond, subst, ◌/◌}
-use Rattle.sqlite.specs.Order.{Row}
-use Rattle.sqlite.specs.Term.{Term}
-use Rattle.sqlite.specs.Table.{Table}
-use Rattle.sqlite.specs.Command.TheVariants.{Insert, Update, Delete}
-use Rattle.sqlite.specs.Source.TheVariants.{Values, Query}
-use Rattle.sqlite.specs.Rowids.TheVariants.{Chosen, Given}
-use Rattle.sqlite.specs.Edit.{Edit, edit_of, Applies}
-use Rattle.sqlite.specs.Effect.{Answers, value_rows}
-use Rattle.sqlite.specs.Does.{Does}
-use Rattle.sqlite.specs.State.{State, mode_of, Shows, Executes}
+use Rattle.station_schema.proofs.Common.{Row, Term, Table, Insert, Update, Delete, Values, Chosen, Given, Edit, edit_of, Applies, Answers, value_rows, Does, State, mode_of, Shows, Executes, runs_as, statement_of, ids_of, Keys, Program, Schema}
+use Rattle.sqlite.specs.Source.TheVariants.{Query}
 use Rattle.sqlite.specs.Listing.{understood}
-use Rattle.sqlite.proofs.Callers.{runs_as, statement_of}
 use Rattle.sqlite_rules.specs.Action.{works}
-use Rattle.sqlite_rules.specs.Calls.{ids_of}
-use Rattle.sqlite_schema.specs.declared.schema.Keys.{Keys}
-use Rattle.sqlite_schema.specs.declared.program.Program.{Program}
-use Rattle.sqlite.specs.Schema.{Schema}
 use Rattle.station_schema.proofs.Shared.{inserts, inserts_rows_of, updates, deletes}
 use Rattle.station_schema.proofs.AnyTexts.{Means}
 

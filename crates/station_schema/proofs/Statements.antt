@@ -1,17 +1,9 @@
 -- What a statement on a table of a station does to a connection, whatever the table.
 use Rattle.std.proofs.Common.{◌≡◌, ◌≢◌, ℕ, List, Ok, Err, Result, sym, subst}
-use Rattle.sqlite.specs.Order.{Row}
-use Rattle.sqlite.specs.Command.{Command}
-use Rattle.sqlite.specs.Command.TheVariants.{Commit, Release}
-use Rattle.sqlite.specs.declared.error.Error.{Error}
+use Rattle.station_schema.proofs.Common.{Row, Command, Commit, Release, Error, State, Survives, Executes, CommitsShowing, survives_weaker, IsPlain, command_of, never_commits, station_schema, Tables, IsStation, IsInside, Edits, Changes}
 use Rattle.sqlite.specs.Listing.{understood}
-use Rattle.sqlite.specs.State.{State, Survives, Executes, CommitsBy, CommitsShowing}
-use Rattle.sqlite.proofs.StateLemmas.{survives_weaker}
-use Rattle.sqlite.proofs.Callers.{IsPlain, command_of, never_commits}
+use Rattle.sqlite.specs.State.{CommitsBy}
 use Rattle.station_schema.proofs.Inside.{commits_nothing, execute_stops, keeps}
-use Rattle.station_schema.specs.Schema.{station_schema}
-use Rattle.station_schema.specs.Tables.{Tables, IsStation}
-use Rattle.station_schema.specs.Calls.{IsInside, Edits, Changes}
 
 module _ (sql : List ℕ) (params : Row) (old new : State) where
   pub execute_survives : (command : Command) → command_of (understood station_schema sql) ≡ command → (command ≢ Commit) × ((name : List ℕ) → command ≢ Release name)

@@ -1,17 +1,10 @@
 -- What the statement on `station` does.
 use Rattle.std.proofs.Common.{ℕ, List, [], ◌∷◌, pos, Ok, refl}
-use Rattle.sqlite.specs.declared.types.Value.TheVariants.{Text}
-use Rattle.sqlite.specs.Order.{Row}
-use Rattle.sqlite.specs.Effect.{value_rows}
-use Rattle.sqlite.specs.State.{State, Executes, Survives, CommitsBy}
-use Rattle.sqlite_keyed.specs.Keyed.{insert_by}
-use Rattle.sqlite_keyed.proofs.KeyedLemmas.{IsKeyedBy-insert_by}
+use Rattle.station_schema.proofs.Common.{Text, Row, value_rows, State, Executes, Survives, insert_by, IsKeyedBy-insert_by, station_schema, station, tables_of, typed_stations, station_row, station_id, IsInside, Edits, new_station, with_station}
+use Rattle.sqlite.specs.State.{CommitsBy}
 use Rattle.station_schema.proofs.Shared.{cast_int, cast_null}
 use Rattle.station_schema.proofs.Keyed.{puts}
 use Rattle.station_schema.proofs.Ran.{IsPlaced, insert_ran}
-use Rattle.station_schema.specs.Schema.{station_schema, station}
-use Rattle.station_schema.specs.Tables.{tables_of, typed_stations, station_row, station_id}
-use Rattle.station_schema.specs.Calls.{IsInside, Edits, new_station, with_station}
 use Rattle.station_schema.proofs.Statements.{execute_survives}
 use Rattle.station_schema.proofs.Texts.{insert_station_text, insert_station_is, station_terms}
 use Rattle.station_schema.proofs.Stored.{edits_stations}

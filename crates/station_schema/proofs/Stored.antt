@@ -1,20 +1,7 @@
 -- From the rows of a tree to a table, and back.
 use Rattle.std.proofs.Common.{◌≡◌, ◌≢◌, ◌==◌, ℕ, ℤ, List, [], ◌∷◌, map, true, false, cond, refl, sym, ap, subst, ◌∙◌, arith}
-use Rattle.std.specs.Prelude.{if◌then◌else◌, Bool}
-use Rattle.std.specs.List.{AllByRecursion}
-use Rattle.std.specs.FinMap.{FinMap}
+use Rattle.station_schema.proofs.Common.{if◌then◌else◌, Bool, AllByRecursion, FinMap, Row, Trees, Table, Database, State, Shows, IsKeyedBy, map_back, station_schema, IsInside, Edits, AreEntries, AreListed, Tables, rows_in, tables_in, tables_of, IsTyped, IsStation}
 use Rattle.std.specs.declared.cmp.Ordering.{Ordering}
-use Rattle.sqlite.specs.Order.{Row}
-use Rattle.sqlite.specs.Tree.{Trees}
-use Rattle.sqlite.specs.Table.{Table}
-use Rattle.sqlite.specs.Effect.{Database}
-use Rattle.sqlite.specs.State.{State, Shows}
-use Rattle.sqlite_keyed.specs.Keyed.{IsKeyedBy}
-use Rattle.sqlite_keyed.proofs.ListLemmas.{map_back}
-use Rattle.station_schema.specs.Schema.{station_schema}
-use Rattle.station_schema.specs.Calls.{IsInside, Edits}
-use Rattle.station_schema.specs.ColumnKeys.{AreEntries, AreListed}
-use Rattle.station_schema.specs.Tables.{Tables, rows_in, tables_in, tables_of, IsTyped, IsStation}
 use Rattle.station_schema.specs.Tables as table
 use Rattle.station_schema.proofs.ColumnKeys.{IsMap, reads_back, entries_by}
 use Rattle.station_schema.proofs.Keys.{stock_total, flight_total, expected_total, part_total, kept_total, kept_text_total, count_total, build_total}

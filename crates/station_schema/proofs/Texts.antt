@@ -1,14 +1,9 @@
 -- What the texts that make the tables mean, each under the schema that the ones before it make. Each is computed.
 use Rattle.std.proofs.Common.{ℕ, pos, List, [], ◌∷◌, codes, refl, take}
-use Rattle.sqlite.specs.declared.types.Value.TheVariants.{Null, Int}
-use Rattle.sqlite.specs.Schema.{Schema}
-use Rattle.sqlite.specs.Term.{Term, lit, col}
-use Rattle.sqlite.specs.Source.TheVariants.{Values}
-use Rattle.sqlite.specs.Command.TheVariants.{Insert}
+use Rattle.station_schema.proofs.Common.{Null, Int, Schema, Term, lit, col, Values, Insert, station_schema, station, waybill, waybill2, stock, flight, moves, expected, part, trail, outbox, kept_key, kept_text, counts, build, moves_index}
 use Rattle.sqlite_tied.specs.Compute.{everything}
 use Rattle.sqlite.specs.Listing.{understood}
 use Rattle.station_schema.proofs.AnyTexts.{IsCreate, IsIndex, Means}
-use Rattle.station_schema.specs.Schema.{station_schema, station, waybill, waybill2, stock, flight, moves, expected, part, trail, outbox, kept_key, kept_text, counts, build, moves_index}
 use Rattle.station_schema.specs.declared.declarations.TheConstants.{STATION, WAYBILL, STOCK, FLIGHT, MOVES, MOVES_AWB, EXPECTED, PART, TRAIL, OUTBOX, KEPT_KEY, KEPT_TEXT, COUNTS, BUILD, WAYBILL2}
 
 -- the schema of the first tables and indexes of a station

@@ -1,25 +1,17 @@
 -- BEGIN, COMMIT and ROLLBACK.
 use Rattle.std.proofs.Common.{◌≡◌, ◌≢◌, inl, inr, ℕ, ◌≤◌, List, [], length, Bool, true, false, None, Ok, Err, IsTrue, Result, refl, sym, ap, subst, ◌∙◌, arith}
-use Rattle.sqlite.specs.Order.{Row}
-use Rattle.sqlite.specs.Tree.{Trees}
-use Rattle.sqlite.specs.Schema.{Schema}
-use Rattle.sqlite.specs.Command.{Command}
-use Rattle.sqlite.specs.Command.TheVariants.{Begin as Starts, Commit as Ends, Rollback, Release}
-use Rattle.sqlite_resolve.specs.declared.compiled.Compiled.{Compiled}
+use Rattle.station_schema.proofs.Common.{Row, Trees, Schema, Command, Rollback, Release, Compiled, Error, State, Survives, store_error, IsUnchanged, IsRolledBack, Executes, IsNoStatement, IsMisplaced, MayChange, MayWrite, RunsCommand, RunsAlone, shows_rows, MatchBool, IsSome, survives_weaker, IsPlain, command_of, runs_as, Commits, Stops, IsUndone}
+use Rattle.sqlite.specs.Command.TheVariants.{Begin as Starts, Commit as Ends}
 use Rattle.sqlite_resolve.specs.declared.error.CompileError.{CompileError}
 use Rattle.sqlite_tied.specs.Compute.{everything}
-use Rattle.sqlite.specs.declared.error.Error.{Error}
 use Rattle.sqlite.specs.Listing.{understood}
 use Rattle.sqlite_trees.specs.declared.error.StoreError.{StoreError}
 use Rattle.sqlite_trees.specs.declared.error.StoreError.TheVariants.{OutOfMemory, Io, Corrupt, Full, Broken, Unstorable}
-use Rattle.sqlite.specs.State.{State, Survives, store_error, IsUnchanged, IsRolledBack, Executes, ExecutesIn, IsNotRun, IsNoStatement, IsMisplaced, MayChange, MayWrite, RunsCommand, CommitsBy, RunsAlone, shows_rows}
+use Rattle.sqlite.specs.State.{ExecutesIn, IsNotRun, CommitsBy}
 use Rattle.sqlite.specs.Calls.{IsWrite}
-use Rattle.std.specs.Prelude.{MatchBool, IsSome}
 use Rattle.sqlite.specs.declared.error.Error.TheVariants.{ExecuteReturnedResults, SqliteFailure}
 use Rattle.sqlite.specs.declared.error.ErrorCode.TheVariants as code
-use Rattle.sqlite.proofs.StateLemmas.{survives_weaker}
-use Rattle.sqlite.proofs.Callers.{IsPlain, command_of, runs_as}
-use Rattle.station_schema.specs.Effects.{Begins, Commits, Stops, IsUndone}
+use Rattle.station_schema.specs.Effects.{Begins}
 use Rattle.station_schema.proofs.Inside.{execute_stops}
 use Rattle.station_schema.proofs.AnyTexts.{begin_text, begin_is, commit_text, commit_is, rollback_text, rollback_is}
 

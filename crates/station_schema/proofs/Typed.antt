@@ -1,37 +1,18 @@
 -- The rows of a STRICT table that obeys its rules are typed, and its keys come once, whatever the table.
 use Rattle.std.proofs.Common.{◌≡◌, cond, ◌<◌, ◌<ℤ◌, length, ℕ, zero, suc, ◌+◌, ℤ, List, [], ◌∷◌, map, Bool, true, false, not, Some, None, Option, IsTrue, Ordering, refl, sym, ap, ap₂, subst, ◌∙◌, arith, int_eq, drop-drop}
-use Rattle.std.specs.Prelude.{◌&&◌, ◌||◌, drop}
-use Rattle.std.specs.List.{AllByRecursion}
-use Rattle.std.specs.Cmp.{IsTotalOrder}
-use Rattle.std.specs.Ordering.{eq_by_cmp}
+use Rattle.station_schema.proofs.Common.{◌&&◌, ◌||◌, drop, AllByRecursion, IsTotalOrder, eq_by_cmp, ints, Null, Int, Text, Real, Blob, Row, column, value_cmp, rowid, IsTable, IsAscending, Table, Integer, Any, is_of, are_typed, are_present, has_computed, agree, differ, clashes, Ne, IsShaped, IsKeyedBy, lt_from_Less, ascending_from_map, ascending_weaker, all_weaker, all_both, all_unmap, none_from_any, at_ints, value_cmp-Int, plain, numbered, numbered_in, AreEntries, AreListed, column_of}
 use Rattle.std.proofs.lemmas.Bool.Decides.{nat_tests}
-use Rattle.std.proofs.lemmas.Int.{ints}
 use Rattle.sqlite.specs.declared.types.Value.{Value}
-use Rattle.sqlite.specs.declared.types.Value.TheVariants.{Null, Int, Text, Real, Blob}
-use Rattle.sqlite.specs.Order.{Row, column, value_cmp}
-use Rattle.sqlite.specs.Tree.{rowid, IsTable, IsAscending}
 use Rattle.sqlite.specs.View.{is_int}
 use Rattle.sqlite.specs.Ops.{is_null}
-use Rattle.sqlite.specs.Table.{Table}
 use Rattle.sqlite.specs.Kind.{Kind}
-use Rattle.sqlite.specs.Kind.TheVariants.{Integer, Text as Words, Real as Reals, Blob as Blobs, Any}
+use Rattle.sqlite.specs.Kind.TheVariants.{Text as Words, Real as Reals, Blob as Blobs}
 use Rattle.sqlite_schema.specs.declared.schema.Column.{Column}
 use Rattle.sqlite_schema.specs.Names.{is_key}
-use Rattle.sqlite_schema.specs.Rules.{is_of, are_typed, are_present, has_computed, agree, differ, clashes}
-use Rattle.sqlite_sql.specs.declared.ops.CompareOp.TheVariants.{Ne}
-use Rattle.sqlite_trees.specs.View.{IsShaped}
 use Rattle.sqlite_trees.specs.declared.store.Shape.TheVariants.{Table as TableShape}
-use Rattle.sqlite_keyed.specs.Keyed.{IsKeyedBy}
 use Rattle.sqlite_keyed.proofs.RuleLemmas.{first_of_both, second_of_both}
-use Rattle.sqlite_keyed.proofs.KeyedLemmas.{lt_from_Less}
-use Rattle.sqlite_keyed.proofs.ListLemmas.{ascending_from_map, ascending_weaker, all_weaker, all_both, all_unmap, none_from_any}
 use Rattle.sqlite_typed.specs.Columns.{int_of, bytes_of}
-use Rattle.sqlite_typed.proofs.TestLemmas.{at_ints}
-use Rattle.sqlite_value.proofs.OrderLemmas.{value_cmp-Int}
-use Rattle.sqlite_value.specs.Keys.{plain}
-use Rattle.station_schema.specs.ColumnKeys.{numbered, numbered_in, AreEntries, AreListed}
 use Rattle.station_schema.proofs.ColumnKeys.{Compares, number}
-use Rattle.station_schema.specs.Schema.{column_of}
 
 -- ---- columns of text and of integers
 

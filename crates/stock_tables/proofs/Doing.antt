@@ -1,15 +1,7 @@
 -- Orders by their parts, and a number that is used up.
 use Rattle.std.proofs.Common.{◌≡◌, ℕ, ◌+◌, cond, Option, Some, ap, ◌∙◌, arith}
-use Rattle.std.specs.Prelude.{◌&&◌, ◌==◌, nat_le, nat_lt}
-use Rattle.std.proofs.lemmas.Bool.Decides.{nat_tests}
-use Rattle.agent_stock.specs.Stock.{assigned}
-use Rattle.agent_stock.specs.declared.stock.Run.{Run}
-use Rattle.agent_stock.specs.declared.stock.Holder.{Holder}
+use Rattle.stock_tables.proofs.Common.{◌&&◌, ◌==◌, nat_le, nat_lt, nat_tests, assigned, Run, Holder, View, Tables, holders_in, Restocked, using_up}
 use Rattle.agent_stock.specs.declared.stock.Holder.TheVariants.{Used}
-use Rattle.station_schema.specs.Store.{View}
-use Rattle.station_schema.specs.Tables.{Tables}
-use Rattle.row_codec.specs.Stock.{holders_in}
-use Rattle.stock_tables.specs.Stocked.{Restocked, using_up}
 
 -- a run of one number
 one_of : (w q : ℕ) (x y : Option Holder) → cond (nat_le w q && nat_lt q (w + 1)) x y ≡ cond (q == w) x y

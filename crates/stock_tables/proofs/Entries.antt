@@ -1,22 +1,9 @@
 -- A row is a run, and a run is a row.
 use Rattle.std.proofs.Common.{◌≡◌, ℕ, suc, ℤ, pos, ◌+◌, ◌-◌, ◌*◌, ◌/◌, ◌%◌, ◌≤◌, ◌<◌, ◌⊎◌, inl, inr, Bool, true, false, cond, T, Some, None, List, [], ◌∷◌, map, length, is_lt, refl, sym, ap, subst, ◌∙◌, arith, Less}
-use Rattle.std.specs.Prelude.{int_lt, ◌&&◌, ◌||◌, ◌==◌, is_some, nat_eq}
-use Rattle.std.specs.Ordering.{int_eq, int_cmp, ordering_then}
-use Rattle.std.specs.List.{list_all, AllByRecursion}
-use Rattle.std.specs.FinMap.{is_sorted}
+use Rattle.stock_tables.proofs.Common.{int_lt, ◌&&◌, ◌||◌, ◌==◌, is_some, nat_eq, int_eq, int_cmp, ordering_then, list_all, AllByRecursion, is_sorted, ints, and_parts, and_from, cases_lt, eqb-true, prefix_of, serial_of, Holder, StockRun, Stock, StockKey, stock_cmp, natural, holder_by, unnamed_holder, is_stock_row, is_behind, are_apart, run_in, named, end_of, IsRunRow, StandFrom, holder_number, code_of, key_of, entry_of, IsWritable}
 use Rattle.std.specs.FinMap.Entries.{below_all}
-use Rattle.std.proofs.lemmas.Int.{ints}
-use Rattle.std.proofs.lemmas.Bool.{and_parts, and_from, cases_lt, eqb-true}
-use Rattle.awb_number.specs.Number.{prefix_of, serial_of}
 use Rattle.agent_stock.specs.Code.{is_agent_code}
-use Rattle.agent_stock.specs.declared.stock.Holder.{Holder}
 use Rattle.agent_stock.specs.declared.stock.Holder.TheVariants.{Desk, Agent, Used, Void}
-use Rattle.agent_stock.specs.declared.runs.StockRun.{StockRun}
-use Rattle.station_schema.specs.Tables.{Stock, StockKey, stock_cmp}
-use Rattle.row_codec.specs.Numbers.{natural}
-use Rattle.row_codec.specs.Stock.{holder_by, unnamed_holder, is_stock_row, is_behind, are_apart, run_in, named}
-use Rattle.agent_stock.specs.Runs.{end_of, IsRunRow, StandFrom}
-use Rattle.stock_tables.specs.Runs.{holder_number, code_of, key_of, entry_of, IsWritable}
 use Rattle.stock_tables.proofs.Meant.{fits, low_fits, natural_is, bounds, row_fits, has_holder}
 
 -- ---- a row, as a run, is the row again

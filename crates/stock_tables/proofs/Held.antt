@@ -1,15 +1,6 @@
 -- What the reads of the stock's rows say of its numbers.
 use Rattle.std.proofs.Common.{◌≡◌, ℕ, ℤ, pos, ◌+◌, ◌+ℤ◌, List, ◌++◌, true, Option, Some, None, map, filter, option_map, refl, sym, ap, ap₂, ◌∙◌}
-use Rattle.std.specs.Option.{option_and_then}
-use Rattle.std.specs.FinMap.{FinMap, entries}
-use Rattle.awb_number.specs.Number.{prefix_of, serial_of}
-use Rattle.agent_stock.specs.declared.stock.Run.{Run}
-use Rattle.station_schema.specs.Tables.{Stock, stock_cmp}
-use Rattle.row_codec.specs.Stock.{holders_in, AreStockRows, run_in}
-use Rattle.stock_tables.specs.Rows.{rows_near}
-use Rattle.station_rows.specs.declared.stock.StockRow.{StockRow}
-use Rattle.station_rows.specs.Meant.{stock_meant, is_between, last_up_to, last_rows_up_to}
-use Rattle.stock_tables.specs.Reads.{holder_at, reaches, reaching, last_to_end, are_enough}
+use Rattle.stock_tables.proofs.Common.{option_and_then, FinMap, entries, prefix_of, serial_of, Run, Stock, stock_cmp, holders_in, AreStockRows, run_in, rows_near, StockRow, stock_meant, is_between, last_up_to, last_rows_up_to, holder_at, reaches, reaching, last_to_end, are_enough}
 use Rattle.stock_tables.proofs.Meant.{same_holders, are_in_order}
 use Rattle.stock_tables.proofs.Reading.{near_read, last_have, holder_read, between_read, before_read, last_rows_read, until_read}
 

@@ -2,6 +2,7 @@ mod Doing
 mod Held
 mod Restocking
 mod Showing
+pub mod Common
 pub mod Entries
 pub mod Lowest
 pub mod Meant

@@ -1,16 +1,8 @@
 -- The lowest number that fails, row after row.
 use Rattle.std.proofs.Common.{◌≡◌, ℕ, zero, suc, ◌+◌, ◌-◌, ◌<◌, ◌≤◌, ◌⊎◌, inl, inr, true, false, not, Bool, Option, Some, None, List, [], ◌∷◌, length, get_or, drop, refl, sym, ap, ◌∙◌, arith}
-use Rattle.std.specs.Prelude.{IsTrue}
-use Rattle.std.specs.List.{find, range_with_len}
-use Rattle.std.proofs.lemmas.Bool.{cases_lt}
-use Rattle.std.proofs.lemmas.List.{drop_more}
-use Rattle.agent_stock.specs.Stock.{Holders, passes, covers}
-use Rattle.agent_stock.specs.declared.stock.Holder.{Holder}
-use Rattle.agent_stock.specs.declared.stock.Run.{Run}
+use Rattle.stock_tables.proofs.Common.{IsTrue, find, range_with_len, cases_lt, drop_more, Holders, passes, covers, Holder, Run, StockRun, holders_by, end_of, StandFrom}
 use Rattle.agent_stock.specs.declared.stock.Test.{Test}
-use Rattle.agent_stock.specs.declared.runs.StockRun.{StockRun}
 use Rattle.agent_stock.proofs.Serials.{find_next, find_here}
-use Rattle.agent_stock.specs.Runs.{holders_by, end_of, StandFrom}
 use Rattle.stock_tables.proofs.Standing.{inside, here, passed, ahead, none_below, stand_lower}
 
 abbrev pub fails_at : Holders → Test → ℕ → Bool

@@ -1,19 +1,6 @@
 -- Rows that are lawful and apart are runs in order.
 use Rattle.std.proofs.Common.{◌≡◌, ℕ, ℤ, pos, negsuc, ◌+◌, ◌-◌, ◌*◌, ◌/◌, ◌%◌, ◌≤◌, ◌<◌, ◌⊎◌, inl, inr, Bool, true, false, cond, Option, Some, None, List, [], ◌∷◌, map, refl, sym, ◌∙◌, arith}
-use Rattle.std.specs.Prelude.{int_le, int_lt, ◌&&◌, ◌||◌, nat_le, nat_lt, is_some}
-use Rattle.std.specs.Option.{option_and_then}
-use Rattle.std.specs.Ordering.{int_eq}
-use Rattle.std.specs.List.{list_all, find, AllByRecursion}
-use Rattle.std.specs.FinMap.{FinMap, entries}
-use Rattle.std.proofs.lemmas.Int.{ints}
-use Rattle.std.proofs.lemmas.Bool.Decides.{nat_tests}
-use Rattle.std.proofs.lemmas.Bool.{and_parts}
-use Rattle.agent_stock.specs.Stock.{is_among}
-use Rattle.agent_stock.specs.declared.stock.Holder.{Holder}
-use Rattle.station_schema.specs.Tables.{Stock, StockKey, stock_cmp}
-use Rattle.row_codec.specs.Numbers.{natural, is_within}
-use Rattle.row_codec.specs.Stock.{holder_by, holders_in, stands_for, is_stock_row, is_behind, are_apart, run_in, named}
-use Rattle.agent_stock.specs.Runs.{holders_by, end_of, IsRunRow, StandFrom, AreRuns}
+use Rattle.stock_tables.proofs.Common.{int_le, int_lt, ◌&&◌, ◌||◌, nat_le, nat_lt, is_some, option_and_then, int_eq, list_all, find, AllByRecursion, FinMap, entries, ints, nat_tests, and_parts, is_among, Holder, Stock, StockKey, stock_cmp, natural, is_within, holder_by, holders_in, stands_for, is_stock_row, is_behind, are_apart, run_in, named, holders_by, end_of, IsRunRow, StandFrom, AreRuns}
 
 abbrev pub fits : ℤ → ℤ → ℤ → Bool
 fits p low high = is_within 0 999 p && is_within 0 9_999_999 low && int_le low high && int_le high (pos 9_999_999)

@@ -1,12 +1,6 @@
 -- Rows in ascending order, as those before a run, those that it touches, and those behind it.
 use Rattle.std.proofs.Common.{◌≡◌, ℕ, ◌+◌, ◌/◌, ◌%◌, ◌<◌, ◌≤◌, true, false, not, Bool, None, List, [], ◌∷◌, ◌++◌, filter, refl, sym, ap, ◌∙◌, arith, cond, ◌&&◌, nat_eq, nat_le, nat_lt}
-use Rattle.std.specs.List.{AllByRecursion}
-use Rattle.std.proofs.lemmas.Bool.Decides.{nat_tests}
-use Rattle.awb_number.specs.Number.{prefix_of, serial_of}
-use Rattle.agent_stock.specs.declared.stock.Run.{Run}
-use Rattle.agent_stock.specs.declared.runs.StockRun.{StockRun}
-use Rattle.stock_tables.specs.Rows.{Touches, AreNear, AreAround, touches, lies_ahead, lies_behind, rows_near, rows_ahead, rows_behind}
-use Rattle.agent_stock.specs.Runs.{holders_by, end_of, IsRunRow, StandFrom, AreRuns}
+use Rattle.stock_tables.proofs.Common.{AllByRecursion, nat_tests, prefix_of, serial_of, Run, StockRun, Touches, AreNear, AreAround, touches, lies_ahead, lies_behind, rows_near, rows_ahead, rows_behind, holders_by, end_of, IsRunRow, StandFrom, AreRuns}
 use Rattle.stock_tables.proofs.Standing.{by_first, by_second, ahead}
 use Rattle.stock_tables.proofs.Places.{none_all}
 

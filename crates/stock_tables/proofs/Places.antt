@@ -1,14 +1,6 @@
 -- What stands in place of the rows that a run touches.
 use Rattle.std.proofs.Common.{◌≡◌, ◌≢◌, ℕ, ◌+◌, ◌-◌, ◌*◌, ◌/◌, ◌%◌, ◌<◌, ◌≤◌, ◌⊎◌, inl, inr, true, Option, Some, None, IfSome, List, [], ◌∷◌, ◌++◌, refl, sym, ap, ◌∙◌, subst, arith, cond, ◌&&◌, nat_le, nat_lt}
-use Rattle.std.specs.List.{AllByRecursion}
-use Rattle.std.proofs.lemmas.Bool.{cases_lt, and_parts, ltb-true, leb-true}
-use Rattle.awb_number.specs.Number.{prefix_of, serial_of}
-use Rattle.agent_stock.specs.Stock.{assigned}
-use Rattle.agent_stock.specs.declared.stock.Holder.{Holder}
-use Rattle.agent_stock.specs.declared.stock.Run.{Run}
-use Rattle.agent_stock.specs.declared.runs.StockRun.{StockRun}
-use Rattle.stock_tables.specs.Rows.{Touches, AreNear, AreAround, listed, cut_before, cut_from, Before, BehindBy, Behind, IsJoined}
-use Rattle.agent_stock.specs.Runs.{holders_by, end_of, IsRunRow, StandFrom, AreRuns}
+use Rattle.stock_tables.proofs.Common.{AllByRecursion, cases_lt, and_parts, ltb-true, leb-true, prefix_of, serial_of, assigned, Holder, Run, StockRun, Touches, AreNear, AreAround, listed, cut_before, cut_from, Before, BehindBy, Behind, IsJoined, holders_by, end_of, IsRunRow, StandFrom, AreRuns}
 use Rattle.stock_tables.proofs.Standing.{last_end, inside, before_it, behind_it, here, passed, ahead, none_below, by_second, alike_between, some_between, stand_split, stand_join, last_end_join, stand_lower, each_split, each_join}
 
 pub behind_last : (end : ℕ) (to : Holder) (rest : List StockRun) (row : StockRun) (high : ℕ) (right : Option StockRun) → BehindBy end to row high right → Behind end to (rest ++ row ∷ []) high right

@@ -1,26 +1,8 @@
 -- The rows that a run touches, and the holder of a number, by the last row below a number.
 use Rattle.std.proofs.Common.{◌≡◌, ℕ, ℤ, pos, negsuc, ◌+ℤ◌, ◌+◌, ◌*◌, ◌/◌, ◌%◌, ◌≤◌, ◌<◌, ◌⊎◌, inl, inr, Bool, true, false, cond, Option, Some, None, List, [], ◌∷◌, ◌++◌, ◌-◌, length, take, drop, map, filter, option_map, refl, sym, ap, subst, ◌∙◌, arith}
-use Rattle.std.specs.Prelude.{◌&&◌, ◌||◌, int_le, nat_eq, nat_le, nat_lt}
-use Rattle.std.specs.List.{AllByRecursion, last_or, list_all}
-use Rattle.std.specs.Option.{option_and_then}
-use Rattle.std.specs.Ordering.{int_eq}
-use Rattle.std.proofs.lemmas.Int.{ints}
-use Rattle.std.proofs.lemmas.Bool.{and_parts, leb-true, ltb-true, eqb-true}
-use Rattle.std.proofs.lemmas.Bool.Decides.{nat_tests}
-use Rattle.std.proofs.lemmas.List.{length-drop, length-map, drop-map, take-append-drop}
+use Rattle.stock_tables.proofs.Common.{◌&&◌, ◌||◌, int_le, nat_eq, nat_le, nat_lt, AllByRecursion, last_or, list_all, option_and_then, int_eq, ints, and_parts, leb-true, ltb-true, eqb-true, nat_tests, length-drop, length-map, drop-map, take-append-drop, prefix_of, serial_of, is_among, Run, StockRun, Stock, StockKey, natural, is_stock_row, run_in, touches, rows_near, holders_by, end_of, IsRunRow, StandFrom, is_between, is_up_to, last_up_to, last_rows_up_to, is_below, last_below, is_from, reaches, reaching, last_to_end, begins_before, are_enough, holder_at}
 use Rattle.std.proofs.lemmas.List.Elements.{filter-append, filter_agree}
-use Rattle.awb_number.specs.Number.{prefix_of, serial_of}
-use Rattle.agent_stock.specs.Stock.{is_among}
-use Rattle.agent_stock.specs.declared.stock.Run.{Run}
-use Rattle.agent_stock.specs.declared.runs.StockRun.{StockRun}
-use Rattle.station_schema.specs.Tables.{Stock, StockKey}
-use Rattle.row_codec.specs.Numbers.{natural}
-use Rattle.row_codec.specs.Stock.{is_stock_row, run_in}
-use Rattle.stock_tables.specs.Rows.{touches, rows_near}
-use Rattle.agent_stock.specs.Runs.{holders_by, end_of, IsRunRow, StandFrom}
 use Rattle.stock_tables.proofs.Standing.{last_end, ends_up, stand_split, stand_lower}
-use Rattle.station_rows.specs.Meant.{is_between, is_up_to, last_up_to, last_rows_up_to}
-use Rattle.stock_tables.specs.Reads.{is_below, last_below, is_from, reaches, reaching, last_to_end, begins_before, are_enough, holder_at}
 use Rattle.stock_tables.proofs.Meant.{low_fits, natural_is, row_fits}
 
 -- ---- rows below a number

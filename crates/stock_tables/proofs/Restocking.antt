@@ -1,27 +1,11 @@
 -- The stock after a run is given, by the rows that the run touches.
 use Rattle.std.proofs.Common.{◌≡◌, ℕ, true, List, [], ◌∷◌, ◌++◌, map, refl, sym, ap, subst, ◌∙◌, arith}
-use Rattle.std.specs.Prelude.{nat_eq, is_some, IsTrue, ◌≤◌, ◌+◌}
-use Rattle.std.specs.List.{AllByRecursion}
-use Rattle.std.specs.FinMap.{FinMap, entries, get}
-use Rattle.std.proofs.lemmas.Bool.{and_parts, or_left, or_right, leb-true, ltb-true, eq-eqb}
-use Rattle.awb_number.specs.Number.{serial_of}
-use Rattle.agent_stock.specs.Stock.{is_run, covers, assigned}
-use Rattle.agent_stock.specs.declared.stock.Holder.{Holder}
-use Rattle.agent_stock.specs.declared.stock.Run.{Run}
-use Rattle.agent_stock.specs.declared.runs.StockRun.{StockRun}
-use Rattle.station_schema.specs.Store.{View, Displays, inside}
-use Rattle.station_schema.specs.Tables.{Tables, Stock, stock_cmp}
-use Rattle.row_codec.specs.Stock.{holders_in, run_in}
-use Rattle.stock_tables.specs.Rows.{AreAround, AreNear, Touches, rows_ahead, rows_near, rows_behind}
-use Rattle.agent_stock.specs.Runs.{holders_by, StandFrom, AreRuns, end_of}
+use Rattle.stock_tables.proofs.Common.{nat_eq, is_some, IsTrue, ◌≤◌, ◌+◌, AllByRecursion, FinMap, entries, get, and_parts, or_left, or_right, leb-true, ltb-true, eq-eqb, serial_of, is_run, covers, assigned, Holder, Run, StockRun, View, Displays, inside, Tables, Stock, stock_cmp, holders_in, run_in, AreAround, AreNear, Touches, rows_ahead, rows_near, rows_behind, holders_by, StandFrom, AreRuns, end_of, key_of, IsWritable, begins, cleared, put_in, Stocked, Restocked, restocked, AreThere, IsCut}
 use Rattle.stock_tables.proofs.Places.{run_parts}
 use Rattle.stock_tables.proofs.Parted.{parted, around, near_holders, touched}
 use Rattle.stock_tables.proofs.Standing.{stand_split, stand_lower, last_end, each_split, each_join}
-use Rattle.stock_tables.specs.Runs.{key_of, IsWritable}
-use Rattle.stock_tables.specs.Writes.{begins, cleared, put_in}
 use Rattle.stock_tables.proofs.Meant.{same_holders, are_in_order}
 use Rattle.stock_tables.proofs.Rewriting.{lawful_after, holders_after, there_cleared, there_put}
-use Rattle.stock_tables.specs.Stocked.{Stocked, Restocked, restocked, AreThere, IsCut}
 
 -- what is there is still there when more is put in
 pub still_there : (near rows more : List StockRun) (m : FinMap stock_cmp Stock) → AreThere near rows m → AreThere near rows (put_in more m)

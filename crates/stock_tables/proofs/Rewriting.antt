@@ -1,23 +1,11 @@
 -- The table after the rows that a run touches are cleared and the new rows put in.
 use Rattle.std.proofs.Common.{◌≡◌, ℕ, ◌/◌, ◌%◌, pos, Bool, true, false, cond, T, Option, Some, None, List, [], ◌∷◌, ◌++◌, map, is_lt, is_eq, refl, sym, ap, ap₂, subst, ◌∙◌, arith, Ordering, Less, Equal, Greater}
-use Rattle.std.specs.Prelude.{◌&&◌, ◌||◌, nat_eq, is_some}
-use Rattle.std.specs.List.{AllByRecursion, list_all}
-use Rattle.std.specs.Ordering.{int_eq, int_cmp, eq_by_cmp}
-use Rattle.std.specs.FinMap.{FinMap, entries, find, is_sorted, get, insert, remove, from_sorted, get-insert, get-remove, get-entries, get-from_sorted, entries-from_sorted, same_map}
+use Rattle.stock_tables.proofs.Common.{◌&&◌, ◌||◌, nat_eq, is_some, AllByRecursion, list_all, int_eq, int_cmp, eq_by_cmp, FinMap, entries, is_sorted, get, insert, remove, from_sorted, get-insert, get-remove, get-entries, get-from_sorted, entries-from_sorted, same_map, ints, and_parts, and_from, eqb-true, nat_tests, prefix_of, serial_of, StockRun, Stock, StockKey, stock_cmp, holders_in, is_stock_row, are_apart, AreStockRows, run_in, holders_by, IsRunRow, AreRuns, key_of, row_in, entry_of, IsWritable, begins, without, cleared, put_in}
+use Rattle.std.specs.FinMap.{find}
 use Rattle.std.specs.FinMap.Entries.{below_all}
-use Rattle.std.proofs.lemmas.Int.{ints}
-use Rattle.std.proofs.lemmas.Bool.{and_parts, and_from, eqb-true}
-use Rattle.std.proofs.lemmas.Bool.Decides.{nat_tests}
-use Rattle.awb_number.specs.Number.{prefix_of, serial_of}
-use Rattle.agent_stock.specs.declared.runs.StockRun.{StockRun}
 use Rattle.station_schema.proofs.OneRow.{pair_eq, int_tied}
 use Rattle.station_schema.proofs.Keys.{stock_total, stock_same}
-use Rattle.station_schema.specs.Tables.{Stock, StockKey, stock_cmp}
-use Rattle.row_codec.specs.Stock.{holders_in, is_stock_row, are_apart, AreStockRows, run_in}
-use Rattle.agent_stock.specs.Runs.{holders_by, IsRunRow, AreRuns}
 use Rattle.stock_tables.proofs.Standing.{each_split, each_join}
-use Rattle.stock_tables.specs.Runs.{key_of, row_in, entry_of, IsWritable}
-use Rattle.stock_tables.specs.Writes.{begins, without, cleared, put_in}
 use Rattle.stock_tables.proofs.Meant.{same_holders, are_in_order}
 use Rattle.stock_tables.proofs.Entries.{again, all_again, run_again, is_row, rows_apart, sorted_rows, rows_sorted}
 

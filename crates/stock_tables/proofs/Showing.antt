@@ -1,8 +1,6 @@
 -- What a store shows after a call, from what it showed before.
 use Rattle.std.proofs.Common.{sym, ◌∙◌}
-use Rattle.std.specs.Prelude.{IfOk, OnOk, Result, Ok, Err}
-use Rattle.station_schema.specs.Store.{View, Seen, IsShowing, Survives}
-use Rattle.station_schema.specs.Tables.{Tables}
+use Rattle.stock_tables.proofs.Common.{IfOk, OnOk, Result, Ok, Err, View, Seen, IsShowing, Survives, Tables}
 use Rattle.station_rows.specs.Clauses.{Reads, RestsIfSound}
 
 pub survives_itself : (a : View) → Survives a a

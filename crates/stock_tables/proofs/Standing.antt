@@ -1,12 +1,6 @@
 -- Rows that rise: who has a number below them, above them and among them.
 use Rattle.std.proofs.Common.{◌≡◌, ℕ, ◌+◌, ◌<◌, ◌≤◌, true, false, Bool, Option, Some, None, List, [], ◌∷◌, ◌++◌, refl, sym, ap, ◌∙◌, arith, cond, ◌&&◌, nat_le, nat_lt}
-use Rattle.std.specs.List.{AllByRecursion}
-use Rattle.std.proofs.lemmas.Bool.{and_from, le-leb, lt-ltb}
-use Rattle.std.proofs.lemmas.Bool.Decides.{nat_tests}
-use Rattle.agent_stock.specs.Stock.{is_among}
-use Rattle.agent_stock.specs.declared.stock.Holder.{Holder}
-use Rattle.agent_stock.specs.declared.runs.StockRun.{StockRun}
-use Rattle.agent_stock.specs.Runs.{holders_by, end_of, StandFrom}
+use Rattle.stock_tables.proofs.Common.{AllByRecursion, and_from, le-leb, lt-ltb, nat_tests, is_among, Holder, StockRun, holders_by, end_of, StandFrom}
 
 -- the number behind the last row, or the one that they stand from
 abbrev pub last_end : ℕ → List StockRun → ℕ

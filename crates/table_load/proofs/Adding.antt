@@ -1,22 +1,11 @@
 -- CREATE TABLE beside the tables of a file of version 1.
 use Rattle.std.proofs.Common.{◌≡◌, ◌++◌, ℕ, List, [], ◌∷◌, Ok, Err, None, Result, refl, sym, ap, subst}
-use Rattle.std.specs.List.{AllByRecursion}
-use Rattle.sqlite.specs.Table.{Table}
-use Rattle.sqlite.specs.Tree.{Trees}
+use Rattle.table_load.proofs.Common.{AllByRecursion, Table, Trees, CreateTable, Error, State, Executes, Writes, Survives, CommitsBy, survives_weaker, runs_as, AreListed, execute_stops, keeps, commits_nothing, transaction_stays, old_schema, station_schema, waybill2, rows_in, tables_in, waybill_id, waybill_row, waybill_in, Adds, IsInsideOld}
 use Rattle.sqlite.specs.Change.{KeepsRows}
-use Rattle.sqlite.specs.Command.TheVariants.{CreateTable}
-use Rattle.sqlite.specs.declared.error.Error.{Error}
-use Rattle.sqlite.specs.State.{State, Executes, Writes, Survives, CommitsBy}
-use Rattle.sqlite.proofs.StateLemmas.{survives_weaker}
-use Rattle.sqlite.proofs.Callers.{runs_as}
-use Rattle.station_schema.specs.ColumnKeys.{AreListed}
 use Rattle.station_schema.proofs.Making.{creates}
-use Rattle.station_schema.proofs.Inside.{execute_stops, keeps, commits_nothing, transaction_stays}
-use Rattle.station_schema.specs.Schema.{old_schema, station_schema, waybill2}
-use Rattle.station_schema.specs.Tables.{rows_in, tables_in, IsTyped, waybill_id, waybill_row, waybill_in}
+use Rattle.station_schema.specs.Tables.{IsTyped}
 use Rattle.station_schema.specs.declared.declarations.TheConstants.{WAYBILL2}
 use Rattle.station_schema.proofs.Texts.{waybill2_is}
-use Rattle.table_load.specs.Upgrade.{Adds, IsInsideOld}
 
 abbrev AreTypedIn : Trees → List Table → Type 0
 AreTypedIn db = AllByRecursion (λ (t : Table). IsTyped t.tree (db t.tree))

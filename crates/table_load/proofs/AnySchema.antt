@@ -1,11 +1,8 @@
 -- A query for columns of one table, under any schema that has the table.
 use Rattle.std.proofs.Common.{◌≡◌, ℕ, suc, ◌-◌, ◌+◌, ◌<◌, List, [], ◌∷◌, ◌++◌, map, length, Bool, true, false, None, Some, Option, Ok, Err, refl, sym, ap, ◌∙◌, slice_get, arith}
-use Rattle.std.specs.Prelude.{nat_lt, ◌&&◌}
-use Rattle.std.specs.List.{AllByRecursion, position_from}
+use Rattle.table_load.proofs.Common.{nat_lt, ◌&&◌, AllByRecursion, position_from, Table, Schema, Checked, and_then, AreShown, AreSorts, IsPlainSource, IsPlainCore, IsPlainSelect, IsSelect, Compiled, reads_listing, misses_table, fresh, max_budget}
 use Rattle.std.proofs.lemmas.Bool.Decides.{nat_tests}
 use Rattle.std.proofs.lemmas.List.{length-map}
-use Rattle.sqlite.specs.Table.{Table}
-use Rattle.sqlite.specs.Schema.{Schema}
 use Rattle.sqlite_schema.specs.declared.schema.Column.{Column as Column'}
 use Rattle.sqlite_schema.specs.Names.{table_named, column_named, place_of}
 use Rattle.sqlite_sql.specs.Term.{Term, col}
@@ -19,12 +16,11 @@ use Rattle.sqlite_resolve.specs.declared.scope.Bound.{Bound}
 use Rattle.sqlite_resolve.specs.declared.scope.Output.{Output}
 use Rattle.sqlite_resolve.specs.declared.scope.Found.TheVariants.{Column}
 use Rattle.sqlite_resolve.specs.declared.state.State.{State}
-use Rattle.sqlite_resolve.specs.Lowering.{Checked, and_then, alone, spend, begin, finish}
+use Rattle.sqlite_resolve.specs.Lowering.{alone, spend, begin, finish}
 use Rattle.sqlite_resolve.specs.Scope.{Context, column_in, find, in_level, only, hit, is_among, column_at, column, term_of, declared}
 use Rattle.sqlite_resolve.specs.Expr.{lower_to, lower, node, opened, passes}
 use Rattle.sqlite_resolve.specs.Body.{outputs_from, shown, heading, is_column}
 use Rattle.sqlite_resolve.specs.Order.{sorts_from, sorts, sort, key, keys, alias_in, peeled, is_numeral, collation_of, written_on, placed}
-use Rattle.table_load.specs.Selects.{AreShown, AreSorts, IsPlainSource, IsPlainCore, IsPlainSelect, IsSelect}
 use Rattle.std.proofs.Common.{pos, negsuc, if◌then◌else◌}
 use Rattle.sqlite_value.specs.declared.value.Value.TheVariants.{Int}
 use Rattle.sqlite_sql.specs.Term.{lit}
@@ -37,9 +33,8 @@ use Rattle.sqlite_resolve.specs.declared.error.CompileError.TheVariants.{Mismatc
 use Rattle.sqlite_resolve.specs.Program.{query, query_to, level, with, whole, alone as alone', single, sources, source, viewing, program}
 use Rattle.sqlite_resolve.specs.Compile.{read, command, meaning, planned, compiled, first, timed, returning}
 use Rattle.sqlite_resolve.specs.Select.{constant_or}
-use Rattle.sqlite_resolve.specs.declared.compiled.Compiled.{Compiled}
 use Rattle.sqlite_syntax.specs.declared.statement.Parsed.{Parsed}
-use Rattle.sqlite.specs.Listing.{understood, reads_listing, misses_table}
+use Rattle.sqlite.specs.Listing.{understood}
 use Rattle.sqlite_ast.specs.declared.Source.{Source}
 use Rattle.sqlite_ast.specs.declared.Core.{Core, out-Core}
 use Rattle.sqlite_ast.specs.declared.Select.{Select, out-Select}
@@ -47,7 +42,7 @@ use Rattle.sqlite_draft.specs.declared.join.Step.TheVariants.{Inner}
 use Rattle.sqlite_draft.specs.declared.query.Draft.{Draft}
 use Rattle.sqlite_resolve.specs.declared.body.Joined.{Joined}
 use Rattle.sqlite_resolve.specs.declared.select.Clauses.{Clauses}
-use Rattle.sqlite_resolve.specs.Lowering.{take_slot, fresh, max_budget}
+use Rattle.sqlite_resolve.specs.Lowering.{take_slot}
 use Rattle.sqlite_resolve.specs.Body.{table_in, bound, bounds, outputs, result, tests, inner_join, join, joins, matching, body, shared}
 use Rattle.sqlite_resolve.specs.Select.{outermost, having, parts, ungrouped, assembled, named as named', paging}
 

@@ -1,32 +1,22 @@
 -- What the statements on a station of version 2 do.
 use Rattle.std.proofs.Common.{◌≡◌, ℕ, ℤ, pos, List, [], ◌∷◌, Ok, true, false, map, filter, fold, refl, sym, ap, ◌∙◌, map-id, int_eq, IsPermutation}
-use Rattle.std.specs.List.{list_all}
-use Rattle.sqlite.specs.declared.types.Value.TheVariants.{Null, Int, Text}
-use Rattle.sqlite.specs.Order.{Row}
+use Rattle.table_load.proofs.Common.{list_all, Null, Int, Text, Row, State, Executes, Survives, CommitsBy, map-map, map_same, one_table, seen, any_rows, removed_any, puts_all, IsInside, Edits, station_schema, station, waybill, waybill2, undated, Station, station_id, station_row, station_in, OldWaybill, old_waybill_id, old_waybill_row, waybill_id, waybill_row, tables_of, typed_stations, typed_old_waybills, typed_waybills, execute_survives, copying, clearing, raising}
 use Rattle.sqlite.specs.Program.{overlay}
 use Rattle.sqlite.specs.Term.{col, holds}
 use Rattle.sqlite.specs.Cast.{cast_row}
-use Rattle.sqlite.specs.State.{State, Executes, Survives, CommitsBy}
 use Rattle.sqlite_value.proofs.OrderLemmas.{value_cmp-Int}
 use Rattle.sqlite_sql.specs.declared.ops.CompareOp.TheVariants.{Eq}
 use Rattle.sqlite_keyed.specs.Keyed.{IsKeyedBy, insert_by}
 use Rattle.sqlite_keyed.specs.Lists.{update_where, delete_where}
 use Rattle.sqlite_keyed.proofs.KeyedLemmas.{IsKeyedBy-insert_by}
-use Rattle.sqlite_keyed.proofs.ListLemmas.{map-map, map_same}
 use Rattle.sqlite_typed.proofs.AnswerLemmas.{answer_by_keys}
 use Rattle.sqlite_typed.proofs.TestLemmas.{at_ints, last_term, last_key}
-use Rattle.station_schema.proofs.Keyed.{one_table, seen, any_rows, removed_any, puts_all}
 use Rattle.station_schema.proofs.Listed.{changed_at}
 use Rattle.station_schema.proofs.Ran.{IsPlaced, select_ran, update_ran, delete_ran}
 use Rattle.station_schema.proofs.Shared.{cast_int, cast_null}
 use Rattle.station_schema.proofs.AnyTexts.{asks}
-use Rattle.station_schema.specs.Calls.{IsInside, Edits}
-use Rattle.station_schema.specs.Schema.{station_schema, station, waybill, waybill2}
-use Rattle.station_schema.specs.Tables.{undated, Station, station_id, station_row, station_in, OldWaybill, old_waybill_id, old_waybill_row, waybill_id, waybill_row, tables_of, typed_stations, typed_old_waybills, typed_waybills}
 use Rattle.station_schema.proofs.StationLemmas.{station_placed}
-use Rattle.station_schema.proofs.Statements.{execute_survives}
 use Rattle.station_schema.proofs.Stored.{edits_stations, edits_old_waybills, edits_waybills}
-use Rattle.table_load.specs.Upgrade.{copying, clearing, raising}
 use Rattle.table_load.proofs.UpgradeTexts.{copy_text, copy_terms, copy_query, copy_is, clear_text, clear_is, raise_text, raise_terms, raise_is, station_is}
 
 waybill_placed : IsPlaced station_schema 1 waybill

@@ -3,25 +3,16 @@
 use Rattle.std.proofs.Common.{◌≡◌, ◌∙◌, ℕ, ℤ, List, [], ◌∷◌, map, refl, ap}
 use Rattle.std.specs.FinMap.{entries}
 use Rattle.sqlite.specs.Order.{column}
-use Rattle.sqlite.specs.Table.{Table}
-use Rattle.sqlite.specs.Tree.{Trees}
-use Rattle.sqlite.specs.Effect.{Database}
+use Rattle.table_load.proofs.Common.{Table, Trees, Database, schema_with, station_schema, waybill2, IsStation, IsOldStation, tables_of, old_tables_of, old_waybill_id, old_waybill_row, old_waybill_in, typed_old_waybills, waybill_id, typed_waybills, waybill_in, waybill_row, stock_cmp, stock_row, typed_stock, stock_in, flight_cmp, flight_row, typed_flights, flight_in, move_id, typed_moves, move_in, move_row, expected_cmp, expected_row, typed_expected, expected_in, part_cmp, part_row, typed_parts, part_in, trail_id, typed_trail, trail_in, trail_row, message_id, typed_outbox, message_in, message_row, kept_cmp, kept_row, typed_kept, kept_in, kept_text_cmp, kept_text_row, typed_kept_texts, kept_text_in, count_cmp, count_row, typed_counts, count_in, build_cmp, build_row, typed_builds, build_in, Station, station_id, station_row, station_in, typed_stations, found, rows_of, HoldsOldWaybill, HasOldWaybillTexts, old_waybill_back, HoldsWaybill, HasWaybillTexts, HoldsStock, HasStockTexts, HoldsFlight, flight_back, HasFlightTexts, HoldsMoves, HasMovesTexts, HoldsExpected, expected_back, HasExpectedTexts, HoldsPart, part_back, HasPartTexts, HoldsTrail, HasTrailTexts, HoldsOutbox, HasOutboxTexts, HoldsKeptKey, kept_key_back, HasKeptKeyTexts, HoldsKeptText, kept_text_back, HasKeptTextTexts, HoldsCounts, HasCountsTexts, HoldsBuild, HasBuildTexts, AreEntries, AreListed, is_utf8, station_name, station_columns, station_found, station_of, one_row, row_of_version}
 use Rattle.sqlite_tied.specs.Compute.{everything}
-use Rattle.station_schema.specs.Schema.{schema_with, station_schema, waybill2}
-use Rattle.station_schema.specs.Tables.{IsStation, IsOldStation, tables_of, old_tables_of, old_waybill_id, old_waybill_row, old_waybill_in, typed_old_waybills, waybill_id, typed_waybills, waybill_in, waybill_row, stock_cmp, stock_row, typed_stock, stock_in, flight_cmp, flight_row, typed_flights, flight_in, move_id, typed_moves, move_in, move_row, expected_cmp, expected_row, typed_expected, expected_in, part_cmp, part_row, typed_parts, part_in, trail_id, typed_trail, trail_in, trail_row, message_id, typed_outbox, message_in, message_row, kept_cmp, kept_row, typed_kept, kept_in, kept_text_cmp, kept_text_row, typed_kept_texts, kept_text_in, count_cmp, count_row, typed_counts, count_in, build_cmp, build_row, typed_builds, build_in, Station, station_id, station_row, station_in, typed_stations}
-use Rattle.table_load.specs.Raw.{found, rows_of}
 use Rattle.table_load.proofs.TypedLemmas.{keyed_held, numbered_held}
 use Rattle.station_rows.specs.Shown.{waybill_read, move_read, count_read, build_read, trail_read, message_read, stock_read, station_shown}
-use Rattle.table_load.specs.Held.{HoldsOldWaybill, HasOldWaybillTexts, old_waybill_back, HoldsWaybill, HasWaybillTexts, HoldsStock, HasStockTexts, HoldsFlight, flight_back, HasFlightTexts, HoldsMoves, HasMovesTexts, HoldsExpected, expected_back, HasExpectedTexts, HoldsPart, part_back, HasPartTexts, HoldsTrail, HasTrailTexts, HoldsOutbox, HasOutboxTexts, HoldsKeptKey, kept_key_back, HasKeptKeyTexts, HoldsKeptText, kept_text_back, HasKeptTextTexts, HoldsCounts, HasCountsTexts, HoldsBuild, HasBuildTexts}
 use Rattle.station_schema.proofs.Keys.{stock_total, flight_total, expected_total, part_total, kept_total, kept_text_total, count_total, build_total}
 use Rattle.table_load.specs.Typed.{IsHeldBy, HoldsTyped, HoldsOld}
 use Rattle.std.proofs.Common.{true}
-use Rattle.station_schema.specs.ColumnKeys.{AreEntries, AreListed}
 use Rattle.table_load.specs.declared.station.FileVersion.{FileVersion}
 use Rattle.table_load.specs.declared.station.FileVersion.TheVariants.{First, Second}
 use Rattle.table_load.proofs.StationLemmas.{is_of_version}
-use Rattle.std.specs.Str.{is_utf8}
-use Rattle.table_load.specs.Verdict.{station_name, station_columns, station_found, station_of, one_row, row_of_version}
 
 -- ---- waybill, which is empty in files of version 2
 

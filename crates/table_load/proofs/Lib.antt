@@ -1,3 +1,4 @@
+pub mod Common
 pub mod AnySchema
 pub mod Declared
 pub mod Orders

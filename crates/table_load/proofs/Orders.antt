@@ -1,10 +1,7 @@
 -- SQL orders the rows of each table by its key columns as the keys are ordered.
-use Rattle.std.specs.Prelude.{ℕ, ℤ, List}
+use Rattle.table_load.proofs.Common.{ℕ, ℤ, List, Agrees, by_key, by_number, old_waybill_shown, OldWaybill, old_waybill_id, Waybill, waybill_id, Stock, StockKey, stock_cmp, stock_row, Flight, FlightKey, flight_cmp, flight_row, Move, move_id, Expected, ExpectedKey, expected_cmp, expected_row, PartKey, part_cmp, part_row, TrailLine, trail_id, Message, message_id, Kept, kept_cmp, kept_row, kept_text_cmp, kept_text_row, Count, CountKey, count_cmp, count_row, Build, BuildKey, build_cmp, build_row}
 use Rattle.sqlite_value.proofs.OrderLemmas.{value_cmp-Int, value_cmp-Text}
 use Rattle.sqlite_typed.proofs.TestLemmas.{then_key, last_key}
-use Rattle.table_load.specs.Whole.{Agrees}
-use Rattle.table_load.specs.Held.{by_key, by_number, old_waybill_shown}
-use Rattle.station_schema.specs.Tables.{OldWaybill, old_waybill_id, Waybill, waybill_id, Stock, StockKey, stock_cmp, stock_row, Flight, FlightKey, flight_cmp, flight_row, Move, move_id, Expected, ExpectedKey, expected_cmp, expected_row, PartKey, part_cmp, part_row, TrailLine, trail_id, Message, message_id, Kept, kept_cmp, kept_row, kept_text_cmp, kept_text_row, Count, CountKey, count_cmp, count_row, Build, BuildKey, build_cmp, build_row}
 use Rattle.station_rows.specs.Shown.{waybill_shown, move_shown, trail_shown, message_shown}
 
 pub old_waybill_agrees : Agrees {E = OldWaybill} 1 old_waybill_shown (by_number old_waybill_id)

@@ -1,24 +1,13 @@
 -- What a query for columns of one table returns, under any schema that has the table.
 use Rattle.std.proofs.Common.{◌≡◌, inl, inr, ℕ, zero, suc, ◌+◌, List, [], ◌∷◌, map, length, take, Bool, true, false, None, Some, Option, Ok, Err, refl, sym, ap, ap₂, subst, subst₂, ◌∙◌, slice_get, arith, unwrap_or, ◌≤◌}
-use Rattle.std.specs.Prelude.{option_map, option_and_then, if◌then◌else◌, ◌==◌, flat_map}
-use Rattle.std.specs.List.{AllByRecursion}
-use Rattle.std.specs.List.Sorted.{IsPermutation, IsSorted}
-use Rattle.std.specs.Ordering.{is_lt}
+use Rattle.table_load.proofs.Common.{option_map, option_and_then, if◌then◌else◌, ◌==◌, flat_map, AllByRecursion, IsPermutation, IsSorted, is_lt, IsPermutation-map, map-map, map_same, Null, nothing, Row, Trees, Table, Schema, Database, Answers, rows_of, table_by_name, place_by_name, places_by_name, found, found_at, found_in, rising_keys, AreInOrder, Select, State, Survives, IsUnchanged, Error, survives_weaker, IsPlain, command_of, reads_as, never_commits, Compiled, Checked, Stops, not_run, query_stops, query_keeps, no_overlay, IsSelect, IsReadOnly}
 use Rattle.std.specs.declared.cmp.Ordering.{Ordering}
-use Rattle.std.proofs.lemmas.List.Sorted.{IsPermutation-map}
 use Rattle.sqlite_trees.proofs.ListLemmas.{all-permutation}
-use Rattle.sqlite_keyed.proofs.ListLemmas.{map-map, map_same}
 use Rattle.sqlite.specs.declared.types.Value.{Value}
-use Rattle.sqlite.specs.declared.types.Value.TheVariants.{Null}
 use Rattle.std.proofs.lemmas.List.{length-map}
 use Rattle.std.proofs.Math.ListN.{get_or-map}
-use Rattle.sqlite_resolve.specs.Lowering.{nothing}
-use Rattle.sqlite.specs.Order.{Row, column}
-use Rattle.sqlite.specs.Tree.{Trees}
-use Rattle.sqlite.specs.Table.{Table}
-use Rattle.sqlite.specs.Schema.{Schema}
+use Rattle.sqlite.specs.Order.{column}
 use Rattle.sqlite.specs.Program.{overlay}
-use Rattle.sqlite.specs.Effect.{Database, Answers}
 use Rattle.sqlite_sql.specs.Term.{eval_all}
 use Rattle.sqlite_sql.specs.Query.{Output, output, output_cmp, key_cmp, matches_as, inner, end}
 use Rattle.sqlite_value.specs.Keys.{collation_code}
@@ -27,21 +16,9 @@ use Rattle.sqlite_value.specs.declared.keys.Collation.TheVariants.{Binary, NoCas
 use Rattle.sqlite_schema.specs.Names.{table_named, column_named, place_of, is_key}
 use Rattle.sqlite_resolve.specs.Lowering.{alone}
 use Rattle.sqlite_resolve.specs.Scope.{declared}
-use Rattle.table_load.specs.Raw.{rows_of, table_by_name, place_by_name, places_by_name, found, found_at, found_in, rising_keys, AreInOrder}
-use Rattle.sqlite.specs.Command.TheVariants.{Select}
-use Rattle.sqlite.specs.State.{State, Survives, IsUnchanged, FailsToQuery, Shown, CommitsShowing}
+use Rattle.sqlite.specs.State.{FailsToQuery, Shown, CommitsShowing}
 use Rattle.sqlite.specs.Listing.{understood}
-use Rattle.sqlite.specs.declared.error.Error.{Error}
-use Rattle.sqlite.proofs.StateLemmas.{survives_weaker}
-use Rattle.sqlite.proofs.Callers.{IsPlain, command_of, reads_as, never_commits}
-use Rattle.sqlite_resolve.specs.declared.compiled.Compiled.{Compiled}
 use Rattle.sqlite_resolve.specs.declared.error.CompileError.TheVariants.{Mismatch}
-use Rattle.sqlite_resolve.specs.Lowering.{Checked}
-use Rattle.station_schema.specs.Effects.{Stops}
-use Rattle.station_schema.proofs.Inside.{not_run, query_stops, query_keeps}
-use Rattle.station_schema.proofs.Keyed.{no_overlay}
-use Rattle.table_load.specs.Selects.{IsSelect}
-use Rattle.table_load.specs.Walks.{IsReadOnly}
 use Rattle.table_load.proofs.AnySchema.{InTable, Means, means, names_of, term_in, by_in, asks_of, program_of}
 
 -- ---- options

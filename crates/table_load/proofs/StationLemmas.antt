@@ -1,25 +1,12 @@
 -- From the rows of `station` to what the table says.
 use Rattle.std.proofs.Common.{◌≡◌, inl, ℤ, pos, ℕ, List, [], ◌∷◌, length, true, Some, Ok, Err, Result, refl, sym, ap, ◌∙◌, arith}
-use Rattle.std.specs.Prelude.{Vec, IfOk}
+use Rattle.table_load.proofs.Common.{Vec, IfOk, IsPermutation, int_eq, is_utf8, length_permutation, Int, Text, Error, Row, Database, State, IsUnchanged, one_permutation, Reads, found, ShowsWhole, station_name, station_columns, one_row, version_number, found_in_row, found_in_rows, station_found, station_of, found_meant}
 use Rattle.std.specs.declared.alloc.Global.{Global}
-use Rattle.std.specs.List.Sorted.{IsPermutation}
-use Rattle.std.specs.Ordering.{int_eq}
-use Rattle.std.specs.Str.{is_utf8}
-use Rattle.std.proofs.lemmas.List.Sorted.{length_permutation}
-use Rattle.sqlite.specs.declared.types.Value.TheVariants.{Int, Text}
-use Rattle.sqlite.specs.declared.error.Error.{Error}
-use Rattle.sqlite.specs.Order.{Row, column}
-use Rattle.sqlite.specs.Effect.{Database}
-use Rattle.sqlite.specs.State.{State, IsUnchanged}
-use Rattle.sqlite.proofs.Callers.{one_permutation}
-use Rattle.station_schema.specs.Effects.{Reads}
-use Rattle.table_load.specs.Raw.{found}
-use Rattle.table_load.specs.Whole.{ShowsWhole}
+use Rattle.sqlite.specs.Order.{column}
 use Rattle.table_load.proofs.TableLemmas.{all_columns}
 use Rattle.table_load.specs.declared.station.StationFound.{StationFound}
 use Rattle.table_load.specs.declared.station.FileVersion.{FileVersion}
 use Rattle.table_load.specs.declared.station.FileVersion.TheVariants.{First, Second}
-use Rattle.table_load.specs.Verdict.{station_name, station_columns, one_row, version_number, found_in_row, found_in_rows, station_found, station_of, found_meant}
 
 -- each version's own number is the one that is asked for
 pub is_of_version : (v : FileVersion) → int_eq (version_number v) (version_number v) ≡ true

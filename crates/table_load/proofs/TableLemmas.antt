@@ -1,22 +1,10 @@
 -- From the rows of a query to the entries of a table, whatever the entries are.
 use Rattle.std.proofs.Common.{◌≡◌, inl, ℕ, zero, suc, ◌+◌, List, [], ◌∷◌, ◌++◌, map, length, true, false, None, Some, Option, Ok, Err, Result, refl, sym, ap, subst, ◌∙◌, slice_index_or, arith, take, Less, Equal, Greater, Ordering, is_lt}
-use Rattle.std.specs.Prelude.{IsErr, IfOk}
-use Rattle.std.specs.List.{AllByRecursion}
-use Rattle.std.specs.List.Sorted.{IsPermutation, IsSorted}
+use Rattle.table_load.proofs.Common.{IsErr, IfOk, AllByRecursion, IsPermutation, IsSorted, IsPermutation-trans, IsPermutation-sym, Row, IsAscending, Database, State, IsUnchanged, Error, map_back, ascending-map, ascending_weaker, Reads, Stops, found, rows_of, rising_keys, key_order, AreInOrder, AreLawful, AreRowsOf, HoldsTable, Agrees, TellsFold, TellsRows}
 use Rattle.std.specs.Cmp.{IsTotalOrder, on_total}
-use Rattle.std.proofs.lemmas.List.Sorted.{IsPermutation-trans, IsPermutation-sym}
-use Rattle.sqlite.specs.Order.{Row, column}
-use Rattle.sqlite.specs.Tree.{IsAscending}
-use Rattle.sqlite.specs.Effect.{Database}
-use Rattle.sqlite.specs.State.{State, IsUnchanged}
-use Rattle.sqlite.specs.declared.error.Error.{Error}
+use Rattle.sqlite.specs.Order.{column}
 use Rattle.sqlite_sql.proofs.QueryLemmas.{key_cmp_total}
 use Rattle.sqlite_keyed.proofs.SortLemmas.{sorted_unique}
-use Rattle.sqlite_keyed.proofs.ListLemmas.{map_back, ascending-map, ascending_weaker}
-use Rattle.station_schema.specs.Effects.{Reads, Stops}
-use Rattle.table_load.specs.Raw.{found, rows_of, rising_keys, key_order, AreInOrder}
-use Rattle.table_load.specs.Whole.{AreLawful, AreRowsOf, HoldsTable, Agrees}
-use Rattle.table_load.specs.Walks.{TellsFold, TellsRows}
 
 -- ---- the values of a row, column by column
 

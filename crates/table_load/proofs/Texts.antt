@@ -13,11 +13,8 @@ use Rattle.sqlite_ast.specs.declared.Origin.TheVariants as origin
 use Rattle.sqlite_ast.specs.declared.Statement.TheVariants as written
 use Rattle.sqlite_syntax.specs.declared.statement.Parsed.{Parsed}
 use Rattle.sqlite_resolve.specs.Compile.{first}
-use Rattle.sqlite_resolve.specs.Lowering.{Checked}
+use Rattle.table_load.proofs.Common.{Checked, AreShown, AreSorts, IsPlainSource, IsPlainSelect, IsSelect, old_waybill_name, old_waybill_columns, waybill_name, waybill_columns, stock_name, stock_columns, flight_name, flight_columns, moves_name, moves_columns, expected_name, expected_columns, part_name, part_columns, trail_name, trail_columns, outbox_name, outbox_columns, kept_key_name, kept_key_columns, kept_text_name, kept_text_columns, counts_name, counts_columns, build_name, build_columns, station_name, station_columns}
 use Rattle.sqlite_ast.specs.declared.Statement.{Statement}
-use Rattle.table_load.specs.Selects.{AreShown, AreSorts, IsPlainSource, IsPlainSelect, IsSelect}
-use Rattle.table_load.specs.Held.{old_waybill_name, old_waybill_columns, waybill_name, waybill_columns, stock_name, stock_columns, flight_name, flight_columns, moves_name, moves_columns, expected_name, expected_columns, part_name, part_columns, trail_name, trail_columns, outbox_name, outbox_columns, kept_key_name, kept_key_columns, kept_text_name, kept_text_columns, counts_name, counts_columns, build_name, build_columns}
-use Rattle.table_load.specs.Verdict.{station_name, station_columns}
 
 -- the column that an expression is, or that is shown without AS
 abbrev column_of : Layer → Option (List ℕ)

@@ -1,25 +1,14 @@
 -- The entries that are held under the names, and those of a typed table, whatever the table.
 use Rattle.std.proofs.Common.{◌≡◌, ◌∙◌, ◌<ℤ◌, ℕ, ℤ, List, ◌∷◌, map, sym, ap, subst, subst₂, arith, int_cmp, Ordering, Less, false}
 use Rattle.std.specs.Cmp.{IsTotalOrder, int_cmp_total, on_total}
-use Rattle.std.specs.Ordering.{eq_by_cmp}
+use Rattle.table_load.proofs.Common.{eq_by_cmp, IsPermutation, IsPermutation-map, IsPermutation-refl, IsPermutation-sym, IsPermutation-trans, Int, Row, IsAscending, map-map, map_back, map_same, ascending-map, ascending_weaker, AreEntries, AreListed, numbered, numbered_in, Database, Schema, found, rows_of, AreLawful, HoldsTable, by_key, by_number}
 use Rattle.std.specs.FinMap.{FinMap, entries, from_entries}
-use Rattle.std.specs.List.Sorted.{IsPermutation}
 use Rattle.std.proofs.lemmas.Int.{ints}
-use Rattle.std.proofs.lemmas.List.Sorted.{IsPermutation-map, IsPermutation-refl, IsPermutation-sym, IsPermutation-trans}
-use Rattle.sqlite.specs.declared.types.Value.TheVariants.{Int}
-use Rattle.sqlite.specs.Order.{Row, column}
-use Rattle.sqlite.specs.Tree.{IsAscending}
+use Rattle.sqlite.specs.Order.{column}
 use Rattle.sqlite_keyed.proofs.SortLemmas.{sorted_unique}
-use Rattle.sqlite_keyed.proofs.ListLemmas.{map-map, map_back, map_same, ascending-map, ascending_weaker}
-use Rattle.station_schema.specs.ColumnKeys.{AreEntries, AreListed, numbered, numbered_in}
 use Rattle.station_schema.proofs.Maps.{entries_of, entries_rise}
-use Rattle.sqlite.specs.Effect.{Database}
-use Rattle.sqlite.specs.Schema.{Schema}
-use Rattle.table_load.specs.Raw.{found, rows_of}
-use Rattle.table_load.specs.Whole.{AreLawful, HoldsTable}
 use Rattle.table_load.specs.Typed.{IsHeldBy}
 use Rattle.table_load.proofs.TableLemmas.{ascending_sorted}
-use Rattle.table_load.specs.Held.{by_key, by_number}
 
 rows_same : {a b : List Row} → rows_of a ≡ rows_of b → a ≡ b
 rows_same h = cc

@@ -1,14 +1,7 @@
 -- One statement after another.
 use Rattle.std.proofs.Common.{◌≡◌, ◌<ℤ◌, ℤ, List, [], ◌∷◌, true, fold, map, refl, sym, ap, subst, ◌∙◌}
-use Rattle.sqlite.specs.Effect.{Database}
-use Rattle.sqlite.specs.State.{State, Shows}
-use Rattle.sqlite.specs.Tree.{Trees}
+use Rattle.table_load.proofs.Common.{Database, State, Shows, Trees, ascending-map, puts_past, IsInside, Edits, undated, raised, upgraded, Tables, old_waybill_id, waybill_id, old_tables_of, IsOldStation, filling, IsInsideOld, IsMoved, MeansUpgraded}
 use Rattle.sqlite_keyed.specs.Keyed.{IsKeyedBy, insert_by}
-use Rattle.sqlite_keyed.proofs.ListLemmas.{ascending-map}
-use Rattle.station_schema.proofs.Keyed.{puts_past}
-use Rattle.station_schema.specs.Calls.{IsInside, Edits}
-use Rattle.station_schema.specs.Tables.{undated, raised, upgraded, Tables, old_waybill_id, waybill_id, old_tables_of, IsOldStation}
-use Rattle.table_load.specs.Upgrade.{filling, IsInsideOld, IsMoved, MeansUpgraded}
 
 -- rows that come in the order of their keys
 in_order : {X : Type 0} (key : X → ℤ) (xs : List X) → IsKeyedBy key xs → fold (insert_by key) [] xs ≡ xs

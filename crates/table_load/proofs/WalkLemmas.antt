@@ -1,12 +1,6 @@
 -- What the rows that a query gives, one after another, make of a walk.
 use Rattle.std.proofs.Common.{◌≡◌, ◌≢◌, List, [], ◌∷◌, ◌++◌, append-nil, append_assoc, map, true, false, None, Some, Ok, Err, Result, Option, refl, sym, ap, ap₂, subst, subst₂, ◌∙◌, Less, Ordering, is_lt}
-use Rattle.std.specs.Prelude.{OnOk}
-use Rattle.std.specs.List.{AllByRecursion}
-use Rattle.sqlite.specs.declared.error.Error.{Error}
-use Rattle.sqlite.specs.Order.{Row}
-use Rattle.sqlite.specs.Tree.{IsAscending}
-use Rattle.table_load.specs.Whole.{AreLawful, AreRowsOf}
-use Rattle.table_load.specs.Walks.{follows, last_of, IsTyped, AreSoFar, BeginNone, IsWalkedAs, IsWalked, TellsRows}
+use Rattle.table_load.proofs.Common.{OnOk, AllByRecursion, Error, Row, IsAscending, AreLawful, AreRowsOf, follows, last_of, IsTyped, AreSoFar, BeginNone, IsWalkedAs, IsWalked, TellsRows}
 use Rattle.table_load.specs.declared.walk.Walk.{Walk}
 use Rattle.table_load.proofs.TableLemmas.{is_less, push_lawful}
 

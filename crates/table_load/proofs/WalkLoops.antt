@@ -1,26 +1,15 @@
 -- A query that gives rows one at a time, and the walk that takes them.
 use Rattle.std.proofs.Common.{◌≡◌, inl, inr, ℕ, ◌≤◌, List, [], ◌∷◌, ◌++◌, Some, None, Option, Ok, Err, Result, IsTrue, refl, sym, subst, arith}
-use Rattle.std.specs.Prelude.{IsErr, true, false}
+use Rattle.table_load.proofs.Common.{IsErr, true, false, Held, state, Database, reads_listing, IsSourceOf, Row, State, HasCleanDisk, IsStatement, IsUnchanged, ShowsRows, Survives, Error, Compiled, unchanged_then, survives_then, Stops, not_run, query_stops, Agrees, AreLawful, IsTyped, IsWalked, IsReadOnly, Walks}
 use Rattle.sqlite.specs.Given.{HasGiven, HasBegun, IsPlain, Returns}
-use Rattle.sqlite.specs.Held.{Held, state}
-use Rattle.sqlite.specs.Effect.{Database}
 use Rattle.sqlite.specs.Clock.{timed}
-use Rattle.sqlite.specs.Listing.{understood, reads_listing, IsSourceOf}
-use Rattle.sqlite.specs.Order.{Row}
-use Rattle.sqlite.specs.State.{State, HasCleanDisk, IsStatement, IsUnchanged, ShowsRows, Survives, FailsToQuery, Shown}
-use Rattle.sqlite.specs.declared.error.Error.{Error}
-use Rattle.sqlite_resolve.specs.declared.compiled.Compiled.{Compiled}
+use Rattle.sqlite.specs.Listing.{understood}
+use Rattle.sqlite.specs.State.{FailsToQuery, Shown}
 use Rattle.sqlite_resolve.specs.declared.error.CompileError.{CompileError}
 use Rattle.sqlite_trees.specs.declared.store.Store.{Ghosts}
 use Rattle.std.specs.declared.cmp.Ordering.{Ordering}
-use Rattle.sqlite.proofs.Callers.{unchanged_then}
-use Rattle.sqlite.proofs.StateLemmas.{survives_then}
 use Rattle.sqlite.proofs.StreamLemmas.{given_plain, rolled_back_since}
-use Rattle.station_schema.specs.Effects.{Stops}
 use Rattle.station_schema.specs.Streams.{Moves}
-use Rattle.station_schema.proofs.Inside.{not_run, query_stops}
-use Rattle.table_load.specs.Whole.{Agrees, AreLawful}
-use Rattle.table_load.specs.Walks.{IsTyped, IsWalked, IsReadOnly, Walks}
 use Rattle.table_load.specs.declared.walk.Walk.{Walk}
 use Rattle.table_load.proofs.WholeLemmas.{at_rest}
 

@@ -1,21 +1,10 @@
 -- From the names in a schema to the rows that a query shows.
 use Rattle.std.proofs.Common.{◌≡◌, ◌≢◌, ℕ, List, [], map, Bool, true, false, None, Some, Option, IsTrue, refl, sym, ap, ◌∙◌}
-use Rattle.sqlite.specs.Schema.{Schema}
-use Rattle.std.specs.Prelude.{Vec, is_some}
+use Rattle.table_load.proofs.Common.{Schema, Vec, is_some, Text, Row, Trees, Table, State, Survives, IsUnchanged, Error, Stops, IsPermutation, AreInOrder, rows_of, found, found_at, found_in, table_by_name, places_by_name, IsQuery, column_names, IsReadOnly, is_whole, is_whole_in, ShowsWhole}
 use Rattle.std.specs.declared.alloc.Global.{Global}
-use Rattle.sqlite.specs.declared.types.Value.TheVariants.{Text}
-use Rattle.sqlite.specs.Order.{Row, column}
-use Rattle.sqlite.specs.Tree.{Trees}
-use Rattle.sqlite.specs.Table.{Table}
-use Rattle.sqlite.specs.State.{State, Survives, IsUnchanged, FailsToQuery, Shown, CommitsShowing}
-use Rattle.sqlite.specs.declared.error.Error.{Error}
-use Rattle.station_schema.specs.Effects.{Stops}
-use Rattle.std.specs.List.Sorted.{IsPermutation}
-use Rattle.table_load.specs.Raw.{AreInOrder, rows_of, found, found_at, found_in, table_by_name, places_by_name}
-use Rattle.table_load.specs.Selects.{IsQuery, column_names}
+use Rattle.sqlite.specs.Order.{column}
+use Rattle.sqlite.specs.State.{FailsToQuery, Shown, CommitsShowing}
 use Rattle.table_load.specs.declared.query.TableQuery.{TableQuery}
-use Rattle.table_load.specs.Walks.{IsReadOnly}
-use Rattle.table_load.specs.Whole.{is_whole, is_whole_in, ShowsWhole}
 use Rattle.table_load.proofs.RawLemmas.{plain_whole, reads_whole, stops_whole, survives_whole}
 
 -- ---- what the schema has

@@ -1,17 +1,11 @@
 -- The line of a fault is one of the lines, or 0.
 use Rattle.std.proofs.Common.{◌≡◌, ℕ, ◌+◌, ◌<◌, ◌≤◌, Bool, true, false, cond, List, [], ◌∷◌, ◌++◌, length, map, take, drop, Option, Some, None, Err, refl, ap, arith}
-use Rattle.std.specs.Prelude.{nat_lt, nat_le, position}
+use Rattle.telegrams.proofs.Common.{nat_lt, nat_le, position, length-map, fault_in, fault_at, first_fault, fault_of, unless_fault, from_line, is_message_line, line_fault, lines_of, normal_lines, IsFaultBy, IsFaultOf, TextFault, ffm_fault, ffm_line_faults, cargo_faults, has_last_line, fsu_fault, fsu_line_faults}
 use Rattle.std.proofs.lemmas.Bool.{ltb-false}
-use Rattle.std.proofs.lemmas.List.{length-map}
 use Rattle.station_days.specs.Steps.{or_else}
-use Rattle.imp_fields.specs.Message.{fault_in}
-use Rattle.imp_fields.specs.NormalText.{fault_at, first_fault, fault_of, unless_fault, from_line, is_message_line, line_fault, lines_of, normal_lines, IsFaultBy, IsFaultOf}
 use Rattle.imp_fields.specs.declared.fault.Why.{Why}
 use Rattle.imp_fields.specs.declared.fault.Why.TheVariants as why
-use Rattle.imp_fields.specs.declared.fault.TextFault.{TextFault}
 use Rattle.fwb_text.specs.Fwb.{fwb_fault, fwb_line_faults}
-use Rattle.ffm_text.specs.Ffm.{ffm_fault, ffm_line_faults, cargo_faults, has_last_line}
-use Rattle.fsu_text.specs.Fsu.{fsu_fault, fsu_line_faults}
 
 abbrev some : TextFault → Option TextFault
 some told = Some told

@@ -1,22 +1,17 @@
 -- Worked telegrams, computed.
 use Rattle.std.proofs.Common.{◌≡◌, ℕ, List, [], ◌∷◌, ◌++◌, Option, Some, None, refl}
-use Rattle.std.specs.Prelude.{codes}
+use Rattle.telegrams.proofs.Common.{codes, sent_text, normal_text, Notice, cargo_line, IsTelegram, telegram_fault, refusal_of, notice_text}
 use Rattle.std.specs.Option.{option_map}
 use Rattle.std.specs.Fmt.{digits}
 use Rattle.awb_number.specs.Number.{key_of}
 use Rattle.imp_fields.specs.Consignment.{Shipment}
-use Rattle.imp_fields.specs.Message.{sent_text}
-use Rattle.imp_fields.specs.NormalText.{normal_text}
 use Rattle.imp_fields.specs.declared.amount.ShipmentCode.TheVariants.{Total}
 use Rattle.imp_fields.specs.declared.fault.Why.TheVariants as why
 use Rattle.shipment_machine.specs.declared.plans.Refusal.{Refusal}
 use Rattle.shipment_machine.specs.declared.plans.Detail.TheVariants as detail
-use Rattle.shipment_machine.specs.declared.notice.Notice.{Notice}
 use Rattle.shipment_machine.specs.declared.notice.Notice.TheVariants as notice
 use Rattle.shipment_machine.specs.declared.notice.Event.TheVariants as event
 use Rattle.telegrams.specs.declared.telegram.Content.TheVariants as content
-use Rattle.telegrams.specs.Meaning.{cargo_line, IsTelegram, telegram_fault, refusal_of}
-use Rattle.telegrams.specs.NoticeText.{notice_text}
 
 abbrev fra : List ℕ
 fra = codes "FRA"

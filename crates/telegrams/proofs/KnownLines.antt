@@ -1,11 +1,9 @@
 -- The lines of a manifest, each of which is as its types allow.
 use Rattle.std.proofs.Common.{◌≡◌, ℕ, true, List, [], ◌∷◌, map}
-use Rattle.std.specs.List.{All}
+use Rattle.telegrams.proofs.Common.{All, ManifestLine, sent_load}
 use Rattle.std.proofs.lemmas.List.Elements.{All-head, All-tail}
 use Rattle.imp_fields.specs.Airport.{is_airport}
 use Rattle.ffm_text.specs.Written.{IsLoad, AreLoads}
-use Rattle.shipment_machine.specs.declared.notice.ManifestLine.{ManifestLine}
-use Rattle.telegrams.specs.NoticeText.{sent_load}
 
 abbrev pub IsAirport : List ℕ → Type 0
 IsAirport text = is_airport text ≡ true

@@ -1,3 +1,4 @@
+pub mod Common
 pub mod Meanings
 pub mod Bounds
 pub mod PlainLines

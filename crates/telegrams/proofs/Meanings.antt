@@ -1,7 +1,6 @@
 -- Bytes mean a telegram exactly where they have no fault, and then one telegram only.
 use Rattle.std.proofs.Common.{◌≡◌, ℕ, List, Option, Some, None, Result, Ok, Err, refl, sym, ap, subst, ◌∙◌}
-use Rattle.imp_fields.specs.NormalText.{normal_lines, normal_text, first_kind}
-use Rattle.imp_fields.specs.declared.fault.TextFault.{TextFault}
+use Rattle.telegrams.proofs.Common.{normal_lines, normal_text, first_kind, TextFault, Meant, cargo_line, part_content, status_content, Says, kind_said, IsTelegram, message_fault, fault_by, telegram_fault}
 use Rattle.imp_fields.specs.declared.line.MessageKind.{MessageKind}
 use Rattle.imp_fields.specs.declared.line.MessageKind.TheVariants as kinds
 use Rattle.fwb_text.proofs.Laws as fwb
@@ -9,7 +8,6 @@ use Rattle.ffm_text.proofs.Laws as ffm
 use Rattle.fsu_text.proofs.Laws as fsu
 use Rattle.telegrams.specs.declared.telegram.Content.{Content}
 use Rattle.telegrams.specs.declared.telegram.Content.TheVariants as content
-use Rattle.telegrams.specs.Meaning.{Meant, cargo_line, part_content, status_content, Says, kind_said, IsTelegram, message_fault, fault_by, telegram_fault}
 
 said_has_no_fault : (lines : List (List ℕ)) (c : Content) → Says lines c → message_fault (Some (kind_said c)) lines ≡ None
 said_has_no_fault lines (content.Fwb c) h = fwb.read_has_no_fault lines h.0 h.1

@@ -1,24 +1,17 @@
 -- The lines of notices are normal, and are read as what was written.
 use Rattle.std.proofs.Common.{◌≡◌, ℕ, List, [], ◌++◌, map, Ok, sym, ap, ◌∙◌, subst}
-use Rattle.station_days.specs.Date.{CalendarDay, date_on}
+use Rattle.telegrams.proofs.Common.{CalendarDay, date_on, sent_text, normal_lines, ffm_lines, fsu_lines, ManifestLine, Notice, status_of_event, sent_load, notice_lines, notice_text, IsUpdateAgain, IsNormalManifest, IsManifestAgain, IsReadAgain}
 use Rattle.imp_fields.specs.Flight.{Designator}
-use Rattle.imp_fields.specs.Message.{sent_text}
-use Rattle.imp_fields.specs.NormalText.{normal_lines}
 use Rattle.imp_fields.specs.declared.waybill_summary.WaybillSummary.{WaybillSummary}
-use Rattle.ffm_text.specs.Ffm.{ffm_lines}
 use Rattle.ffm_text.specs.Written.{AreWritten}
 use Rattle.ffm_text.specs.declared.Load.{Load}
 use Rattle.ffm_text.proofs.WrittenLaws as ffm
 use Rattle.ffm_text.proofs.SentAgain.{sent_again}
-use Rattle.fsu_text.specs.Fsu.{fsu_lines}
 use Rattle.fsu_text.specs.declared.sent.SentStatus.{SentStatus}
 use Rattle.fsu_text.specs.declared.sent.SentUpdate.{SentUpdate}
 use Rattle.shipment_machine.specs.declared.flight.FlightDate.{FlightDate}
 use Rattle.shipment_machine.specs.declared.notice.Event.{Event}
-use Rattle.shipment_machine.specs.declared.notice.ManifestLine.{ManifestLine}
-use Rattle.shipment_machine.specs.declared.notice.Notice.{Notice}
 use Rattle.shipment_machine.specs.declared.notice.Notice.TheVariants as notice
-use Rattle.telegrams.specs.NoticeText.{status_of_event, sent_load, notice_lines, notice_text, IsUpdateAgain, IsNormalManifest, IsManifestAgain, IsReadAgain}
 
 -- ---- manifests
 

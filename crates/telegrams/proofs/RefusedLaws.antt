@@ -1,10 +1,8 @@
 -- From the fault of a part to the fault of the bytes.
 use Rattle.std.proofs.Common.{◌≡◌, ℕ, List, Option, Some, None, Result, Ok, Err}
-use Rattle.imp_fields.specs.NormalText.{fault_of, normal_lines}
-use Rattle.imp_fields.specs.declared.fault.TextFault.{TextFault}
+use Rattle.telegrams.proofs.Common.{fault_of, normal_lines, TextFault, fault_by, RefusesAs, RefusesText}
 use Rattle.telegrams.specs.declared.telegram.TelegramFault.{TelegramFault}
 use Rattle.telegrams.specs.declared.telegram.TelegramFault.TheVariants as fault
-use Rattle.telegrams.specs.Meaning.{fault_by, RefusesAs, RefusesText}
 
 abbrev none : Option TextFault
 none = None

@@ -1,7 +1,6 @@
 use Rattle.std.proofs.Common.{◌≡◌, ◌<◌, ◌+◌, ◌++◌, [], ◌∷◌, length, take, drop, sym, ap, ◌∙◌, subst, arith}
-use Rattle.std.specs.List.{AllByRecursion}
+use Rattle.agent_stock.proofs.Common.{AllByRecursion, AreStockRuns, IsRunRow, StandFrom, holders_by}
 use Rattle.std.proofs.lemmas.List.{drop_more, take_more, take_all, take-append-drop}
-use Rattle.agent_stock.specs.Runs.{AreStockRuns, IsRunRow, StandFrom, holders_by}
 use Rattle.agent_stock.proofs.OneMore.{each_behind, no_runs, none_yet, one_more}
 use Rattle.agent_stock.proofs.runs.maximal_runs.Goals as goal
 

@@ -1,6 +1,5 @@
 use Rattle.std.proofs.Common.{◌≡◌, ◌∙◌, Option, Some, None, Ok, sym, ap}
-use Rattle.serde_json.specs.View.{view}
-use Rattle.desk_commands.specs.declared.command.Command.{Command}
+use Rattle.desk_commands.proofs.Common.{view, Command}
 use Rattle.desk_commands.proofs.BodyLaws.{body_made, body_again}
 use Rattle.desk_commands.proofs.Steps.{some_is}
 use Rattle.desk_commands.proofs.body.read_command.Goals as goal

@@ -1,6 +1,5 @@
 use Rattle.std.proofs.Common.{◌∙◌, ℕ, List, [], ◌∷◌, Option, ap}
-use Rattle.desk_commands.specs.Lines.{places_say}
-use Rattle.desk_commands.specs.Verb.{verb_called}
+use Rattle.desk_commands.proofs.Common.{places_say, verb_called}
 use Rattle.desk_commands.proofs.TextLaws.{lines_read}
 use Rattle.desk_commands.proofs.reading.read_lines.Goals as goal
 

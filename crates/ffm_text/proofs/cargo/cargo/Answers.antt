@@ -1,6 +1,5 @@
 use Rattle.std.proofs.Common.{◌+◌, take, map, arith}
-use Rattle.ffm_text.specs.Ffm.{unloaded_of}
-use Rattle.ffm_text.specs.Scan.{texts_of}
+use Rattle.ffm_text.proofs.Common.{unloaded_of, texts_of}
 use Rattle.ffm_text.proofs.ToldLaws.{told_token}
 use Rattle.ffm_text.proofs.cargo.cargo.Goals as goal
 

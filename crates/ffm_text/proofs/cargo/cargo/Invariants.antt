@@ -1,5 +1,5 @@
 use Rattle.std.proofs.Common.{◌≡◌, ◌+◌, ◌≤◌, length, take}
-use Rattle.ffm_text.specs.Scan.{IsScan, texts_of}
+use Rattle.ffm_text.proofs.Common.{IsScan, texts_of}
 use Rattle.ffm_text.proofs.cargo.cargo.Given as goal
 
 abbrev pub invariant-loop-line : goal.invariant-loop-line

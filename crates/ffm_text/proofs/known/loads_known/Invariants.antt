@@ -1,7 +1,5 @@
 use Rattle.std.proofs.Common.{ℕ, ◌<◌}
-use Rattle.std.specs.Prelude.{slice_index_or}
-use Rattle.ffm_text.specs.declared.Load.{Load}
-use Rattle.ffm_text.specs.Written.{IsLoad}
+use Rattle.ffm_text.proofs.Common.{slice_index_or, Load, IsLoad}
 use Rattle.ffm_text.proofs.known.loads_known.Given as goal
 
 -- each load so far is one

@@ -1,8 +1,5 @@
 use Rattle.std.proofs.Common.{◌≡◌, ℕ, List, subst, ◌++◌, ap, ◌∙◌, [], ◌∷◌}
-use Rattle.std.specs.Prelude.{codes, OnOk}
-use Rattle.ffm_text.specs.Written.{line_text}
-use Rattle.imp_fields.specs.Flight.{flight_text}
-use Rattle.station_days.specs.Date.{date_text}
+use Rattle.ffm_text.proofs.Common.{codes, OnOk, line_text, flight_text, date_text}
 use Rattle.ffm_text.proofs.Appended.{joined, joined_line}
 use Rattle.ffm_text.proofs.writing.put_flight_line.Goals as goal
 

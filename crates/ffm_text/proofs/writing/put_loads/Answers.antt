@@ -1,6 +1,5 @@
 use Rattle.std.proofs.Common.{◌++◌, ap, ◌∙◌, map, take}
-use Rattle.imp_fields.specs.Message.{sent_text}
-use Rattle.ffm_text.specs.Written.{line_text, load_line}
+use Rattle.ffm_text.proofs.Common.{sent_text, line_text, load_line}
 use Rattle.ffm_text.proofs.Appended.{begins_behind, sent_one_more}
 use Rattle.ffm_text.proofs.writing.put_loads.Goals as goal
 

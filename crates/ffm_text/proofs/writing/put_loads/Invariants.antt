@@ -1,6 +1,5 @@
 use Rattle.std.proofs.Common.{◌≡◌, ◌++◌, map, take}
-use Rattle.imp_fields.specs.Message.{sent_text}
-use Rattle.ffm_text.specs.Written.{load_line}
+use Rattle.ffm_text.proofs.Common.{sent_text, load_line}
 use Rattle.ffm_text.proofs.writing.put_loads.Given as goal
 
 abbrev pub invariant-loop-load : goal.invariant-loop-load

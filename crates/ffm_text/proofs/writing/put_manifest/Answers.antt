@@ -1,7 +1,5 @@
 use Rattle.std.proofs.Common.{List, ℕ, ◌++◌, ap, ◌∙◌, [], ◌∷◌, map}
-use Rattle.std.specs.Prelude.{codes}
-use Rattle.ffm_text.specs.Ffm.{flight_line_text}
-use Rattle.ffm_text.specs.Written.{load_line, line_text}
+use Rattle.ffm_text.proofs.Common.{codes, flight_line_text, load_line, line_text}
 use Rattle.ffm_text.proofs.Appended.{sent_last, sent_next, sent_others}
 use Rattle.ffm_text.proofs.writing.put_manifest.Goals as goal
 

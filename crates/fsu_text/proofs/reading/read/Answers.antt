@@ -1,6 +1,5 @@
 use Rattle.std.proofs.Common.{sym, ◌∙◌, subst}
-use Rattle.imp_fields.specs.NormalText.{line_texts, IsFaultOf}
-use Rattle.fsu_text.specs.Fsu.{fsu_fault}
+use Rattle.fsu_text.proofs.Common.{line_texts, IsFaultOf, fsu_fault}
 use Rattle.fsu_text.proofs.ReadLaws.{second_told, message_is, trail_plain}
 use Rattle.fsu_text.proofs.reading.read.Goals as goal
 

@@ -1,6 +1,5 @@
 use Rattle.std.proofs.Common.{arith, ◌≡◌, ◌∙◌, ap, sym, ◌++◌, length, take, None}
-use Rattle.std.proofs.lemmas.List.{length-take-le}
-use Rattle.http_desk.specs.Reply.{json_answer}
+use Rattle.http_desk.proofs.Common.{length-take-le, json_answer}
 use Rattle.http_desk.proofs.Accepting.{two_digits, answer_is}
 use Rattle.http_desk.proofs.accepted.put_accepted.Goals as goal
 

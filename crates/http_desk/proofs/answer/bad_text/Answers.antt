@@ -1,7 +1,5 @@
 use Rattle.std.proofs.Common.{◌≡◌, rules}
-use Rattle.serde_json.specs.View.{view}
-use Rattle.serde_json.specs.declared.value.Value.{the_lemmas}
-use Rattle.http_desk.specs.Request.{bad_data}
+use Rattle.http_desk.proofs.Common.{view, the_lemmas, bad_data}
 use Rattle.http_desk.proofs.answer.bad_text.Goals as goal
 
 pub returns : goal.returns

@@ -1,8 +1,5 @@
 use Rattle.std.proofs.Common.{◌≡◌, ◌∙◌, ap, ◌++◌, codes, string_bytes}
-use Rattle.serde_json.specs.Data.{string}
-use Rattle.serde_json.specs.Written.{compact_text}
-use Rattle.awb_number.specs.Number.{number_text}
-use Rattle.desk_commands.proofs.Written.{told}
+use Rattle.http_desk.proofs.Common.{string, compact_text, number_text, told}
 use Rattle.http_desk.proofs.answer.first_members.Goals as goal
 
 pub returns : goal.returns

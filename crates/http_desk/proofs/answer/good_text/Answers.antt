@@ -1,7 +1,5 @@
 use Rattle.std.proofs.Common.{◌≡◌, rules}
-use Rattle.serde_json.specs.View.{view}
-use Rattle.serde_json.specs.declared.value.Value.{the_lemmas}
-use Rattle.http_desk.specs.Request.{good_data}
+use Rattle.http_desk.proofs.Common.{view, the_lemmas, good_data}
 use Rattle.http_desk.proofs.answer.good_text.Goals as goal
 
 pub returns : goal.returns

@@ -1,6 +1,5 @@
 use Rattle.std.proofs.Common.{◌∙◌, ap, string_bytes}
-use Rattle.serde_json.specs.Written.{compact_text}
-use Rattle.http_desk.specs.Request.{bad_data}
+use Rattle.http_desk.proofs.Common.{compact_text, bad_data}
 use Rattle.http_desk.proofs.Joining.{ok_more}
 use Rattle.http_desk.proofs.asked.bad_checked.Goals as goal
 

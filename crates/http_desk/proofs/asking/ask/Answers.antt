@@ -1,9 +1,6 @@
 use Rattle.std.proofs.Common.{sym, subst, refl, ℕ, List}
-use Rattle.http_desk.specs.declared.wanted.Wanted.{Wanted}
+use Rattle.http_desk.proofs.Common.{Wanted, look_reply, IsToldAs, HasAsked, HasAskedShut, station_after}
 use Rattle.http_desk.specs.declared.wanted.Wanted.TheVariants as wanted
-use Rattle.http_desk.specs.Reply.{look_reply}
-use Rattle.http_desk.specs.Told.{IsToldAs, HasAsked, HasAskedShut}
-use Rattle.http_desk.specs.StationAfter.{station_after}
 use Rattle.http_desk.proofs.AskedJson.{asked_json, shut_json, shut_unavailable}
 use Rattle.http_desk.proofs.asking.ask.Goals as goal
 

@@ -1,8 +1,5 @@
 use Rattle.std.proofs.Common.{◌∙◌, refl, subst, sym, Option}
-use Rattle.station_core.specs.declared.rows.Waybill.{Waybill}
-use Rattle.http_desk.specs.Reply.{history_of}
-use Rattle.http_desk.specs.StationAfter.{station_after}
-use Rattle.http_desk.specs.Told.{IsToldAs}
+use Rattle.http_desk.proofs.Common.{Waybill, history_of, station_after, IsToldAs}
 use Rattle.http_desk.specs.declared.wanted.Wanted.TheVariants as wanted
 use Rattle.http_desk.proofs.AskedJson.{asked_json}
 use Rattle.http_desk.proofs.asking.ask_history.Goals as goal

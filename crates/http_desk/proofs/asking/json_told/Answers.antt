@@ -1,6 +1,5 @@
 use Rattle.std.proofs.Common.{◌∙◌, refl}
-use Rattle.std.specs.Prelude.{option_map}
-use Rattle.http_desk.specs.Reply.{json_answer}
+use Rattle.http_desk.proofs.Common.{option_map, json_answer}
 use Rattle.http_desk.proofs.asking.json_told.Goals as goal
 
 pub returns-in-Ok-json_answer : goal.returns-in-Ok-json_answer

@@ -1,6 +1,5 @@
 use Rattle.std.proofs.Common.{sym, subst}
-use Rattle.http_desk.specs.Told.{IsToldAs}
-use Rattle.http_desk.specs.Reply.{waybill_reply, waybill_data}
+use Rattle.http_desk.proofs.Common.{IsToldAs, waybill_reply, waybill_data}
 use Rattle.http_desk.proofs.asking.waybill_told.Goals as goal
 
 pub returns-in-Some : goal.returns-in-Some

@@ -1,5 +1,5 @@
 use Rattle.std.proofs.Common.{arith, rules, ◌≡◌, sym, Some}
-use Rattle.http_desk.specs.Keys.{and_then, decoded}
+use Rattle.http_desk.proofs.Common.{and_then, decoded}
 use Rattle.http_desk.proofs.KeySegments.{one_more, too_long}
 use Rattle.http_desk.proofs.keys.key_in.Goals as goal
 

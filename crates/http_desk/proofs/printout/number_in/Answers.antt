@@ -1,6 +1,5 @@
 use Rattle.std.proofs.Common.{◌∙◌, ap}
-use Rattle.std.specs.Result.{result_ok}
-use Rattle.awb_number.specs.Number.{number_of}
+use Rattle.http_desk.proofs.Common.{result_ok, number_of}
 use Rattle.http_desk.proofs.Wanting.{chunk_is}
 use Rattle.http_desk.proofs.printout.number_in.Goals as goal
 

@@ -1,6 +1,5 @@
 use Rattle.std.proofs.Common.{◌≡◌, refl, rules}
-use Rattle.std.specs.Prelude.{false, codes}
-use Rattle.std.specs.Str.{bytes_eq}
+use Rattle.http_desk.proofs.Common.{false, codes, bytes_eq}
 use Rattle.http_desk.proofs.printout.rows_named.Goals as goal
 
 pub returns-in_default : goal.returns-in_default

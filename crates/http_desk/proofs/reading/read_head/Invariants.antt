@@ -1,5 +1,4 @@
-use Rattle.httparse.specs.Grammar.{RequestHead}
-use Rattle.http_desk.specs.Answer.{HasHead}
+use Rattle.http_desk.proofs.Common.{RequestHead, HasHead}
 use Rattle.std.proofs.Common.{◌≡◌, ◌<◌, ◌++◌, length, ◌+◌}
 use Rattle.http_desk.proofs.reading.read_head.Given as goal
 

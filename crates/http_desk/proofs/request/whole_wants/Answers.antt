@@ -1,7 +1,5 @@
 use Rattle.std.proofs.Common.{ap, subst, take, drop}
-use Rattle.http_desk.specs.declared.wanted.HeadWants.{HeadWants}
-use Rattle.http_desk.specs.Came.{BeginsWith, HasBody}
-use Rattle.http_desk.specs.Wanted.{Wants}
+use Rattle.http_desk.proofs.Common.{HeadWants, BeginsWith, HasBody, Wants}
 use Rattle.http_desk.proofs.Arrived.{now_wants, body_wants, len_of}
 use Rattle.http_desk.proofs.Joining.{ok_more}
 use Rattle.http_desk.proofs.request.whole_wants.Goals as goal

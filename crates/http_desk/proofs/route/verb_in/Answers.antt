@@ -1,5 +1,5 @@
 use Rattle.std.proofs.Common.{◌∙◌, ap}
-use Rattle.desk_commands.specs.Verb.{verb_called}
+use Rattle.http_desk.proofs.Common.{verb_called}
 use Rattle.http_desk.proofs.NoVerb.{verb_read}
 use Rattle.http_desk.proofs.route.verb_in.Goals as goal
 

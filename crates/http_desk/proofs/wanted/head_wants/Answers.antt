@@ -1,6 +1,5 @@
 use Rattle.std.proofs.Common.{◌≡◌, ◌∙◌, ap, sym, refl, true, false}
-use Rattle.http_desk.specs.Answer.{head_of}
-use Rattle.http_desk.specs.Request.{is_foreign}
+use Rattle.http_desk.proofs.Common.{head_of, is_foreign}
 use Rattle.http_desk.proofs.Wanting.{foreign_wants, wants_on}
 use Rattle.http_desk.proofs.wanted.head_wants.Goals as goal
 

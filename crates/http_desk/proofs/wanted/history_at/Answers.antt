@@ -1,6 +1,5 @@
 use Rattle.std.proofs.Common.{◌∙◌, ap, refl}
-use Rattle.std.specs.Result.{result_ok}
-use Rattle.awb_number.specs.Number.{number_of}
+use Rattle.http_desk.proofs.Common.{result_ok, number_of}
 use Rattle.http_desk.proofs.Wanting.{history_wanted, no_history}
 use Rattle.http_desk.proofs.wanted.history_at.Goals as goal
 

@@ -1,6 +1,5 @@
 use Rattle.std.proofs.Common.{◌∙◌, ap, refl}
-use Rattle.std.specs.Result.{result_ok}
-use Rattle.awb_number.specs.Number.{number_of}
+use Rattle.http_desk.proofs.Common.{result_ok, number_of}
 use Rattle.http_desk.proofs.Wanting.{holder_wanted, no_holder}
 use Rattle.http_desk.proofs.wanted.holder_at.Goals as goal
 

@@ -1,7 +1,5 @@
 use Rattle.std.proofs.Common.{◌∙◌, ap, subst}
-use Rattle.http_desk.specs.Request.{HeadAsks, place_asks}
-use Rattle.http_desk.specs.Routes.{asked_place, page_at, path_of}
-use Rattle.http_desk.specs.Wanted.{HasWants}
+use Rattle.http_desk.proofs.Common.{HeadAsks, place_asks, asked_place, page_at, path_of, HasWants}
 use Rattle.http_desk.proofs.wanted.own_wants.Goals as goal
 
 pub returns : goal.returns

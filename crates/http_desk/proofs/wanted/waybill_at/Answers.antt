@@ -1,6 +1,5 @@
 use Rattle.std.proofs.Common.{◌∙◌, ap, refl}
-use Rattle.std.specs.Result.{result_ok}
-use Rattle.awb_number.specs.Number.{number_of}
+use Rattle.http_desk.proofs.Common.{result_ok, number_of}
 use Rattle.http_desk.proofs.Wanting.{waybill_wanted, no_waybill}
 use Rattle.http_desk.proofs.wanted.waybill_at.Goals as goal
 

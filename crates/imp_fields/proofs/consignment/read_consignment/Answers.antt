@@ -1,8 +1,5 @@
 use Rattle.std.proofs.Common.{◌≡◌, ◌≤◌, ◌+◌, Some, None, length, take, sym, ap, ◌∙◌, arith}
-use Rattle.std.specs.Prelude.{slice_range, min}
-use Rattle.awb_number.specs.Number.{number_of}
-use Rattle.imp_fields.specs.Consignment.{quantity_part}
-use Rattle.imp_fields.specs.Quantity.{quantity_of}
+use Rattle.imp_fields.proofs.Common.{slice_range, min, number_of, quantity_part, quantity_of}
 use Rattle.imp_fields.proofs.LineLaws.{misnumbered, uncounted, found, quantity_end, end_is, quantity_length, slice_at}
 use Rattle.imp_fields.proofs.consignment.read_consignment.Goals as goal
 

@@ -1,8 +1,6 @@
 use Rattle.std.proofs.Common.{◌≡◌, ◌≤◌, true, Some, length, take, get_or, sym, arith}
-use Rattle.std.specs.Prelude.{slice_range}
+use Rattle.imp_fields.proofs.Common.{slice_range, has_number_shape, airport_of}
 use Rattle.std.proofs.lemmas.Grind.{common_steps}
-use Rattle.awb_number.specs.Number.{has_number_shape}
-use Rattle.imp_fields.specs.Airport.{airport_of}
 use Rattle.imp_fields.proofs.ShapeLaws.{route_found}
 use Rattle.imp_fields.proofs.consignment.route.Goals as goal
 

@@ -1,6 +1,5 @@
 use Rattle.std.proofs.Common.{◌≡◌, take}
-use Rattle.std.specs.List.{list_all}
-use Rattle.imp_fields.specs.Characters.{is_printable}
+use Rattle.imp_fields.proofs.Common.{list_all, is_printable}
 use Rattle.imp_fields.proofs.run.are_printable.Given as goal
 
 abbrev pub invariant-loop-b : goal.invariant-loop-b

@@ -1,6 +1,5 @@
 use Rattle.std.proofs.Common.{◌≡◌, ◌<◌, ◌^◌, true, take}
-use Rattle.std.specs.List.{list_all}
-use Rattle.awb_number.specs.Digits.{is_digit, decimal_value}
+use Rattle.imp_fields.proofs.Common.{list_all, is_digit, decimal_value}
 use Rattle.imp_fields.proofs.run.count.Given as goal
 
 abbrev pub invariant-loop-b : goal.invariant-loop-b

@@ -1,6 +1,5 @@
 use Rattle.std.proofs.Common.{◌≡◌, ◌≤◌, ◌-◌, true, length, take}
-use Rattle.std.specs.List.{list_all}
-use Rattle.imp_fields.specs.Characters.{is_printable}
+use Rattle.imp_fields.proofs.Common.{list_all, is_printable}
 use Rattle.imp_fields.proofs.run.printable_in_front.Given as goal
 
 abbrev pub invariant-loop-eight : goal.invariant-loop-eight

@@ -1,6 +1,5 @@
 use Rattle.std.proofs.Common.{◌≡◌, take, string_bytes}
-use Rattle.std.specs.Prelude.{map}
-use Rattle.input_reasons.specs.LookObject.{dropped_object}
+use Rattle.input_reasons.proofs.Common.{map, dropped_object}
 use Rattle.input_reasons.proofs.as_object.dropped_objects.Given as goal
 
 abbrev pub invariant-loop-line : goal.invariant-loop-line

@@ -1,8 +1,7 @@
 use Rattle.std.proofs.Common.{◌∙◌, ap, ◌++◌, codes}
-use Rattle.std.specs.Prelude.{filter_map, map}
+use Rattle.input_reasons.proofs.Common.{filter_map, map, dropped_object, list_text, message_members, passed_object, read_object}
 use Rattle.serde_json.specs.Data.{boolean}
 use Rattle.serde_json.specs.Written.{compact_text}
-use Rattle.input_reasons.specs.LookObject.{dropped_object, list_text, message_members, passed_object, read_object}
 use Rattle.input_reasons.proofs.Texts.{told}
 use Rattle.input_reasons.proofs.as_object.look_object.Goals as goal
 

@@ -1,6 +1,5 @@
 use Rattle.std.proofs.Common.{◌∙◌, ap, sym, [], ◌++◌}
-use Rattle.std.specs.List.{cons_option}
-use Rattle.input_reasons.specs.LookObject.{read_object}
+use Rattle.input_reasons.proofs.Common.{cons_option, read_object}
 use Rattle.input_reasons.proofs.Texts.{filter_more}
 use Rattle.input_reasons.proofs.as_object.read_objects.Goals as goal
 

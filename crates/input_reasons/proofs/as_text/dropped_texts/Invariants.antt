@@ -1,6 +1,5 @@
 use Rattle.std.proofs.Common.{◌≡◌, take, string_bytes}
-use Rattle.std.specs.Prelude.{flat_map}
-use Rattle.input_reasons.specs.LookText.{dropped_text}
+use Rattle.input_reasons.proofs.Common.{flat_map, dropped_text}
 use Rattle.input_reasons.proofs.as_text.dropped_texts.Given as goal
 
 abbrev pub invariant-loop-line : goal.invariant-loop-line

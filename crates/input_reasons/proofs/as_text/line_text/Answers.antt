@@ -1,6 +1,5 @@
 use Rattle.std.proofs.Common.{◌∙◌, ap, sym, ◌++◌, codes}
-use Rattle.std.specs.Prelude.{decimal}
-use Rattle.input_reasons.specs.LookText.{part_text}
+use Rattle.input_reasons.proofs.Common.{decimal, part_text}
 use Rattle.input_reasons.proofs.Texts.{told}
 use Rattle.input_reasons.proofs.as_text.line_text.Goals as goal
 

@@ -1,7 +1,6 @@
 use Rattle.std.proofs.Common.{◌∙◌, ap, inr, refl, sym}
-use Rattle.imp_fields.specs.NormalText.{fault_at, line_texts}
+use Rattle.input_reasons.proofs.Common.{fault_at, line_texts, front_lines, has_no_day, seen_lines}
 use Rattle.imp_fields.specs.declared.fault.Why.TheVariants as why
-use Rattle.input_reasons.specs.Look.{front_lines, has_no_day, seen_lines}
 use Rattle.input_reasons.proofs.Front.{parted}
 use Rattle.input_reasons.proofs.look.look_at.Goals as goal
 

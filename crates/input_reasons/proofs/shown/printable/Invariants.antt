@@ -1,6 +1,5 @@
 use Rattle.std.proofs.Common.{IsTrue, string_bytes}
-use Rattle.std.specs.List.{list_all}
-use Rattle.imp_fields.specs.Characters.{is_printable}
+use Rattle.input_reasons.proofs.Common.{list_all, is_printable}
 use Rattle.input_reasons.proofs.shown.printable.Given as goal
 
 -- what was appended so far is printable

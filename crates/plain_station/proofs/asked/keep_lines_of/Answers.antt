@@ -1,5 +1,5 @@
 use Rattle.std.proofs.Common.{rules}
-use Rattle.std.proofs.lemmas.Fn.{filter_same}
+use Rattle.plain_station.proofs.Common.{filter_same}
 use Rattle.plain_station.proofs.asked.keep_lines_of.Goals as goal
 
 pub returns : goal.returns

@@ -1,5 +1,5 @@
 use Rattle.std.proofs.Common.{◌≡◌, ◌≤◌, ◌*◌, take}
-use Rattle.shipment_machine.specs.Book.{pieces_of, tenths_of, moved_in}
+use Rattle.plain_station.proofs.Common.{pieces_of, tenths_of, moved_in}
 use Rattle.plain_station.specs.Spots.{is_in}
 use Rattle.plain_station.proofs.balances.total_in.Given as goal
 

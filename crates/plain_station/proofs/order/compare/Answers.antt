@@ -1,5 +1,5 @@
 use Rattle.std.proofs.Common.{◌≡◌, rules, sym, ◌∙◌}
-use Rattle.station_core.specs.Readers.{by_flight}
+use Rattle.plain_station.proofs.Common.{by_flight}
 use Rattle.plain_station.proofs.Listed.{tie_same}
 use Rattle.plain_station.proofs.order.compare.Goals as goal
 

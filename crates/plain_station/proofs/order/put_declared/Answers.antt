@@ -1,12 +1,6 @@
 use Rattle.std.proofs.Common.{◌≡◌, true, ◌==◌, ◌++◌, ◌∷◌, [], Err, Ordering, rules, sym, subst}
-use Rattle.std.proofs.lemmas.Bool.{eq-eqb}
-use Rattle.std.proofs.lemmas.Fn.{always_returns_same}
-use Rattle.std.specs.FinMap.{nat_cmp-IsAntisymmetric}
-use Rattle.std.specs.List.{list_any}
-use Rattle.std.specs.List.Sorted.{IsBinarySearchResult}
-use Rattle.std.specs.Ordering.{nat_cmp}
+use Rattle.plain_station.proofs.Common.{eq-eqb, always_returns_same, nat_cmp-IsAntisymmetric, list_any, IsBinarySearchResult, nat_cmp, AreDeclared, declared_in}
 use Rattle.station_core.specs.declared.rows.AnnouncedRow.{AnnouncedRow}
-use Rattle.plain_station.specs.Lists.{AreDeclared, declared_in}
 use Rattle.plain_station.proofs.Listed.{any_within, declaration_put, declaration_there}
 use Rattle.plain_station.proofs.order.put_declared.Goals as goal
 

@@ -1,10 +1,5 @@
 use Rattle.std.proofs.Common.{◌∙◌, ◌<◌, ◌&&◌, ◌==◌, ◌++◌, ◌∷◌, [], Err, Ordering, get_or, length, rules, ap, sym, subst}
-use Rattle.std.proofs.lemmas.Fn.{always_returns_same}
-use Rattle.std.specs.List.Sorted.{IsBinarySearchResult}
-use Rattle.shipment_machine.specs.Flights.{same_flight_date}
-use Rattle.station_core.specs.Readers.{AreExpectations, by_expectation}
-use Rattle.station_core.specs.declared.rows.Expectation.{Expectation}
-use Rattle.plain_station.specs.Lists.{expected_in}
+use Rattle.plain_station.proofs.Common.{always_returns_same, IsBinarySearchResult, same_flight_date, AreExpectations, by_expectation, Expectation, expected_in}
 use Rattle.plain_station.proofs.Listed.{any_at, expected_put, expected_there, same_back}
 use Rattle.plain_station.proofs.order.put_expected.Goals as goal
 

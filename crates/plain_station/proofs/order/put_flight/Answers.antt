@@ -1,11 +1,7 @@
 use Rattle.std.proofs.Common.{◌∙◌, ◌<◌, ◌++◌, ◌∷◌, [], Err, Ordering, get_or, length, rules, ap, sym, subst}
-use Rattle.std.proofs.lemmas.Fn.{always_returns_same}
-use Rattle.std.specs.List.Sorted.{IsBinarySearchResult}
-use Rattle.shipment_machine.specs.Flights.{same_flight_date}
+use Rattle.plain_station.proofs.Common.{always_returns_same, IsBinarySearchResult, same_flight_date, AreNoted, by_flight, flights_in}
 use Rattle.shipment_machine.proofs.FlightKeys.{same-sym}
-use Rattle.station_core.specs.Readers.{AreNoted, by_flight}
 use Rattle.station_core.specs.declared.rows.NotedFlight.{NotedFlight}
-use Rattle.plain_station.specs.Lists.{flights_in}
 use Rattle.plain_station.proofs.Listed.{any_at, flight_put, flight_there}
 use Rattle.plain_station.proofs.order.put_flight.Goals as goal
 

@@ -1,5 +1,5 @@
 use Rattle.std.proofs.Common.{◌≡◌, ℕ, Some, ap, ◌∙◌}
-use Rattle.std.specs.Bool.{if◌then◌else◌}
+use Rattle.plain_station.proofs.Common.{if◌then◌else◌}
 use Rattle.agent_stock.specs.declared.stock.Run.{Run}
 use Rattle.agent_stock.specs.declared.stock.Holder.TheVariants.{Used}
 use Rattle.agent_stock.specs.Plain.{holders_of}

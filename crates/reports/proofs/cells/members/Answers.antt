@@ -1,7 +1,6 @@
 use Rattle.std.proofs.Common.{◌∙◌, ap, sym, ◌++◌, codes, string_bytes}
 use Rattle.serde_json.proofs.OnLiterals.{serde_json_on_literals}
-use Rattle.desk_commands.proofs.Written.{told}
-use Rattle.reports.specs.Cells.{cell_text}
+use Rattle.reports.proofs.Common.{told, cell_text}
 use Rattle.reports.proofs.cells.members.Goals as goal
 
 pub returns-in_ok-awb_text-in-Awb : goal.returns-in_ok-awb_text-in-Awb

@@ -1,6 +1,5 @@
 use Rattle.std.proofs.Common.{◌≡◌, ◌++◌, take}
-use Rattle.std.specs.List.{flat_map}
-use Rattle.reports.specs.Cells.{next_text}
+use Rattle.reports.proofs.Common.{flat_map, next_text}
 use Rattle.reports.proofs.cells.put_rest.Given as goal
 
 abbrev pub invariant-loop-cell : goal.invariant-loop-cell

@@ -1,6 +1,5 @@
 use Rattle.std.proofs.Common.{take}
-use Rattle.station_core.specs.Keeping.{OnlyReads}
-use Rattle.station_core.specs.Step.{State}
+use Rattle.reports.proofs.Common.{OnlyReads, State}
 use Rattle.reports.specs.Days.{AreDated}
 use Rattle.reports.proofs.days.all_dated.Given as goal
 

@@ -1,5 +1,5 @@
 use Rattle.std.proofs.Common.{rules, ap}
-use Rattle.std.specs.Result.{is_ok}
+use Rattle.reports.proofs.Common.{is_ok}
 use Rattle.reports.proofs.Stays.{day_known}
 use Rattle.reports.proofs.days.day_of.Goals as goal
 

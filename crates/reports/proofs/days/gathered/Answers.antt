@@ -1,5 +1,5 @@
 use Rattle.std.proofs.Common.{rules, ap}
-use Rattle.std.specs.Result.{is_ok}
+use Rattle.reports.proofs.Common.{is_ok}
 use Rattle.reports.proofs.Stays.{kept_known}
 use Rattle.reports.proofs.days.gathered.Goals as goal
 

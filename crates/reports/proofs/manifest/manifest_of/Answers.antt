@@ -1,5 +1,5 @@
 use Rattle.std.proofs.Common.{ap}
-use Rattle.std.specs.Result.{is_ok}
+use Rattle.reports.proofs.Common.{is_ok}
 use Rattle.reports.proofs.Aboard.{made}
 use Rattle.reports.proofs.manifest.manifest_of.Goals as goal
 

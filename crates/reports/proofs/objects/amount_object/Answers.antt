@@ -1,6 +1,6 @@
 use Rattle.std.proofs.Common.{◌++◌, decimal, codes, string_bytes}
 use Rattle.serde_json.proofs.OnLiterals.{serde_json_on_literals}
-use Rattle.desk_commands.proofs.Written.{told}
+use Rattle.reports.proofs.Common.{told}
 use Rattle.reports.proofs.objects.amount_object.Goals as goal
 
 pub returns : goal.returns

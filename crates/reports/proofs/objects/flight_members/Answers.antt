@@ -1,9 +1,7 @@
 use Rattle.std.proofs.Common.{rules, ◌≡◌, ◌∙◌, ap, ℕ, List, ◌++◌, codes, string_bytes}
 use Rattle.serde_json.proofs.OnLiterals.{serde_json_on_literals}
-use Rattle.serde_json.specs.Data.{string}
-use Rattle.serde_json.specs.Written.{compact_text}
+use Rattle.reports.proofs.Common.{string, compact_text, told}
 use Rattle.imp_fields.specs.Flight.{flight_text}
-use Rattle.desk_commands.proofs.Written.{told}
 use Rattle.reports.proofs.objects.flight_members.Goals as goal
 
 pub returns : goal.returns

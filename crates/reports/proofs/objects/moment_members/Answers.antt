@@ -1,8 +1,6 @@
 use Rattle.std.proofs.Common.{rules, ◌≡◌, ◌∙◌, ap, ℕ, List, ◌++◌, codes, string_bytes}
 use Rattle.serde_json.proofs.OnLiterals.{serde_json_on_literals}
-use Rattle.serde_json.specs.Data.{string}
-use Rattle.serde_json.specs.Written.{compact_text}
-use Rattle.desk_commands.proofs.Written.{told}
+use Rattle.reports.proofs.Common.{string, compact_text, told}
 use Rattle.reports.specs.Layout.{clock_text}
 use Rattle.reports.proofs.objects.moment_members.Goals as goal
 

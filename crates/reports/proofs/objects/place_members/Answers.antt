@@ -1,8 +1,6 @@
 use Rattle.std.proofs.Common.{◌∙◌, ap, ℕ, List, ◌++◌, codes, string_bytes}
 use Rattle.serde_json.proofs.OnLiterals.{serde_json_on_literals}
-use Rattle.serde_json.specs.Data.{string}
-use Rattle.serde_json.specs.Written.{compact_text}
-use Rattle.desk_commands.proofs.Written.{told}
+use Rattle.reports.proofs.Common.{string, compact_text, told}
 use Rattle.reports.proofs.objects.place_members.Goals as goal
 
 pub returns : goal.returns

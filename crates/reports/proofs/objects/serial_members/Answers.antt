@@ -1,10 +1,7 @@
 use Rattle.std.proofs.Common.{rules, ◌≡◌, ◌∙◌, ap, ℕ, List, ◌++◌, codes, string_bytes}
 use Rattle.serde_json.proofs.OnLiterals.{serde_json_on_literals}
-use Rattle.serde_json.specs.Data.{string}
-use Rattle.serde_json.specs.Written.{compact_text}
+use Rattle.reports.proofs.Common.{string, compact_text, prefix_of, serial_of, told}
 use Rattle.awb_number.specs.Digits.{padded}
-use Rattle.awb_number.specs.Number.{prefix_of, serial_of}
-use Rattle.desk_commands.proofs.Written.{told}
 use Rattle.reports.proofs.objects.serial_members.Goals as goal
 
 pub returns : goal.returns

@@ -1,17 +1,11 @@
 use Rattle.std.proofs.Common.{arith, rules}
 use Rattle.std.proofs.lemmas.Grind.{common_steps}
-use Rattle.std.specs.Prelude.{filter}
-use Rattle.station_core.specs.Readers.{book_by, messages_after, messages_by, trail_by}
+use Rattle.reports.proofs.Common.{filter, book_by, messages_after, messages_by, trail_by, line_by, data_by, book_cells, manifest_cells, kept_line, message_lines, trail_line, IsListing, is_about, manifest_rows, kept_data, message_data, trail_data}
 use Rattle.station_core.specs.declared.rows.BookQuery.TheVariants as book
 use Rattle.station_core.specs.declared.rows.ExpectedQuery.TheVariants as expected
 use Rattle.station_core.specs.declared.rows.MessageQuery.TheVariants as messages
 use Rattle.station_core.specs.declared.rows.TrailQuery.TheVariants as trail
-use Rattle.reports.specs.Cells.{line_by, data_by, book_cells, manifest_cells}
 use Rattle.reports.specs.Keys.{kept_rows}
-use Rattle.reports.specs.Lines.{kept_line, message_lines, trail_line}
-use Rattle.reports.specs.Listings.{IsListing, is_about}
-use Rattle.reports.specs.Manifest.{manifest_rows}
-use Rattle.reports.specs.Objects.{kept_data, message_data, trail_data}
 use Rattle.reports.proofs.FlightLists.{one_expected, one_flights}
 use Rattle.reports.proofs.Handing.{reported_as, reported_rows, reported_these}
 use Rattle.reports.proofs.OneList.{one_list}

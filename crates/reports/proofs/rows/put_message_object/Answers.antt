@@ -1,6 +1,5 @@
 use Rattle.std.proofs.Common.{◌∙◌, ap, ℕ, List, [], ◌∷◌, ◌++◌}
-use Rattle.serde_json.specs.Data.{string}
-use Rattle.serde_json.specs.Written.{compact_text}
+use Rattle.reports.proofs.Common.{string, compact_text}
 use Rattle.reports.proofs.Wholes.{message_put}
 use Rattle.reports.proofs.rows.put_message_object.Goals as goal
 

@@ -1,6 +1,5 @@
 use Rattle.std.proofs.Common.{◌∙◌, ap, ℕ, List, [], ◌∷◌, ◌++◌, codes, decimal}
-use Rattle.serde_json.specs.Data.{string}
-use Rattle.serde_json.specs.Written.{compact_text}
+use Rattle.reports.proofs.Common.{string, compact_text}
 use Rattle.reports.proofs.Wholes.{trail_put}
 use Rattle.reports.proofs.rows.put_trail_object.Goals as goal
 

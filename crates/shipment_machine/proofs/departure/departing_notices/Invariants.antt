@@ -1,6 +1,5 @@
 use Rattle.std.proofs.Common.{◌≡◌, take}
-use Rattle.std.specs.List.{flat_map}
-use Rattle.shipment_machine.specs.Effect.{status_of}
+use Rattle.shipment_machine.proofs.Common.{flat_map, status_of}
 use Rattle.shipment_machine.specs.declared.notice.Event.TheVariants as event
 use Rattle.shipment_machine.proofs.departure.departing_notices.Given as goal
 

@@ -1,5 +1,5 @@
 use Rattle.std.proofs.Common.{◌≡◌, take, map}
-use Rattle.shipment_machine.specs.Effect.{manifest_line}
+use Rattle.shipment_machine.proofs.Common.{manifest_line}
 use Rattle.shipment_machine.proofs.departure.lines_of.Given as goal
 
 abbrev pub invariant-loop-aboard : goal.invariant-loop-aboard

@@ -1,7 +1,6 @@
 use Rattle.std.proofs.Common.{◌≡◌, nat_eq, get_or, subst, sym, arith}
 use Rattle.std.specs.HashMap.{get}
-use Rattle.shipment_machine.specs.declared.command.CargoLine.{CargoLine}
-use Rattle.shipment_machine.specs.Announced.{no_earlier, announced_changes}
+use Rattle.shipment_machine.proofs.Common.{CargoLine, no_earlier, announced_changes}
 use Rattle.shipment_machine.proofs.AnnouncedSteps.{one_more}
 use Rattle.shipment_machine.proofs.inbound.announced.Goals as goal
 

@@ -1,7 +1,6 @@
 use Rattle.std.proofs.Common.{◌≡◌, nat_eq, drop}
 use Rattle.std.specs.HashMap.{get}
-use Rattle.shipment_machine.specs.Effect.{then_write}
-use Rattle.shipment_machine.specs.Announced.{no_earlier, announced_changes}
+use Rattle.shipment_machine.proofs.Common.{then_write, no_earlier, announced_changes}
 use Rattle.shipment_machine.proofs.inbound.announced.Given as goal
 
 abbrev pub invariant-loop-i : goal.invariant-loop-i

@@ -1,5 +1,5 @@
 use Rattle.std.proofs.Common.{sym, ap, ◌∙◌}
-use Rattle.station_days.specs.Date.{resolved}
+use Rattle.shipment_machine.proofs.Common.{resolved}
 use Rattle.shipment_machine.proofs.Meant.{meant, not_meant}
 use Rattle.shipment_machine.proofs.inbound.day_meant.Goals as goal
 

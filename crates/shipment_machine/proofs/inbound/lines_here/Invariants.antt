@@ -1,6 +1,5 @@
 use Rattle.std.proofs.Common.{◌≡◌, ◌≤◌, take, length, All}
-use Rattle.shipment_machine.specs.Effect.{lines_for}
-use Rattle.shipment_machine.specs.Lawful.{HasPieces}
+use Rattle.shipment_machine.proofs.Common.{lines_for, HasPieces}
 use Rattle.shipment_machine.proofs.inbound.lines_here.Given as goal
 
 abbrev pub invariant-loop-line : goal.invariant-loop-line

@@ -1,5 +1,5 @@
 use Rattle.std.proofs.Common.{take, All}
-use Rattle.shipment_machine.specs.Agreement.{IsOnBoard}
+use Rattle.shipment_machine.proofs.Common.{IsOnBoard}
 use Rattle.shipment_machine.proofs.planning.are_on_board.Given as goal
 
 abbrev pub invariant-loop-aboard : goal.invariant-loop-aboard

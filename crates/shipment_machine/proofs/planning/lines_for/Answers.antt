@@ -1,5 +1,5 @@
 use Rattle.std.proofs.Common.{◌∙◌, sym}
-use Rattle.std.proofs.lemmas.List.{length-map}
+use Rattle.shipment_machine.proofs.Common.{length-map}
 use Rattle.shipment_machine.proofs.planning.lines_for.Goals as goal
 
 pub returns : goal.returns

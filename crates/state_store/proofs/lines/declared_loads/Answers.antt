@@ -1,7 +1,6 @@
 use Rattle.std.proofs.Common.{◌≡◌, [], ◌++◌, ◌∷◌, ap, ◌∙◌, map, take, ◌+◌}
-use Rattle.state_store.specs.Lines.{aboard_of}
+use Rattle.state_store.proofs.Common.{aboard_of, mapped}
 use Rattle.state_store.proofs.Walks.{reads_then}
-use Rattle.station_core.proofs.Mapped.{mapped}
 use Rattle.state_store.proofs.lines.declared_loads.Goals as goal
 
 pub loop-load-preserved : goal.loop-load-preserved

@@ -1,6 +1,5 @@
 use Rattle.std.proofs.Common.{◌≡◌, Ok, take, map}
-use Rattle.state_store.specs.Lines.{aboard_of}
-use Rattle.state_store.specs.Store.{Reads}
+use Rattle.state_store.proofs.Common.{aboard_of, Reads}
 use Rattle.state_store.proofs.lines.declared_loads.Given as goal
 
 abbrev pub invariant-loop-load : goal.invariant-loop-load

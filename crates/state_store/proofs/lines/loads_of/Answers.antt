@@ -1,9 +1,6 @@
 use Rattle.std.proofs.Common.{map, sym, ap, ◌∙◌}
-use Rattle.shipment_machine.specs.Book.{waybills_on}
-use Rattle.state_store.specs.Lines.{aboard_of}
-use Rattle.station_core.specs.Told.{load_on}
+use Rattle.state_store.proofs.Common.{waybills_on, aboard_of, load_on, map_twice}
 use Rattle.state_store.proofs.Walks.{reads_then}
-use Rattle.station_core.proofs.Mapped.{map_twice}
 use Rattle.state_store.proofs.lines.loads_of.Goals as goal
 
 pub returns-in-Some : goal.returns-in-Some

@@ -1,4 +1,4 @@
-use Rattle.station_core.specs.Readers.{expected_row}
+use Rattle.state_store.proofs.Common.{expected_row}
 use Rattle.state_store.proofs.Walks.{row_then}
 use Rattle.state_store.proofs.telling.expected_among.Goals as goal
 

@@ -1,6 +1,5 @@
 use Rattle.std.proofs.Common.{◌≡◌, Ok, take, map}
-use Rattle.station_core.specs.Readers.{expected_row}
-use Rattle.state_store.specs.Store.{ReadsAtRest}
+use Rattle.state_store.proofs.Common.{expected_row, ReadsAtRest}
 use Rattle.state_store.proofs.telling.expected_among.Given as goal
 
 abbrev pub invariant-loop-expectation : goal.invariant-loop-expectation

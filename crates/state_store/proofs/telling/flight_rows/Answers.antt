@@ -1,5 +1,5 @@
 use Rattle.std.proofs.Common.{map, ap, ◌∙◌}
-use Rattle.station_core.specs.Readers.{flight_row}
+use Rattle.state_store.proofs.Common.{flight_row}
 use Rattle.state_store.proofs.Walks.{rests_then}
 use Rattle.state_store.proofs.telling.flight_rows.Goals as goal
 

@@ -1,4 +1,4 @@
-use Rattle.station_core.specs.Readers.{flight_row}
+use Rattle.state_store.proofs.Common.{flight_row}
 use Rattle.state_store.proofs.Walks.{row_then}
 use Rattle.state_store.proofs.telling.flights_among.Goals as goal
 

@@ -1,6 +1,5 @@
 use Rattle.std.proofs.Common.{◌≡◌, Ok, take, map}
-use Rattle.station_core.specs.Readers.{flight_row}
-use Rattle.state_store.specs.Store.{ReadsAtRest}
+use Rattle.state_store.proofs.Common.{flight_row, ReadsAtRest}
 use Rattle.state_store.proofs.telling.flights_among.Given as goal
 
 abbrev pub invariant-loop-noted : goal.invariant-loop-noted

@@ -1,4 +1,4 @@
-use Rattle.station_core.specs.Told.{irregular_by}
+use Rattle.state_store.proofs.Common.{irregular_by}
 use Rattle.state_store.proofs.Walks.{row_then}
 use Rattle.state_store.proofs.telling.irregular_among.Goals as goal
 

@@ -1,6 +1,5 @@
 use Rattle.std.proofs.Common.{◌≡◌, Ok, take, map}
-use Rattle.station_core.specs.Told.{irregular_by}
-use Rattle.state_store.specs.Store.{ReadsAtRest}
+use Rattle.state_store.proofs.Common.{irregular_by, ReadsAtRest}
 use Rattle.state_store.proofs.telling.irregular_among.Given as goal
 
 abbrev pub invariant-loop-waybill : goal.invariant-loop-waybill

@@ -1,8 +1,5 @@
 use Rattle.std.proofs.Common.{map, refl, ap, ◌∙◌}
-use Rattle.shipment_machine.specs.Book.{waybills_of}
-use Rattle.station_core.specs.Readers.{is_irregular, irregular_row}
-use Rattle.station_core.specs.Told.{irregular_by}
-use Rattle.state_store.specs.declared.query.WaybillQuery.TheVariants.{Irregular}
+use Rattle.state_store.proofs.Common.{waybills_of, is_irregular, irregular_row, irregular_by, Irregular}
 use Rattle.state_store.proofs.Listed.{rows_of}
 use Rattle.state_store.proofs.Walks.{rests_then}
 use Rattle.state_store.proofs.telling.irregular_rows.Goals as goal

@@ -1,4 +1,4 @@
-use Rattle.station_core.specs.Told.{shed_by}
+use Rattle.state_store.proofs.Common.{shed_by}
 use Rattle.state_store.proofs.Walks.{row_then}
 use Rattle.state_store.proofs.telling.shed_among.Goals as goal
 

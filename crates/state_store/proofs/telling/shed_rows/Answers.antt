@@ -1,13 +1,8 @@
 use Rattle.std.proofs.Common.{ℕ, nat_lt, map, ap, ◌∙◌}
 use Rattle.shipment_machine.specs.Amount.{less}
-use Rattle.shipment_machine.specs.declared.amount.Amount.{Amount}
-use Rattle.shipment_machine.specs.Book.{free, waybills_of}
-use Rattle.shipment_machine.specs.Cargo.{Cargo}
+use Rattle.state_store.proofs.Common.{Amount, free, waybills_of, Cargo, is_in_shed, shed_row, shed_by, Stored}
 use Rattle.shipment_machine.specs.Views.{declaration}
 use Rattle.station_core.specs.declared.rows.ShedRow.{ShedRow}
-use Rattle.station_core.specs.Readers.{is_in_shed, shed_row}
-use Rattle.station_core.specs.Told.{shed_by}
-use Rattle.state_store.specs.declared.query.WaybillQuery.TheVariants.{Stored}
 use Rattle.state_store.proofs.Listed.{rows_of}
 use Rattle.state_store.proofs.Stored.{stored_is}
 use Rattle.state_store.proofs.Walks.{rests_then}

@@ -1,7 +1,6 @@
 use Rattle.std.proofs.Common.{◌≡◌, ℕ, ◌+◌, sym, ap, ◌∙◌, arith}
-use Rattle.shipment_machine.specs.declared.amount.Amount.{Amount}
+use Rattle.state_store.proofs.Common.{Amount, store, taken_and_found, departed, delivered, missing, transferred}
 use Rattle.shipment_machine.specs.declared.moves.Balances.{Balances}
-use Rattle.shipment_machine.specs.Book.{store, taken_and_found, departed, delivered, missing, transferred}
 use Rattle.state_store.proofs.telling.stored.Goals as goal
 
 -- the same sum in another order

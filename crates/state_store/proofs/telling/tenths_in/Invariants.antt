@@ -1,6 +1,5 @@
 use Rattle.std.proofs.Common.{◌≡◌, ◌≤◌, ◌*◌, take}
-use Rattle.std.specs.List.{sum_by}
-use Rattle.station_core.specs.declared.stored.Load.{Load}
+use Rattle.state_store.proofs.Common.{sum_by, Load}
 use Rattle.state_store.proofs.telling.tenths_in.Given as goal
 
 abbrev pub invariant-loop-load : goal.invariant-loop-load

@@ -1,7 +1,5 @@
 use Rattle.std.proofs.Common.{Some, sym, ap, ◌∙◌}
-use Rattle.std.specs.Option.{option_map}
-use Rattle.station_core.specs.Readers.{told_of}
-use Rattle.state_store.specs.Store.{at_rest}
+use Rattle.state_store.proofs.Common.{option_map, told_of, at_rest}
 use Rattle.state_store.proofs.Walks.{survives_then}
 use Rattle.state_store.proofs.telling.waybill_in.Goals as goal
 

@@ -1,6 +1,5 @@
 use Rattle.std.proofs.Common.{◌≡◌, true, ◌+◌, Some, take, length, List, [], ◌∷◌, ◌++◌, sym, ◌∙◌, ap, subst, inl, inr, ⊎_elim, arith, length-append}
-use Rattle.station_core.specs.declared.answer.Answer.{Answer}
-use Rattle.station_core.specs.Step.{after_all, answers_of}
+use Rattle.station_core.proofs.Common.{Answer, after_all, answers_of}
 use Rattle.station_core.proofs.Premise.{kept_on}
 use Rattle.station_core.proofs.Runs.{state_after, answers_after, never_both}
 use Rattle.station_core.proofs.all.act_all.Goals as goal

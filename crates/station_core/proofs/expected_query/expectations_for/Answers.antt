@@ -1,7 +1,5 @@
 use Rattle.std.proofs.Common.{arith, ◌≡◌, ◌∙◌, ap, sym, subst, filter, length, take}
-use Rattle.std.proofs.lemmas.List.{take_all}
-use Rattle.station_core.specs.Readers.{AreExpectations, asks_for, expected_for}
-use Rattle.station_core.specs.declared.rows.Expectation.{Expectation}
+use Rattle.station_core.proofs.Common.{take_all, AreExpectations, asks_for, expected_for, Expectation}
 use Rattle.station_core.proofs.Asked.{are_asked}
 use Rattle.station_core.proofs.expected_query.expectations_for.Goals as goal
 

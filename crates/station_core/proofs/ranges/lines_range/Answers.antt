@@ -1,7 +1,5 @@
 use Rattle.std.proofs.Common.{subst, arith}
-use Rattle.std.specs.List.{AllByRecursion}
-use Rattle.std.proofs.lemmas.List.{take_all}
-use Rattle.station_core.specs.Ranges.{IsInboundLine}
+use Rattle.station_core.proofs.Common.{AllByRecursion, take_all, IsInboundLine}
 use Rattle.station_core.proofs.RangeLaws.{all_more}
 use Rattle.station_core.proofs.ranges.lines_range.Goals as goal
 

@@ -1,6 +1,5 @@
 use Rattle.std.proofs.Common.{take}
-use Rattle.std.specs.List.{AllByRecursion}
-use Rattle.station_core.specs.Ranges.{IsInboundLine}
+use Rattle.station_core.proofs.Common.{AllByRecursion, IsInboundLine}
 use Rattle.station_core.proofs.ranges.lines_range.Given as goal
 
 -- the lines so far are in range

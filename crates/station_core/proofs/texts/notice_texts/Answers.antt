@@ -1,5 +1,4 @@
-use Rattle.telegrams.specs.NoticeText.{notice_text}
-use Rattle.station_core.specs.Texts.{texts_in}
+use Rattle.station_core.proofs.Common.{notice_text, texts_in}
 use Rattle.station_core.proofs.Mapped.{mapped}
 use Rattle.station_core.proofs.texts.notice_texts.Goals as goal
 

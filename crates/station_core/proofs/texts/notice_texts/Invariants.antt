@@ -1,6 +1,5 @@
 use Rattle.std.proofs.Common.{◌≡◌, map, take}
-use Rattle.telegrams.specs.NoticeText.{notice_text}
-use Rattle.station_core.specs.Texts.{texts_in}
+use Rattle.station_core.proofs.Common.{notice_text, texts_in}
 use Rattle.station_core.proofs.texts.notice_texts.Given as goal
 
 abbrev pub invariant-loop-notice : goal.invariant-loop-notice

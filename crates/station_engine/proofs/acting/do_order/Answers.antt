@@ -1,7 +1,5 @@
 use Rattle.std.proofs.Common.{rules}
-use Rattle.station_core.specs.Step.{accepted, kept_with}
-use Rattle.state_store.specs.Store.{at_rest}
-use Rattle.station_core.specs.Told.{with_order}
+use Rattle.station_engine.proofs.Common.{accepted, kept_with, at_rest, with_order}
 use Rattle.station_engine.proofs.Steps.{serves_by, found_after, order_step, order_lawful}
 use Rattle.station_engine.proofs.acting.do_order.Goals as goal
 

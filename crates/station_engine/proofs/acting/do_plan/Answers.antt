@@ -1,11 +1,6 @@
 use Rattle.std.proofs.Common.{map, rules, sym, ap, ◌∙◌}
-use Rattle.shipment_machine.specs.Agreement.{outcome_of}
-use Rattle.shipment_machine.specs.Effect.{carried_out}
+use Rattle.station_engine.proofs.Common.{outcome_of, carried_out, accepted, has_room, kept_with, sent, at_rest, with_plan, texts_in}
 use Rattle.telegrams.specs.NoticeText.{notice_text}
-use Rattle.station_core.specs.Step.{accepted, has_room, kept_with, sent}
-use Rattle.state_store.specs.Store.{at_rest}
-use Rattle.station_engine.specs.Written.{with_plan}
-use Rattle.station_core.specs.Texts.{texts_in}
 use Rattle.station_engine.proofs.Steps.{serves_by, found_after, plan_step, plan_lawful}
 use Rattle.station_engine.proofs.acting.do_plan.Goals as goal
 

@@ -1,5 +1,5 @@
 use Rattle.std.proofs.Common.{inl, inr, ⊎_elim}
-use Rattle.state_store.specs.Store.{at_rest}
+use Rattle.station_engine.proofs.Common.{at_rest}
 use Rattle.station_engine.proofs.Steps.{planned_by}
 use Rattle.station_engine.proofs.acting.do_shipment.Goals as goal
 

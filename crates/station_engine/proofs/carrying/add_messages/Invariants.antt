@@ -1,7 +1,5 @@
 use Rattle.std.proofs.Common.{Ok, take}
-use Rattle.state_store.specs.Store.{Changes}
-use Rattle.station_core.specs.Told.{with_messages}
-use Rattle.station_core.specs.Texts.{texts_in}
+use Rattle.station_engine.proofs.Common.{Changes, with_messages, texts_in}
 use Rattle.station_engine.proofs.carrying.add_messages.Given as goal
 
 abbrev pub invariant-loop-message : goal.invariant-loop-message

@@ -1,6 +1,5 @@
 use Rattle.std.proofs.Common.{Ok, take}
-use Rattle.state_store.specs.Store.{Changes}
-use Rattle.station_core.specs.Told.{with_moves}
+use Rattle.station_engine.proofs.Common.{Changes, with_moves}
 use Rattle.station_engine.proofs.carrying.add_moves.Given as goal
 
 abbrev pub invariant-loop-movement : goal.invariant-loop-movement

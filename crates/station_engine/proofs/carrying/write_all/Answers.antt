@@ -1,7 +1,5 @@
 use Rattle.std.proofs.Common.{take, subst}
-use Rattle.station_core.specs.Step.{State}
-use Rattle.state_store.specs.Store.{inside}
-use Rattle.station_engine.specs.Written.{with_changes}
+use Rattle.station_engine.proofs.Common.{State, inside, with_changes}
 use Rattle.state_store.proofs.Walks.{survives_then}
 use Rattle.station_engine.proofs.Walks.{change_next}
 use Rattle.station_engine.proofs.carrying.write_all.Goals as goal

@@ -1,6 +1,5 @@
 use Rattle.std.proofs.Common.{Ok, take}
-use Rattle.state_store.specs.Store.{Changes}
-use Rattle.station_engine.specs.Written.{with_changes}
+use Rattle.station_engine.proofs.Common.{Changes, with_changes}
 use Rattle.station_engine.proofs.carrying.write_all.Given as goal
 
 abbrev pub invariant-loop-change : goal.invariant-loop-change

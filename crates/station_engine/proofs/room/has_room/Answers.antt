@@ -1,9 +1,7 @@
 use Rattle.std.proofs.Common.{◌∙◌, ap, sym, length, ◌+◌}
-use Rattle.std.specs.Prelude.{nat_le}
-use Rattle.std.proofs.lemmas.List.{length-map}
+use Rattle.station_engine.proofs.Common.{nat_le, length-map, texts_in}
 use Rattle.std.specs.List.{filter}
 use Rattle.station_engine.specs.Room.{is_line}
-use Rattle.station_core.specs.Texts.{texts_in}
 use Rattle.station_engine.proofs.Numbering.{room_by}
 use Rattle.station_engine.proofs.room.has_room.Goals as goal
 

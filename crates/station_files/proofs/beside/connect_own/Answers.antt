@@ -1,8 +1,5 @@
 use Rattle.std.proofs.Common.{◌<◌, ◌∙◌, ℕ, IsTrue, Vec, Global, length, slice_index, ap, subst, refl, inr, arith, rules}
-use Rattle.sqlite_trees.specs.Objects.{catalog_tree}
-use Rattle.sqlite_trees.specs.View.{IsClean}
-use Rattle.station_files.specs.Beside.{AreBeside}
-use Rattle.station_files.specs.Own.{own_trees}
+use Rattle.station_files.proofs.Common.{catalog_tree, IsClean, AreBeside, own_trees}
 use Rattle.station_files.proofs.beside.connect_own.Goals as goal
 
 pub returns-in-Err-over-clause-left : goal.returns-in-Err-over-clause-left

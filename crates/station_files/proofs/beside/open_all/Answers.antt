@@ -1,8 +1,6 @@
 use Rattle.std.proofs.Common.{IsTrue, length, lt-ltb, refl, sym, subst}
-use Rattle.sqlite_pool.specs.Stored.{Recovers}
-use Rattle.sqlite_pool.specs.StoredLaws.{recovers_once}
+use Rattle.station_files.proofs.Common.{Recovers, recovers_once, image, state_of}
 use Rattle.sqlite_store.specs.FileStore.{state as store_state}
-use Rattle.sqlite_store.specs.Unopened.{image, state_of}
 use Rattle.station_files.proofs.Opened.{opens_on}
 use Rattle.station_files.proofs.beside.open_all.Goals as goal
 

@@ -1,8 +1,7 @@
 use Rattle.std.proofs.Common.{◌∙◌, sym, ap, inl, inr, arith}
-use Rattle.sqlite_trees.proofs.Doubt.{clean_of as sure, no_doubt}
+use Rattle.station_files.proofs.Common.{no_doubt, settled_at, own_trees}
+use Rattle.sqlite_trees.proofs.Doubt.{clean_of as sure}
 use Rattle.sqlite_store.specs.FileStore.{state as store_state, view as shown}
-use Rattle.sqlite_store.specs.Laws.{settled_at}
-use Rattle.station_files.specs.Own.{own_trees}
 use Rattle.station_files.proofs.OwnFiles.{finds_own, reads_own}
 use Rattle.station_files.proofs.beside.open_beside.Goals as goal
 

@@ -1,8 +1,6 @@
 use Rattle.std.proofs.Common.{sym, subst}
-use Rattle.sqlite_pool.specs.Stored.{Recovers}
+use Rattle.station_files.proofs.Common.{Recovers, settled, image, state_of}
 use Rattle.sqlite_pool.proofs.OpenLemmas.{Reopens-keeps}
-use Rattle.sqlite_pool.proofs.StateLemmas.{settled}
-use Rattle.sqlite_store.specs.Unopened.{image, state_of}
 use Rattle.sqlite_store.proofs.OpenLemmas.{opens_after}
 use Rattle.station_files.proofs.beside.read_entries.Goals as goal
 

@@ -1,5 +1,5 @@
 use Rattle.std.proofs.Common.{◌≤◌, arith}
-use Rattle.sqlite_trees.specs.View.{doubt}
+use Rattle.station_files.proofs.Common.{doubt}
 use Rattle.station_files.proofs.closing.inside.Goals as goal
 
 pub returns : goal.returns

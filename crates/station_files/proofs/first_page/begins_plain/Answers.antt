@@ -1,9 +1,7 @@
 use Rattle.std.proofs.Common.{◌≡◌, ◌%◌, ◌≤◌, true≢false, not, ap, sym, subst, ◌∙◌, inl, inr, arith, rules, eq-eqb, ne_eqb}
-use Rattle.std.proofs.lemmas.Bool.{cases_eq}
+use Rattle.station_files.proofs.Common.{cases_eq, reserved, image_of}
 use Rattle.sqlite_wal.specs.Recovery as raw
-use Rattle.sqlite_pool.specs.Stored.{reserved}
 use Rattle.sqlite_pool.proofs.ProbeLemmas.{reserved_word}
-use Rattle.sqlite.specs.Files.{image_of}
 use Rattle.station_files.proofs.first_page.begins_plain.Goals as goal
 
 -- the header's word is that of pages with no sums

@@ -1,5 +1,5 @@
 use Rattle.std.proofs.Common.{◌≡◌, Some, rules}
-use Rattle.sqlite.specs.Files.{image_of}
+use Rattle.station_files.proofs.Common.{image_of}
 use Rattle.station_files.proofs.ByList.{probe_pages}
 use Rattle.station_files.proofs.first_page.named_size.Goals as goal
 

@@ -1,4 +1,4 @@
-use Rattle.sqlite_store.specs.Laws.{stays_at}
+use Rattle.station_files.proofs.Common.{stays_at}
 use Rattle.station_files.proofs.Ended.{whole_leads_on}
 use Rattle.station_files.proofs.laws.files_lead_on.Goals as goal
 

@@ -1,6 +1,5 @@
 use Rattle.std.proofs.Common.{refl}
-use Rattle.sqlite_store.specs.FileStore.{view}
-use Rattle.sqlite_store.specs.Laws.{stays_at}
+use Rattle.station_files.proofs.Common.{view, stays_at}
 use Rattle.station_files.proofs.Ended.{own_leads_on}
 use Rattle.station_files.proofs.laws.own_files_lead_on.Goals as goal
 

@@ -1,11 +1,5 @@
 use Rattle.std.proofs.Common.{inl, inr, subst, subst₂}
-use Rattle.std.proofs.lemmas.Bool.{cases_Bool, both_ways}
-use Rattle.sqlite_trees.proofs.Doubt.{no_doubt}
-use Rattle.sqlite_trees.specs.Objects.{catalog_tree, IsListed}
-use Rattle.sqlite_trees.specs.View.{IsClean, IsOrdered}
-use Rattle.sqlite_store.specs.FileStore.{view}
-use Rattle.sqlite_store.specs.Laws.{shut_if_dirty_at}
-use Rattle.station_files.specs.Own.{own_trees}
+use Rattle.station_files.proofs.Common.{cases_Bool, both_ways, no_doubt, catalog_tree, IsListed, IsClean, IsOrdered, view, shut_if_dirty_at, own_trees}
 use Rattle.station_files.specs.OwnLaws.{own_listed, own_ordered}
 use Rattle.station_files.proofs.laws.own_files_lie_in_order.Goals as goal
 

@@ -1,12 +1,7 @@
 use Rattle.std.proofs.Common.{◌≡◌, true, sym, subst, ◌∙◌, arith, rules}
-use Rattle.std.proofs.lemmas.Result.{err_from_is_err_and}
-use Rattle.sqlite_wal.specs.PageSize.{bytes_of}
-use Rattle.sqlite_pool.specs.Opening.{IsBlankFile}
-use Rattle.sqlite_trees.proofs.Doubt.{clean_of as sure, no_doubt}
+use Rattle.station_files.proofs.Common.{err_from_is_err_and, bytes_of, IsBlankFile, no_doubt, settled_at, IsEmpty, same_image}
+use Rattle.sqlite_trees.proofs.Doubt.{clean_of as sure}
 use Rattle.sqlite_store.specs.FileStore.{view as shown}
-use Rattle.sqlite_store.specs.Laws.{settled_at}
-use Rattle.sqlite.specs.Files.{IsEmpty}
-use Rattle.sqlite.proofs.FileLemmas.{same_image}
 use Rattle.station_files.proofs.Unstarted.{unstarted_before}
 use Rattle.station_files.proofs.making.open_new.Goals as goal
 

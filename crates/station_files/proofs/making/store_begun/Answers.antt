@@ -1,16 +1,5 @@
 use Rattle.std.proofs.Common.{◌≡◌, sym, ap, false, subst, subst₂, ◌∙◌, inl, inr}
-use Rattle.sqlite_wal.specs.Files.{outcomes, seen_image}
-use Rattle.sqlite_wal.specs.PageSize.{bytes_of, IsPageSize}
-use Rattle.sqlite_wal.specs.Reads.{are_clean}
-use Rattle.sqlite_pool.specs.Opening.{IsBlankFile}
-use Rattle.sqlite_pool.specs.Stored.{is_summed, stored_size}
-use Rattle.sqlite_trees.proofs.Doubt.{no_doubt}
-use Rattle.sqlite_store.specs.Listed.{catalog_rows}
-use Rattle.sqlite_store.specs.Listing.{listed_from}
-use Rattle.sqlite.proofs.OpenLemmas.{pool_files}
-use Rattle.sqlite.proofs.FileLemmas.{stored_used, summed_used}
-use Rattle.sqlite.specs.Files.{image_of}
-use Rattle.sqlite_store.specs.Unopened.{image, state_of}
+use Rattle.station_files.proofs.Common.{outcomes, seen_image, bytes_of, IsPageSize, are_clean, IsBlankFile, is_summed, stored_size, no_doubt, catalog_rows, listed_from, pool_files, stored_used, summed_used, image_of, image, state_of}
 use Rattle.station_files.proofs.Unstarted.{unstarted}
 use Rattle.station_files.proofs.making.store_begun.Goals as goal
 

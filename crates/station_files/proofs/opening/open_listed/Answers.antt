@@ -1,11 +1,7 @@
 use Rattle.std.proofs.Common.{sym, subst, ◌∙◌, inl, arith}
-use Rattle.std.proofs.Math.Logic.{∥∥₁_map}
-use Rattle.sqlite_pool.proofs.ResealLemmas.{adopts_of}
-use Rattle.sqlite_trees.proofs.Doubt.{clean_of as sure, no_doubt}
-use Rattle.sqlite_store.specs.Laws.{settled_at}
-use Rattle.sqlite_catalog.specs.Listing.{IsSound}
+use Rattle.station_files.proofs.Common.{∥∥₁_map, adopts_of, no_doubt, settled_at, IsSound, file_state, image_of, AreFound}
+use Rattle.sqlite_trees.proofs.Doubt.{clean_of as sure}
 use Rattle.sqlite_store.specs.FileStore.{state as store_state, view as shown}
-use Rattle.sqlite.specs.Files.{file_state, image_of, AreFound}
 use Rattle.station_files.proofs.ByList.{in_any_order}
 use Rattle.station_files.proofs.OwnFiles.{held_by_list, held_own}
 use Rattle.station_files.proofs.Once.{held_by_list as held_once}

@@ -1,16 +1,5 @@
 use Rattle.std.proofs.Common.{◌≡◌, false, ap, ap₂, subst₂, ◌∙◌, arith}
-use Rattle.std.proofs.Math.Logic.{∥∥₁_map}
-use Rattle.std.proofs.Math.Path.{subst₃}
-use Rattle.std.proofs.lemmas.Bool.{cond-true}
-use Rattle.sqlite_wal.specs.PageSize.{bytes_of}
-use Rattle.sqlite_pool.specs.Stored.{is_summed, Recovers}
-use Rattle.sqlite_trees.specs.Tree.{no_trees}
-use Rattle.sqlite_trees.proofs.Doubt.{no_doubt}
-use Rattle.sqlite_store.specs.Unopened.{state_of, wanted_by}
-use Rattle.sqlite_store.specs.FileStore.{state}
-use Rattle.sqlite_store.specs.Listing.{file_trees, IsOurs}
-use Rattle.sqlite_store.specs.Saved.{kept_schema}
-use Rattle.sqlite.proofs.FileLemmas.{summed_used}
+use Rattle.station_files.proofs.Common.{∥∥₁_map, subst₃, cond-true, bytes_of, is_summed, Recovers, no_trees, no_doubt, state_of, wanted_by, state, file_trees, IsOurs, kept_schema, summed_used}
 use Rattle.station_files.proofs.Opened.{kept_files}
 use Rattle.station_files.proofs.opening.store_by_list.Goals as goal
 

@@ -1,14 +1,6 @@
 use Rattle.std.proofs.Common.{IsTrue, sym, ap, subst, ◌∙◌, rules}
-use Rattle.sqlite_wal.specs.Files.{outcomes, seen_image}
-use Rattle.sqlite_wal.specs.Reads.{are_clean, AreClean}
+use Rattle.station_files.proofs.Common.{outcomes, seen_image, are_clean, AreClean, pair, state_of, BeginsWell, pool_files, reads_then, same_image, bytes_of, HoldsPages}
 use Rattle.sqlite_wal.proofs.CleanLemmas.{both_clean}
-use Rattle.sqlite_store.proofs.StoreLemmas.{pair}
-use Rattle.sqlite_store.specs.Unopened.{state_of}
-use Rattle.sqlite.specs.Files.{BeginsWell}
-use Rattle.sqlite.proofs.OpenLemmas.{pool_files}
-use Rattle.sqlite.proofs.FileLemmas.{reads_then, same_image}
-use Rattle.sqlite_wal.specs.PageSize.{bytes_of}
-use Rattle.station_files.specs.ByList.{HoldsPages}
 use Rattle.station_files.proofs.opening.unopened.Goals as goal
 
 pub returns-in-Ok-clause-unopened : goal.returns-in-Ok-clause-unopened

@@ -1,7 +1,5 @@
 use Rattle.std.proofs.Common.{◌≡◌, ap, map, take, true, IsTrue, sym, ◌∙◌, rules}
-use Rattle.std.specs.List.{list_all}
-use Rattle.sqlite_trees.specs.Objects.{catalog_tree}
-use Rattle.station_files.specs.Beside.{is_known}
+use Rattle.station_files.proofs.Common.{list_all, catalog_tree, is_known}
 use Rattle.station_files.proofs.OwnListing.{known_taken}
 use Rattle.station_files.proofs.own_listing.are_beside.Goals as goal
 

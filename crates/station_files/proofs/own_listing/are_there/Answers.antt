@@ -1,7 +1,5 @@
 use Rattle.std.proofs.Common.{◌≡◌, ◌-◌, ap, arith, map, take, slice_index, ◌∙◌, subst}
-use Rattle.sqlite_trees.specs.Objects.{catalog_tree}
-use Rattle.sqlite_store.specs.Catalog.{wanted_of}
-use Rattle.sqlite_store.specs.Listing.{listed_from}
+use Rattle.station_files.proofs.Common.{catalog_tree, wanted_of, listed_from}
 use Rattle.station_files.proofs.OwnListing.{all_placed, IsPlaced}
 use Rattle.station_files.proofs.own_listing.are_there.Goals as goal
 

@@ -1,7 +1,5 @@
 use Rattle.std.proofs.Common.{◌≡◌, ◌<◌, ℕ, false, map, take, get_or, slice_get, Some}
-use Rattle.sqlite_trees.specs.Objects.{catalog_tree}
-use Rattle.sqlite_trees.specs.View.{IsClean}
-use Rattle.sqlite_trees.specs.declared.schema.Object.{Object}
+use Rattle.station_files.proofs.Common.{catalog_tree, IsClean, Object}
 use Rattle.station_files.proofs.OwnListing.{IsPlaced}
 use Rattle.station_files.proofs.own_listing.are_there.Given as goal
 

@@ -1,6 +1,5 @@
 use Rattle.std.proofs.Common.{◌≡◌, ◌<◌, ◌+◌, pos, None, find, ap, sym, ◌∙◌, arith, rules}
-use Rattle.sqlite_trees.specs.Objects.{catalog_tree}
-use Rattle.sqlite_trees.specs.Tree.{has_rowid}
+use Rattle.station_files.proofs.Common.{catalog_tree, has_rowid}
 use Rattle.station_files.proofs.OwnListing.{is_missing_there}
 use Rattle.station_files.proofs.own_listing.is_placed.Goals as goal
 

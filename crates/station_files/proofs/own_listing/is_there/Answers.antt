@@ -1,8 +1,5 @@
 use Rattle.std.proofs.Common.{◌≡◌, ◌<◌, ◌+◌, ◌∷◌, [], pos, true, Some, find, ap, sym, ◌∙◌, arith, rules}
-use Rattle.sqlite_value.specs.Order.{column}
-use Rattle.sqlite_trees.specs.Objects.{catalog_tree}
-use Rattle.sqlite_trees.specs.Tree.{has_rowid}
-use Rattle.sqlite_store.specs.Catalog.{is_present, wanted_of}
+use Rattle.station_files.proofs.Common.{column, catalog_tree, has_rowid, is_present, wanted_of}
 use Rattle.station_files.proofs.OwnListing.{is_listed_there}
 use Rattle.station_files.proofs.own_listing.is_there.Goals as goal
 

@@ -1,5 +1,5 @@
 use Rattle.std.proofs.Common.{◌≡◌, ◌∙◌, ap, length, sym, subst₂, rules}
-use Rattle.station_files.specs.Own.{AreLaidOut}
+use Rattle.station_files.proofs.Common.{AreLaidOut}
 use Rattle.station_files.proofs.Owning.{written_back}
 use Rattle.station_files.proofs.own_trees.lay_out.Goals as goal
 

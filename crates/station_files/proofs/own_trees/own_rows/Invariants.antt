@@ -1,6 +1,5 @@
 use Rattle.std.proofs.Common.{◌≡◌, ◌++◌, List, map, take, drop}
-use Rattle.sqlite_value.specs.Order.{Row}
-use Rattle.station_files.specs.Own.{rows_from}
+use Rattle.station_files.proofs.Common.{Row, rows_from}
 use Rattle.station_files.proofs.own_trees.own_rows.Given as goal
 
 abbrev pub invariant-loop-tree : goal.invariant-loop-tree

@@ -1,5 +1,5 @@
 use Rattle.std.proofs.Common.{◌++◌, ◌∷◌, [], List, ap, sym, ◌∙◌, append-nil}
-use Rattle.sqlite_value.specs.Order.{Row}
+use Rattle.station_files.proofs.Common.{Row}
 use Rattle.station_files.proofs.Owning.{one_row, no_row}
 use Rattle.station_files.proofs.own_trees.push_row.Goals as goal
 

@@ -1,10 +1,6 @@
-use Rattle.sqlite.specs.Held.{state}
-use Rattle.station_schema.proofs.Inside.{reads}
-use Rattle.station_schema.specs.Schema.{station_schema}
-use Rattle.station_schema.proofs.Statements.{query_survives}
+use Rattle.station_rows.proofs.Common.{state, reads, station_schema, query_survives, part_shown}
 use Rattle.station_rows.proofs.Texts.{get_part_text, get_part_is}
 use Rattle.std.proofs.Common.{refl}
-use Rattle.station_rows.specs.Shown.{part_shown}
 use Rattle.station_rows.proofs.KeyedLemmas.{gets_value}
 use Rattle.station_rows.proofs.PartLemmas.{part_is, part_table}
 use Rattle.station_rows.proofs.parts.shown_part.Goals as goal

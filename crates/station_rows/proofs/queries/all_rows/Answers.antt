@@ -1,4 +1,4 @@
-use Rattle.sqlite.specs.Held.{state}
+use Rattle.station_rows.proofs.Common.{state}
 use Rattle.station_rows.proofs.ReadLemmas.{reads_each}
 use Rattle.station_rows.proofs.queries.all_rows.Goals as goal
 

@@ -1,9 +1,6 @@
 use Rattle.std.proofs.Common.{List, refl, ◌≡◌}
-use Rattle.sqlite.specs.Held.{state}
-use Rattle.sqlite.specs.Order.{Row}
-use Rattle.sqlite.specs.State.{Shown}
+use Rattle.station_rows.proofs.Common.{state, Row, Shown, reads}
 use Rattle.sqlite.specs.Values.{bound}
-use Rattle.station_schema.proofs.Inside.{reads}
 use Rattle.station_rows.proofs.queries.shown_rows.Goals as goal
 
 pub returns-clause-read : goal.returns-clause-read

@@ -1,8 +1,5 @@
 use Rattle.std.proofs.Common.{◌≡◌, rules, subst}
-use Rattle.sqlite.specs.Tree.{Trees}
-use Rattle.sqlite.specs.Held.{state}
-use Rattle.sqlite.specs.State.{Survives}
-use Rattle.sqlite.proofs.StateLemmas.{survives_then}
+use Rattle.station_schema.proofs.Common.{Trees, state, Survives, survives_then}
 use Rattle.station_schema.proofs.Begun.{begun_survives}
 use Rattle.station_schema.proofs.beside.create_beside.Goals as goal
 

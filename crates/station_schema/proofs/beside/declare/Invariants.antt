@@ -1,6 +1,5 @@
 use Rattle.std.proofs.Common.{◌≡◌}
-use Rattle.sqlite.specs.State.{HasCleanDisk, KeepsCommit, Survives}
-use Rattle.sqlite.specs.Held.{state}
+use Rattle.station_schema.proofs.Common.{HasCleanDisk, KeepsCommit, Survives, state}
 use Rattle.station_schema.proofs.beside.declare.Given as goal
 
 abbrev pub invariant-loop-text : goal.invariant-loop-text

@@ -1,5 +1,5 @@
 use Rattle.std.proofs.Common.{sym, ◌∙◌}
-use Rattle.sqlite.specs.Held.{state}
+use Rattle.station_schema.proofs.Common.{state}
 use Rattle.station_schema.proofs.Owned.{owns, owned}
 use Rattle.station_schema.proofs.Again.{found_again}
 use Rattle.station_schema.proofs.connection.has_station.Goals as goal

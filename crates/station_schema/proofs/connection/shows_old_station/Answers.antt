@@ -1,4 +1,4 @@
-use Rattle.sqlite.specs.Held.{state}
+use Rattle.station_schema.proofs.Common.{state}
 use Rattle.station_schema.proofs.Owned.{owns_old, owned_old}
 use Rattle.station_schema.proofs.Again.{old_again}
 use Rattle.station_schema.proofs.connection.shows_old_station.Goals as goal

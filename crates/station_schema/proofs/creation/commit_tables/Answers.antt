@@ -1,8 +1,5 @@
 use Rattle.std.proofs.Common.{arith, ap, subst, sym, ◌∙◌}
-use Rattle.sqlite.specs.Held.{state}
-use Rattle.sqlite.proofs.StateLemmas.{survives_weaker, survives_then}
-use Rattle.station_schema.specs.Own.{IsOwn}
-use Rattle.station_schema.specs.Tables.{tables_of}
+use Rattle.station_schema.proofs.Common.{state, survives_weaker, survives_then, IsOwn, tables_of}
 use Rattle.station_schema.proofs.creation.commit_tables.Goals as goal
 
 pub returns-in_err-fill_tables-clause-survives : goal.returns-in_err-fill_tables-clause-survives

@@ -1,10 +1,5 @@
 use Rattle.std.proofs.Common.{arith}
-use Rattle.sqlite.specs.Tree.{Trees}
-use Rattle.sqlite.specs.Held.{state}
-use Rattle.sqlite.proofs.StateLemmas.{survives_then}
-use Rattle.station_schema.specs.Schema.{no_schema}
-use Rattle.station_schema.specs.Own.{IsNewStation}
-use Rattle.station_schema.specs.Effects.{IsMade}
+use Rattle.station_schema.proofs.Common.{Trees, state, survives_then, no_schema, IsNewStation, IsMade}
 use Rattle.station_schema.proofs.Creating.{begun_blank}
 use Rattle.station_schema.proofs.creation.create_schema.Goals as goal
 

@@ -1,7 +1,4 @@
-use Rattle.sqlite.specs.Held.{state}
-use Rattle.sqlite.specs.State.{HasCleanDisk, Survives}
-use Rattle.station_schema.specs.Effects.{IsMade}
-use Rattle.station_schema.specs.Schema.{no_schema}
+use Rattle.station_schema.proofs.Common.{state, HasCleanDisk, Survives, IsMade, no_schema}
 use Rattle.station_schema.proofs.Creating.{HasComeTo}
 use Rattle.station_schema.proofs.creation.declare.Given as goal
 

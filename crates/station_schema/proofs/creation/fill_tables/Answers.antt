@@ -1,7 +1,4 @@
-use Rattle.sqlite.specs.Held.{state}
-use Rattle.station_schema.specs.Schema.{no_schema}
-use Rattle.station_schema.specs.Effects.{IsMade}
-use Rattle.station_schema.specs.Calls.{IsInside}
+use Rattle.station_schema.proofs.Common.{state, no_schema, IsMade, IsInside}
 use Rattle.station_schema.proofs.Inside.{survives_inside}
 use Rattle.station_schema.proofs.Creating.{made_inside}
 use Rattle.station_schema.proofs.creation.fill_tables.Goals as goal

@@ -1,4 +1,4 @@
-use Rattle.sqlite.specs.Held.{state}
+use Rattle.station_schema.proofs.Common.{state}
 use Rattle.station_schema.proofs.Statements.{changes}
 use Rattle.station_schema.proofs.StationLemmas.{inserts_station, insert_survives}
 use Rattle.station_schema.proofs.creation.insert_station.Goals as goal

@@ -1,5 +1,5 @@
 use Rattle.std.proofs.Common.{◌≡◌, length, arith}
-use Rattle.station_schema.specs.Shapes.{index_of}
+use Rattle.station_schema.proofs.Common.{index_of}
 use Rattle.station_schema.proofs.TableLemmas.{all_are}
 use Rattle.station_schema.proofs.indexes.are_indexes.Goals as goal
 

@@ -1,4 +1,4 @@
-use Rattle.station_schema.specs.Shapes.{index_of}
+use Rattle.station_schema.proofs.Common.{index_of}
 use Rattle.station_schema.proofs.TableLemmas.{AreSoFar}
 use Rattle.station_schema.proofs.indexes.are_indexes.Given as goal
 

@@ -1,4 +1,4 @@
-use Rattle.sqlite.specs.Held.{state}
+use Rattle.station_schema.proofs.Common.{state}
 use Rattle.station_schema.proofs.Owned.{owns}
 use Rattle.station_schema.proofs.own.shows_own.Goals as goal
 

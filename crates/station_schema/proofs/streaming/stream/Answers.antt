@@ -1,8 +1,7 @@
 use Rattle.std.proofs.Common.{rules, arith}
-use Rattle.sqlite.specs.Held.{state}
-use Rattle.sqlite.specs.State.{HasCleanDisk, FailsToQuery}
+use Rattle.station_schema.proofs.Common.{state, HasCleanDisk, begun_plain}
+use Rattle.sqlite.specs.State.{FailsToQuery}
 use Rattle.sqlite.specs.Values.{bound}
-use Rattle.sqlite.proofs.Callers.{begun_plain}
 use Rattle.station_schema.proofs.Handing.{begun_then, not_begun, returns_nothing}
 use Rattle.station_schema.proofs.streaming.stream.Goals as goal
 

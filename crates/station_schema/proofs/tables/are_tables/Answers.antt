@@ -1,5 +1,5 @@
 use Rattle.std.proofs.Common.{◌≡◌, length, arith}
-use Rattle.station_schema.specs.Shapes.{table_of}
+use Rattle.station_schema.proofs.Common.{table_of}
 use Rattle.station_schema.proofs.TableLemmas.{all_are}
 use Rattle.station_schema.proofs.tables.are_tables.Goals as goal
 

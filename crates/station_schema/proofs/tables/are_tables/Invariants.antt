@@ -1,4 +1,4 @@
-use Rattle.station_schema.specs.Shapes.{table_of}
+use Rattle.station_schema.proofs.Common.{table_of}
 use Rattle.station_schema.proofs.TableLemmas.{AreSoFar}
 use Rattle.station_schema.proofs.tables.are_tables.Given as goal
 

@@ -1,6 +1,5 @@
 use Rattle.std.proofs.Common.{[], subst}
-use Rattle.sqlite.specs.Held.{state}
-use Rattle.sqlite.specs.State.{Executes}
+use Rattle.station_schema.proofs.Common.{state, Executes}
 use Rattle.station_schema.proofs.AnyTexts.{rollback_text}
 use Rattle.station_schema.proofs.Turns.{rollback_stops, rollback_survives, refused_live}
 use Rattle.station_schema.proofs.transaction.is_live.Goals as goal

@@ -1,5 +1,5 @@
 use Rattle.std.proofs.Common.{rules}
-use Rattle.sqlite.specs.Held.{state}
+use Rattle.station_schema.proofs.Common.{state}
 use Rattle.station_schema.proofs.Turns.{rolls_back, rollback_survives}
 use Rattle.station_schema.proofs.transaction.roll_back.Goals as goal
 

@@ -1,9 +1,5 @@
 use Rattle.std.proofs.Common.{rules, ap, ◌-◌, ◌≡◌, inl, inr, refl, sym, subst, arith, ◌+◌, [], ◌∷◌, None, Some}
-use Rattle.std.specs.List.{AllByRecursion}
-use Rattle.awb_number.specs.Number.{IsNumber}
-use Rattle.agent_stock.specs.declared.runs.StockRun.{StockRun}
-use Rattle.stock_tables.specs.Rows.{Behind, cut_from}
-use Rattle.agent_stock.specs.Runs.{end_of}
+use Rattle.stock_tables.proofs.Common.{AllByRecursion, IsNumber, StockRun, Behind, cut_from, end_of}
 use Rattle.stock_tables.proofs.Places.{behind_last}
 use Rattle.stock_tables.proofs.Standing.{each_split}
 use Rattle.stock_tables.proofs.edges.behind.Goals as goal

@@ -1,9 +1,6 @@
 use Rattle.std.proofs.Common.{◌≡◌, ◌∙◌, ◌+◌, ◌<◌, ◌≤◌, false, drop, length, Some, None, sym, subst, arith}
-use Rattle.std.proofs.lemmas.List.{drop_all}
-use Rattle.awb_number.specs.Number.{IsNumber, serial_of}
-use Rattle.agent_stock.specs.Stock.{passes}
+use Rattle.stock_tables.proofs.Common.{drop_all, IsNumber, serial_of, passes, end_of}
 use Rattle.agent_stock.proofs.Serials.{given_as}
-use Rattle.agent_stock.specs.Runs.{end_of}
 use Rattle.stock_tables.proofs.Places.{run_parts}
 use Rattle.stock_tables.proofs.Lowest.{Left, at_place, as_row, gap_fails, row_fails, goes_on, last_fails, none_fails, whole}
 use Rattle.stock_tables.proofs.failing.lowest_of.Goals as goal

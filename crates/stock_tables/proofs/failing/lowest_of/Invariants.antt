@@ -1,7 +1,5 @@
 use Rattle.std.proofs.Common.{◌≡◌, ℕ, drop}
-use Rattle.std.specs.Prelude.{IsTrue}
-use Rattle.agent_stock.specs.Stock.{Holders, covers}
-use Rattle.agent_stock.specs.Runs.{StandFrom, holders_by}
+use Rattle.stock_tables.proofs.Common.{IsTrue, Holders, covers, StandFrom, holders_by}
 use Rattle.stock_tables.proofs.Lowest.{Left}
 use Rattle.stock_tables.proofs.failing.lowest_of.Given as goal
 

@@ -1,13 +1,5 @@
 use Rattle.std.proofs.Common.{◌≡◌, ◌∙◌, Option, ℤ, pos, arith, w64, of_z, to_z, IfOk, option_map, sym, ap, ap₂, subst}
-use Rattle.std.proofs.lemmas.Int.{ints}
-use Rattle.std.specs.Option.{option_and_then}
-use Rattle.std.specs.FinMap.{entries}
-use Rattle.awb_number.specs.Number.{prefix_of, serial_of}
-use Rattle.agent_stock.specs.declared.stock.Holder.{Holder}
-use Rattle.row_codec.specs.Stock.{holders_in, run_in}
-use Rattle.station_rows.specs.declared.stock.StockRow.{StockRow}
-use Rattle.station_rows.specs.Meant.{stock_meant, last_up_to}
-use Rattle.stock_tables.specs.Reads.{holder_at}
+use Rattle.stock_tables.proofs.Common.{ints, option_and_then, entries, prefix_of, serial_of, Holder, holders_in, run_in, StockRow, stock_meant, last_up_to, holder_at}
 use Rattle.stock_tables.proofs.Showing.{if_given, made_of}
 use Rattle.stock_tables.proofs.Held.{held_is}
 use Rattle.stock_tables.proofs.holding.holder.Goals as goal

@@ -1,10 +1,5 @@
 use Rattle.std.proofs.Common.{◌≡◌, ◌∙◌, List, IfOk, map, sym, ap, subst}
-use Rattle.std.specs.FinMap.{entries}
-use Rattle.agent_stock.specs.Runs.{AreStockRuns, AreRuns, holders_by}
-use Rattle.agent_stock.specs.Stock.{Holders}
-use Rattle.station_schema.specs.Tables.{Stock, StockKey}
-use Rattle.station_rows.specs.Meant.{stock_meant}
-use Rattle.row_codec.specs.Stock.{run_in}
+use Rattle.stock_tables.proofs.Common.{entries, AreStockRuns, AreRuns, holders_by, Holders, Stock, StockKey, stock_meant, run_in}
 use Rattle.stock_tables.proofs.Showing.{if_given, made_of}
 use Rattle.stock_tables.proofs.Meant.{same_holders, are_in_order}
 use Rattle.stock_tables.proofs.listing.runs.Goals as goal

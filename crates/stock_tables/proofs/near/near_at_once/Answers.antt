@@ -1,10 +1,5 @@
 use Rattle.std.proofs.Common.{◌≡◌, ◌∙◌, ◌+◌, ◌+ℤ◌, ℤ, pos, arith, true, w64, of_z, to_z, map, filter, sym, ap, ap₂}
-use Rattle.std.proofs.lemmas.Int.{ints}
-use Rattle.std.specs.FinMap.{entries}
-use Rattle.awb_number.specs.Number.{prefix_of, serial_of}
-use Rattle.station_rows.specs.Meant.{stock_meant, last_rows_up_to}
-use Rattle.stock_tables.specs.Reads.{reaches, are_enough}
-use Rattle.row_codec.specs.Stock.{run_in}
+use Rattle.stock_tables.proofs.Common.{ints, entries, prefix_of, serial_of, stock_meant, last_rows_up_to, reaches, are_enough, run_in}
 use Rattle.stock_tables.proofs.Held.{near_is_last}
 use Rattle.stock_tables.proofs.Showing.{made_of}
 use Rattle.stock_tables.proofs.near.near_at_once.Goals as goal

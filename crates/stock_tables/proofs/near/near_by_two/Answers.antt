@@ -1,11 +1,5 @@
 use Rattle.std.proofs.Common.{◌≡◌, ◌∙◌, ◌+◌, ◌+ℤ◌, ◌-ℤ◌, ◌++◌, ℤ, pos, arith, w64, of_z, to_z, List, map, filter, option_map, ap, ap₂}
-use Rattle.std.proofs.lemmas.Int.{ints}
-use Rattle.std.specs.FinMap.{entries}
-use Rattle.awb_number.specs.Number.{prefix_of, serial_of}
-use Rattle.agent_stock.specs.declared.runs.StockRun.{StockRun}
-use Rattle.station_rows.specs.declared.stock.StockRow.{StockRow}
-use Rattle.station_rows.specs.Meant.{stock_meant, is_between, last_up_to}
-use Rattle.row_codec.specs.Stock.{run_in}
+use Rattle.stock_tables.proofs.Common.{ints, entries, prefix_of, serial_of, StockRun, StockRow, stock_meant, is_between, last_up_to, run_in}
 use Rattle.stock_tables.proofs.Held.{near_is}
 use Rattle.stock_tables.proofs.Showing.{made_of, reads_after}
 use Rattle.stock_tables.proofs.near.near_by_two.Goals as goal

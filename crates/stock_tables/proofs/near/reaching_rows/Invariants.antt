@@ -1,5 +1,5 @@
 use Rattle.std.proofs.Common.{◌≡◌, filter, take}
-use Rattle.stock_tables.specs.Reads.{reaches}
+use Rattle.stock_tables.proofs.Common.{reaches}
 use Rattle.stock_tables.proofs.near.reaching_rows.Given as goal
 
 abbrev pub invariant-loop-row : goal.invariant-loop-row

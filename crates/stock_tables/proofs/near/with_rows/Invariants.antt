@@ -1,6 +1,5 @@
 use Rattle.std.proofs.Common.{◌≡◌, ◌++◌, map, take}
-use Rattle.station_rows.specs.Meant.{stock_meant}
-use Rattle.row_codec.specs.Stock.{run_in}
+use Rattle.stock_tables.proofs.Common.{stock_meant, run_in}
 use Rattle.stock_tables.proofs.near.with_rows.Given as goal
 
 abbrev pub invariant-loop-row : goal.invariant-loop-row

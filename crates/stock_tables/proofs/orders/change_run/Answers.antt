@@ -1,7 +1,5 @@
 use Rattle.std.proofs.Common.{◌∙◌, sym, ap}
-use Rattle.agent_stock.specs.Stock.{refused_by}
-use Rattle.station_schema.specs.Store.{at_rest}
-use Rattle.row_codec.specs.Stock.{holders_in}
+use Rattle.stock_tables.proofs.Common.{refused_by, at_rest, holders_in}
 use Rattle.stock_tables.proofs.Restocking.{near_stand, near_held}
 use Rattle.stock_tables.proofs.Showing.{survives_goes_on}
 use Rattle.stock_tables.proofs.orders.change_run.Goals as goal

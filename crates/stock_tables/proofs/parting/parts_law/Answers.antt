@@ -1,5 +1,4 @@
-use Rattle.std.proofs.lemmas.Bool.{and_parts, leb-true, ltb-true}
-use Rattle.awb_number.specs.Number.{serial_of}
+use Rattle.stock_tables.proofs.Common.{and_parts, leb-true, ltb-true, serial_of}
 use Rattle.stock_tables.proofs.Places.{run_parts}
 use Rattle.stock_tables.proofs.Parted.{parted, around, near_holders, touched}
 use Rattle.stock_tables.proofs.parting.parts_law.Goals as goal

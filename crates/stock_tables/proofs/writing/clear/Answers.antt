@@ -1,13 +1,6 @@
 use Rattle.std.proofs.Common.{◌≡◌, ◌∙◌, ◌+◌, ◌<◌, List, [], ◌∷◌, length, drop, refl, sym, ap, subst, arith}
-use Rattle.std.specs.FinMap.{FinMap}
-use Rattle.std.proofs.lemmas.List.{drop_all}
-use Rattle.agent_stock.specs.declared.runs.StockRun.{StockRun}
-use Rattle.station_schema.specs.Store.{IsShowing, inside}
-use Rattle.station_schema.specs.Tables.{Stock, stock_cmp}
-use Rattle.stock_tables.specs.Rows.{written}
+use Rattle.stock_tables.proofs.Common.{FinMap, drop_all, StockRun, IsShowing, inside, Stock, stock_cmp, written, without, cleared, restocked}
 use Rattle.stock_tables.proofs.Lowest.{at_place}
-use Rattle.stock_tables.specs.Writes.{without, cleared}
-use Rattle.stock_tables.specs.Stocked.{restocked}
 use Rattle.stock_tables.proofs.Showing.{survives_itself, survives_goes_on}
 use Rattle.stock_tables.proofs.writing.clear.Goals as goal
 

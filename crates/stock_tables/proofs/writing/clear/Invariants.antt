@@ -1,10 +1,5 @@
 use Rattle.std.proofs.Common.{◌≡◌, drop}
-use Rattle.std.specs.FinMap.{FinMap}
-use Rattle.station_schema.specs.Store.{IsShowing, Survives, inside}
-use Rattle.station_schema.specs.Tables.{Tables, Stock, stock_cmp}
-use Rattle.stock_tables.specs.Rows.{written}
-use Rattle.stock_tables.specs.Writes.{cleared}
-use Rattle.stock_tables.specs.Stocked.{restocked}
+use Rattle.stock_tables.proofs.Common.{FinMap, IsShowing, Survives, inside, Tables, Stock, stock_cmp, written, cleared, restocked}
 use Rattle.stock_tables.proofs.writing.clear.Given as goal
 
 -- the rows so far are cleared

@@ -1,13 +1,5 @@
 use Rattle.std.proofs.Common.{◌≡◌, ◌∙◌, pos, arith, w64, of_z, to_z, Bool, false, cond, sym, ap, subst}
-use Rattle.std.proofs.lemmas.Int.{ints}
-use Rattle.std.specs.FinMap.{FinMap, remove}
-use Rattle.awb_number.specs.Number.{prefix_of, serial_of}
-use Rattle.station_schema.specs.Store.{IsShowing, inside}
-use Rattle.station_schema.specs.Tables.{Stock, stock_cmp}
-use Rattle.stock_tables.specs.Rows.{written}
-use Rattle.stock_tables.specs.Runs.{key_of}
-use Rattle.stock_tables.specs.Writes.{begins, without}
-use Rattle.stock_tables.specs.Stocked.{restocked}
+use Rattle.stock_tables.proofs.Common.{ints, FinMap, remove, prefix_of, serial_of, IsShowing, inside, Stock, stock_cmp, written, key_of, begins, without, restocked}
 use Rattle.stock_tables.proofs.writing.clear_row.Goals as goal
 
 pub returns-clause-done : goal.returns-clause-done

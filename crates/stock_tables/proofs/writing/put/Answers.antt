@@ -1,10 +1,5 @@
 use Rattle.std.proofs.Common.{◌≡◌, ◌∙◌, true, Option, Some, None, refl, sym, ap, subst}
-use Rattle.std.specs.Prelude.{is_some, OnOk}
-use Rattle.std.specs.FinMap.{get}
-use Rattle.station_schema.specs.Store.{IsShowing, inside}
-use Rattle.station_schema.specs.Tables.{Stock, StockKey}
-use Rattle.station_rows.specs.Meant.{stock_meant, with_stock}
-use Rattle.stock_tables.specs.Runs.{key_of, entry_of}
+use Rattle.stock_tables.proofs.Common.{is_some, OnOk, get, IsShowing, inside, Stock, StockKey, stock_meant, with_stock, key_of, entry_of}
 use Rattle.stock_tables.proofs.writing.put.Goals as goal
 
 is_there : (o : Option Stock) → is_some o ≡ true → (was : Stock) × (o ≡ Some was)

@@ -1,15 +1,7 @@
 use Rattle.std.proofs.Common.{◌≡◌, [], ◌∷◌, List, true, sym, subst}
-use Rattle.std.specs.Prelude.{is_some}
-use Rattle.std.specs.FinMap.{FinMap, get}
-use Rattle.agent_stock.specs.declared.runs.StockRun.{StockRun}
-use Rattle.station_schema.specs.Store.{IsShowing, inside}
-use Rattle.station_schema.specs.Tables.{Stock, stock_cmp}
-use Rattle.stock_tables.specs.Rows.{listed}
+use Rattle.stock_tables.proofs.Common.{is_some, FinMap, get, StockRun, IsShowing, inside, Stock, stock_cmp, listed, key_of, begins, put_in, restocked}
 use Rattle.stock_tables.proofs.Standing.{each_split}
-use Rattle.stock_tables.specs.Runs.{key_of}
-use Rattle.stock_tables.specs.Writes.{begins, put_in}
 use Rattle.stock_tables.proofs.Rewriting.{put_both}
-use Rattle.stock_tables.specs.Stocked.{restocked}
 use Rattle.stock_tables.proofs.Restocking.{still_there}
 use Rattle.stock_tables.proofs.writing.put_all.Goals as goal
 

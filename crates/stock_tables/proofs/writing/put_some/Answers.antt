@@ -1,10 +1,5 @@
 use Rattle.std.proofs.Common.{Option, sym, subst}
-use Rattle.std.specs.Prelude.{OnOk}
-use Rattle.agent_stock.specs.declared.runs.StockRun.{StockRun}
-use Rattle.station_schema.specs.Store.{IsShowing, inside}
-use Rattle.stock_tables.specs.Rows.{listed}
-use Rattle.stock_tables.specs.Writes.{put_in}
-use Rattle.stock_tables.specs.Stocked.{restocked, AreThere}
+use Rattle.stock_tables.proofs.Common.{OnOk, StockRun, IsShowing, inside, listed, put_in, restocked, AreThere}
 use Rattle.stock_tables.proofs.writing.put_some.Goals as goal
 
 pub returns-in-Some-clause-done : goal.returns-in-Some-clause-done

@@ -1,6 +1,5 @@
 use Rattle.std.proofs.Common.{◌≡◌, map}
-use Rattle.std.specs.Prelude.{drop, is_some}
-use Rattle.table_load.specs.Raw.{places_by_name}
+use Rattle.table_load.proofs.Common.{drop, is_some, places_by_name}
 use Rattle.table_load.proofs.query.has_columns.Given as goal
 
 abbrev pub invariant-loop-name : goal.invariant-loop-name

@@ -1,4 +1,4 @@
-use Rattle.sqlite.specs.Held.{state}
+use Rattle.table_load.proofs.Common.{state}
 use Rattle.table_load.proofs.WholeLemmas.{shows_whole, stops, survives}
 use Rattle.table_load.proofs.query.table_rows.Goals as goal
 

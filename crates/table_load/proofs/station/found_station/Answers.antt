@@ -1,4 +1,4 @@
-use Rattle.sqlite.specs.Held.{state}
+use Rattle.table_load.proofs.Common.{state}
 use Rattle.table_load.proofs.StationLemmas.{tells_station}
 use Rattle.table_load.proofs.station.found_station.Goals as goal
 

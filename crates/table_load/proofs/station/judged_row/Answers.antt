@@ -1,8 +1,7 @@
 use Rattle.std.proofs.Common.{◌≡◌, ℤ, true, pos, w64, sym, ap, ◌∙◌, to_z, rules, arith}
 use Rattle.std.proofs.lemmas.Int.{to_z-of_z}
 use Rattle.std.proofs.lemmas.Str.{is_utf8-from_IsUtf8, IsUtf8-string_bytes}
-use Rattle.std.specs.Ordering.{int_eq}
-use Rattle.table_load.specs.Verdict.{version_number}
+use Rattle.table_load.proofs.Common.{int_eq, version_number}
 use Rattle.table_load.proofs.StationLemmas.{is_one_row}
 use Rattle.table_load.proofs.station.judged_row.Goals as goal
 

@@ -1,5 +1,4 @@
-use Rattle.sqlite.specs.Held.{state}
-use Rattle.table_load.specs.Selects.{column_names}
+use Rattle.table_load.proofs.Common.{state, column_names}
 use Rattle.table_load.proofs.TableLemmas.{reads_failed, reads_folded}
 use Rattle.table_load.proofs.WholeLemmas.{given_whole, plain, survives}
 use Rattle.table_load.proofs.tables.fold_rows.Goals as goal

@@ -1,5 +1,4 @@
-use Rattle.sqlite.specs.Held.{state}
-use Rattle.station_schema.proofs.Statements.{changes}
+use Rattle.table_load.proofs.Common.{state, changes}
 use Rattle.table_load.proofs.Copying.{clears, clear_survives}
 use Rattle.table_load.proofs.upgrade.clear_waybills.Goals as goal
 

@@ -1,7 +1,5 @@
 use Rattle.std.proofs.Common.{arith, ap, sym, subst, ◌∙◌}
-use Rattle.sqlite.specs.Held.{state}
-use Rattle.sqlite.proofs.StateLemmas.{survives_weaker, survives_then}
-use Rattle.station_schema.specs.Tables.{tables_of}
+use Rattle.table_load.proofs.Common.{state, survives_weaker, survives_then, tables_of}
 use Rattle.station_schema.specs.Own.{IsOwn}
 use Rattle.table_load.proofs.upgrade.commit_upgrade.Goals as goal
 

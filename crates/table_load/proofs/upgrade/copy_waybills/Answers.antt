@@ -1,5 +1,4 @@
-use Rattle.sqlite.specs.Held.{state}
-use Rattle.station_schema.proofs.Statements.{changes}
+use Rattle.table_load.proofs.Common.{state, changes}
 use Rattle.table_load.proofs.Copying.{copies, copy_survives}
 use Rattle.table_load.proofs.upgrade.copy_waybills.Goals as goal
 

@@ -1,4 +1,4 @@
-use Rattle.sqlite.specs.Held.{state}
+use Rattle.table_load.proofs.Common.{state}
 use Rattle.table_load.proofs.Adding.{adds, add_survives}
 use Rattle.table_load.proofs.upgrade.create_waybill2.Goals as goal
 

@@ -1,7 +1,4 @@
-use Rattle.sqlite.specs.Held.{state}
-use Rattle.station_schema.proofs.Inside.{survives_inside, survives_three}
-use Rattle.station_schema.specs.Calls.{IsInside}
-use Rattle.table_load.specs.Upgrade.{copying, clearing}
+use Rattle.table_load.proofs.Common.{state, survives_inside, survives_three, IsInside, copying, clearing}
 use Rattle.table_load.proofs.Upgrading.{still_inside}
 use Rattle.table_load.proofs.upgrade.fill_waybill2.Goals as goal
 

@@ -1,9 +1,5 @@
 use Rattle.std.proofs.Common.{arith}
-use Rattle.sqlite.specs.Held.{state}
-use Rattle.station_schema.proofs.Inside.{survives_inside}
-use Rattle.station_schema.specs.Calls.{IsInside}
-use Rattle.station_schema.specs.Tables.{old_tables_of}
-use Rattle.table_load.specs.Upgrade.{IsInsideOld}
+use Rattle.table_load.proofs.Common.{state, survives_inside, IsInside, old_tables_of, IsInsideOld}
 use Rattle.table_load.proofs.Upgrading.{now_inside, moves_on}
 use Rattle.table_load.proofs.upgrade.move_waybills.Goals as goal
 

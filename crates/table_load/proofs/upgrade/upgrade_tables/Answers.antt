@@ -1,8 +1,5 @@
 use Rattle.std.proofs.Common.{arith}
-use Rattle.sqlite.specs.Tree.{Trees}
-use Rattle.sqlite.specs.Held.{state}
-use Rattle.sqlite.proofs.StateLemmas.{survives_then}
-use Rattle.table_load.specs.Upgrade.{IsInsideOld, MeansUpgraded}
+use Rattle.table_load.proofs.Common.{Trees, state, survives_then, IsInsideOld, MeansUpgraded}
 use Rattle.table_load.proofs.Upgrading.{means_upgraded}
 use Rattle.table_load.proofs.upgrade.upgrade_tables.Goals as goal
 

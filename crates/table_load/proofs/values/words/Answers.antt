@@ -1,5 +1,5 @@
 use Rattle.std.proofs.Common.{sym, ap, ◌∙◌, subst}
-use Rattle.std.specs.Str.{IsUtf8}
+use Rattle.table_load.proofs.Common.{IsUtf8}
 use Rattle.std.proofs.lemmas.Str.{IsUtf8-from_is_utf8, is_utf8-from_IsUtf8, IsUtf8-string_bytes}
 use Rattle.sqlite_value.specs.Value.{owned}
 use Rattle.table_load.proofs.WholeLemmas.{same_text}

@@ -1,5 +1,5 @@
 use Rattle.std.proofs.Common.{◌∙◌, refl, sym, subst}
-use Rattle.table_load.specs.Walks.{IsTyped}
+use Rattle.table_load.proofs.Common.{IsTyped}
 use Rattle.table_load.proofs.TableLemmas.{less_trans}
 use Rattle.table_load.proofs.WalkLemmas.{one_untyped, not_following, next_taken}
 use Rattle.table_load.proofs.walk.step.Goals as goal

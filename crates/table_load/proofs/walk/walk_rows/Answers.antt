@@ -1,5 +1,5 @@
 use Rattle.std.proofs.Common.{refl, ◌∙◌}
-use Rattle.sqlite.specs.Held.{state}
+use Rattle.table_load.proofs.Common.{state}
 use Rattle.table_load.proofs.WalkLoops.{at_start, cut_off, ended, failed, one_on, untaken, walks_failed}
 use Rattle.table_load.proofs.walk.walk_rows.Goals as goal
 

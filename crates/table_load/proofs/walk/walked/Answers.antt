@@ -1,8 +1,6 @@
 use Rattle.std.proofs.Common.{rules, arith, [], Ok}
-use Rattle.sqlite.specs.Held.{state}
-use Rattle.sqlite.specs.State.{HasCleanDisk, FailsToQuery}
-use Rattle.table_load.specs.Whole.{AreLawful}
-use Rattle.table_load.specs.Walks.{IsWalked, Walks}
+use Rattle.table_load.proofs.Common.{state, HasCleanDisk, AreLawful, IsWalked, Walks}
+use Rattle.sqlite.specs.State.{FailsToQuery}
 use Rattle.table_load.proofs.WalkLemmas.{none_given}
 use Rattle.table_load.proofs.WalkLoops.{read_begins, read_stops, stops_since, walks_failed, walks_since}
 use Rattle.table_load.proofs.walk.walked.Goals as goal

@@ -1,11 +1,6 @@
 use Rattle.std.proofs.Common.{◌≡◌, true, List, length, map, refl, sym, ap, subst, ◌∙◌, arith}
-use Rattle.std.specs.List.{list_all}
-use Rattle.std.proofs.lemmas.List.{length-map}
-use Rattle.imp_fields.specs.NormalText.{line_texts}
-use Rattle.ffm_text.specs.Ffm.{ffm_fault, manifest_of, unloaded_of}
+use Rattle.telegrams.proofs.Common.{list_all, length-map, line_texts, ffm_fault, manifest_of, unloaded_of, has_plain_cargo, inbound_line}
 use Rattle.ffm_text.specs.declared.FfmLine.{FfmLine}
-use Rattle.telegrams.specs.Kept.{has_plain_cargo}
-use Rattle.telegrams.specs.Meaning.{inbound_line}
 use Rattle.telegrams.proofs.Bounds.{ffm_within, told_within}
 use Rattle.telegrams.proofs.PlainLines.{few_texts, plain_cargo, few_cargo, same_lines, same_part}
 use Rattle.telegrams.proofs.content.ffm_content.Goals as goal

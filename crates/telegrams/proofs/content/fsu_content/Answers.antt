@@ -1,8 +1,6 @@
 use Rattle.std.proofs.Common.{◌≡◌, ◌≤◌, true, ℕ, List, length, map, refl, sym, ap, subst, ◌∙◌}
-use Rattle.std.specs.List.{list_all}
+use Rattle.telegrams.proofs.Common.{list_all, line_texts, fsu_fault, update_of}
 use Rattle.imp_fields.specs.Characters.{is_line}
-use Rattle.imp_fields.specs.NormalText.{line_texts}
-use Rattle.fsu_text.specs.Fsu.{fsu_fault, update_of}
 use Rattle.fsu_text.specs.declared.status.StatusLine.{StatusLine}
 use Rattle.telegrams.proofs.Bounds.{fsu_within, told_within}
 use Rattle.telegrams.proofs.PlainLines.{few_texts, plain_trail, few_trail, same_status}

@@ -1,5 +1,5 @@
 use Rattle.std.proofs.Common.{arith}
-use Rattle.imp_fields.specs.NormalText.{line_texts}
+use Rattle.telegrams.proofs.Common.{line_texts}
 use Rattle.fwb_text.specs.Fwb.{fwb_fault}
 use Rattle.telegrams.proofs.Bounds.{fwb_within}
 use Rattle.telegrams.proofs.PlainLines.{second_plain, few_texts}

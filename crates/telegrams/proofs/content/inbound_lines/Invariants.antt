@@ -1,6 +1,5 @@
 use Rattle.std.proofs.Common.{◌≡◌, map, take}
-use Rattle.ffm_text.specs.Ffm.{unloaded_of}
-use Rattle.telegrams.specs.Meaning.{inbound_line}
+use Rattle.telegrams.proofs.Common.{unloaded_of, inbound_line}
 use Rattle.telegrams.proofs.content.inbound_lines.Given as goal
 
 abbrev pub invariant-loop-line : goal.invariant-loop-line

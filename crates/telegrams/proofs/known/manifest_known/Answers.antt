@@ -1,6 +1,5 @@
 use Rattle.std.proofs.Common.{List, subst}
-use Rattle.shipment_machine.specs.declared.notice.ManifestLine.{ManifestLine}
-use Rattle.telegrams.specs.NoticeText.{IsNormalManifest, IsManifestAgain}
+use Rattle.telegrams.proofs.Common.{ManifestLine, IsNormalManifest, IsManifestAgain}
 use Rattle.telegrams.proofs.NoticeLaws.{manifest_normal, manifest_again}
 use Rattle.telegrams.proofs.known.manifest_known.Goals as goal
 

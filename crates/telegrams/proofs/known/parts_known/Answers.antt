@@ -1,7 +1,5 @@
 use Rattle.std.proofs.Common.{arith, subst}
-use Rattle.std.proofs.lemmas.List.{length-map}
-use Rattle.station_days.specs.Date.{IsCalendarDay}
-use Rattle.telegrams.specs.NoticeText.{sent_load}
+use Rattle.telegrams.proofs.Common.{length-map, IsCalendarDay, sent_load}
 use Rattle.telegrams.proofs.KnownLines.{are_loads, IsAirport}
 use Rattle.telegrams.proofs.known.parts_known.Goals as goal
 

@@ -1,6 +1,5 @@
 use Rattle.std.proofs.Common.{map, ap, ◌∙◌}
-use Rattle.station_days.specs.Date.{date_on}
-use Rattle.telegrams.specs.NoticeText.{sent_load}
+use Rattle.telegrams.proofs.Common.{date_on, sent_load}
 use Rattle.telegrams.proofs.NoticeLaws.{manifest_told}
 use Rattle.telegrams.proofs.notice.manifest_text.Goals as goal
 

@@ -1,6 +1,5 @@
 use Rattle.std.proofs.Common.{◌≡◌, IfOk, sym, subst}
-use Rattle.shipment_machine.specs.declared.notice.Notice.{Notice}
-use Rattle.telegrams.specs.NoticeText.{notice_text}
+use Rattle.telegrams.proofs.Common.{Notice, notice_text}
 use Rattle.telegrams.proofs.NoticeLaws.{status_normal, status_again, flight_normal, flight_again}
 use Rattle.telegrams.proofs.notice.notice_text.Goals as goal
 

@@ -1,6 +1,6 @@
 use Rattle.std.proofs.Common.{sym, ap, ◌∙◌}
 use Rattle.fsu_text.specs.declared.sent.SentStatus.TheVariants as sent
-use Rattle.telegrams.specs.NoticeText.{status_of_event}
+use Rattle.telegrams.proofs.Common.{status_of_event}
 use Rattle.telegrams.proofs.notice.status_of.Goals as goal
 
 pub returns-in-ReceivedFromShipper : goal.returns-in-ReceivedFromShipper

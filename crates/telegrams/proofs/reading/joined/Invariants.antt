@@ -1,5 +1,5 @@
 use Rattle.std.proofs.Common.{◌≡◌, ◌+◌, map, take}
-use Rattle.imp_fields.specs.NormalText.{normal_text}
+use Rattle.telegrams.proofs.Common.{normal_text}
 use Rattle.telegrams.proofs.reading.joined.Given as goal
 
 abbrev pub invariant-loop-line : goal.invariant-loop-line

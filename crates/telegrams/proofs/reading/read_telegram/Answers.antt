@@ -1,5 +1,5 @@
 use Rattle.std.proofs.Common.{Some, sym, ap, ◌∙◌, arith}
-use Rattle.imp_fields.specs.NormalText.{fault_of, normal_lines, line_texts}
+use Rattle.telegrams.proofs.Common.{fault_of, normal_lines, line_texts}
 use Rattle.telegrams.proofs.Bounds.{normal_within, told_within}
 use Rattle.telegrams.proofs.PlainLines.{few_texts, plain_texts}
 use Rattle.telegrams.proofs.RefusedLaws.{text_refused}

@@ -1,8 +1,6 @@
 use Rattle.std.proofs.Common.{◌≡◌, true, ℕ, List, map, sym, ap, subst, ◌∙◌}
-use Rattle.std.specs.List.{list_all}
-use Rattle.imp_fields.specs.NormalText.{normal_text, line_texts}
+use Rattle.telegrams.proofs.Common.{list_all, normal_text, line_texts, is_text_byte}
 use Rattle.imp_fields.specs.declared.token.Token.{Token}
-use Rattle.telegrams.specs.Kept.{is_text_byte}
 use Rattle.telegrams.proofs.PlainLines.{plain_normal, plain_texts}
 use Rattle.telegrams.proofs.reading.text_of.Goals as goal
 

@@ -1,10 +1,8 @@
 use Rattle.std.proofs.Common.{◌≡◌, Some, sym, ap, ◌∙◌, subst}
-use Rattle.std.specs.Prelude.{is_some}
-use Rattle.std.specs.Ordering.{nat_cmp}
+use Rattle.agent_stock.proofs.Common.{is_some, nat_cmp, AreRuns, holders_by}
 use Rattle.std.specs.BTreeMap.{get}
 use Rattle.std.specs.Map.Iter.{deref_pair}
 use Rattle.std.proofs.lemmas.Map.Views.{All-turn}
-use Rattle.agent_stock.specs.Runs.{AreRuns, holders_by}
 use Rattle.agent_stock.proofs.Keyed.{rows_in_order, holders_by_key, all_listed}
 use Rattle.agent_stock.proofs.plain.PlainRows.in_stock.Goals as goal
 

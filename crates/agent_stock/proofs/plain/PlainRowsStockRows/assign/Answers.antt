@@ -1,6 +1,6 @@
 use Rattle.std.proofs.Common.{◌≡◌, ◌≤◌, ◌+◌, ◌∙◌, sym, ap, arith, Some, ℕ, cond, ◌&&◌, nat_le, nat_lt, nat_eq}
 use Rattle.agent_stock.proofs.Serials.{one_more, none_yet, key_is}
-use Rattle.agent_stock.specs.Plain.{holders_of}
+use Rattle.agent_stock.proofs.Common.{holders_of}
 use Rattle.agent_stock.proofs.plain.PlainRowsStockRows.assign.Goals as goal
 
 pub loop-key-init : goal.loop-key-init

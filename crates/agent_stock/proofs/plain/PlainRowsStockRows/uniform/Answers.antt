@@ -1,8 +1,5 @@
 use Rattle.std.proofs.Common.{◌≡◌, ℕ, ◌+◌, ◌-◌, ◌∙◌, Bool, true, false, not, suc, sym, ap, arith, subst}
-use Rattle.std.specs.List.{find, range_with_len}
-use Rattle.agent_stock.specs.Stock.{passes}
-use Rattle.agent_stock.specs.Plain.{holders_of}
-use Rattle.awb_number.specs.Number.{IsNumber}
+use Rattle.agent_stock.proofs.Common.{find, range_with_len, passes, holders_of, IsNumber}
 use Rattle.agent_stock.proofs.Serials.{find_next, find_here, given_as, IsNumber-covered}
 use Rattle.agent_stock.proofs.plain.PlainRowsStockRows.uniform.Goals as goal
 

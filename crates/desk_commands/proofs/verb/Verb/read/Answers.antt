@@ -1,6 +1,5 @@
 use Rattle.std.proofs.Common.{◌≡◌, ℕ, List, Option, Some, None, IfSome, sym, ap, ◌∙◌}
-use Rattle.desk_commands.specs.declared.verb.Verb.{Verb}
-use Rattle.desk_commands.specs.Verb.{word, verb_called}
+use Rattle.desk_commands.proofs.Common.{Verb, word, verb_called}
 use Rattle.desk_commands.proofs.Words.{called_again, called_is}
 use Rattle.desk_commands.proofs.verb.Verb.read.Goals as goal
 

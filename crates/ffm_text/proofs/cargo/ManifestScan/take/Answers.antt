@@ -1,5 +1,5 @@
 use Rattle.std.proofs.Common.{◌++◌, ◌∷◌, [], sym, ◌∙◌, subst}
-use Rattle.ffm_text.specs.Scan.{AreCargo}
+use Rattle.ffm_text.proofs.Common.{AreCargo}
 use Rattle.ffm_text.proofs.ScanLaws.{take_cargo, pass_line}
 use Rattle.ffm_text.proofs.ToldLaws.{cargo_told}
 use Rattle.ffm_text.proofs.cargo.ManifestScan.take.Goals as goal

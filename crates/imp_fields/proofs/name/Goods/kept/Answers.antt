@@ -1,6 +1,5 @@
 use Rattle.std.proofs.Common.{subst, sym}
-use Rattle.std.specs.Prelude.{IsTrue}
-use Rattle.imp_fields.specs.Name.{is_goods}
+use Rattle.imp_fields.proofs.Common.{IsTrue, is_goods}
 use Rattle.imp_fields.proofs.NameLaws.{kept_is, kept_is_goods}
 use Rattle.imp_fields.proofs.name.Goods.kept.Goals as goal
 

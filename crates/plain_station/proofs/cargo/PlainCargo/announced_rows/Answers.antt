@@ -1,7 +1,5 @@
 use Rattle.std.proofs.Common.{arith, ◌≡◌, ◌∙◌, ◌+◌, not, length, take, ◌++◌, ◌∷◌, [], refl, sym, ap, subst}
-use Rattle.std.proofs.lemmas.List.{take_all}
-use Rattle.std.specs.List.{filter}
-use Rattle.plain_station.specs.Lists.{AreDeclared, declared_in}
+use Rattle.plain_station.proofs.Common.{take_all, filter, AreDeclared, declared_in}
 use Rattle.plain_station.proofs.Listed.{are_announced, is_ahead}
 use Rattle.plain_station.proofs.Walks.{kept, passed_over}
 use Rattle.plain_station.proofs.cargo.PlainCargo.announced_rows.Goals.{then-not-has_come+in_ok-put_declared, else-not-has_come}

@@ -1,6 +1,5 @@
 use Rattle.std.proofs.Common.{take}
-use Rattle.std.specs.List.{filter}
-use Rattle.plain_station.specs.Lists.{AreDeclared, declared_in}
+use Rattle.plain_station.proofs.Common.{filter, AreDeclared, declared_in}
 use Rattle.plain_station.proofs.Listed.{is_ahead}
 use Rattle.plain_station.proofs.cargo.PlainCargo.announced_rows.Given as goal
 

@@ -1,8 +1,6 @@
 use Rattle.std.proofs.Common.{◌∙◌, ap}
-use Rattle.shipment_machine.specs.Book.{taken, found, free, missing, departed, delivered, transferred}
+use Rattle.plain_station.proofs.Common.{taken, found, free, missing, departed, delivered, transferred, held_free, held_missing, cargo_of}
 use Rattle.plain_station.proofs.Within.{within_taken, within_found, within_held, within_places}
-use Rattle.shipment_machine.proofs.Conserved.{held_free, held_missing}
-use Rattle.plain_station.specs.Lists.{cargo_of}
 use Rattle.plain_station.proofs.cargo.PlainCargo.balances.Goals as goal
 
 pub drawn-requires-clause-within : goal.drawn-requires-clause-within

@@ -1,5 +1,5 @@
 use Rattle.std.proofs.Common.{◌+◌, get_or, ap, ◌∙◌, arith}
-use Rattle.station_core.specs.Readers.{book_row}
+use Rattle.plain_station.proofs.Common.{book_row}
 use Rattle.plain_station.proofs.Numbers.{told_next}
 use Rattle.plain_station.proofs.cargo.PlainCargo.book_rows.Goals as goal
 

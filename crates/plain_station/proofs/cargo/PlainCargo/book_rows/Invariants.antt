@@ -1,5 +1,5 @@
 use Rattle.std.proofs.Common.{◌≡◌, take}
-use Rattle.station_core.specs.Readers.{numbered, book_row}
+use Rattle.plain_station.proofs.Common.{numbered, book_row}
 use Rattle.plain_station.proofs.cargo.PlainCargo.book_rows.Given as goal
 
 abbrev pub invariant-loop-i : goal.invariant-loop-i

@@ -1,8 +1,6 @@
 use Rattle.std.proofs.Common.{◌≤◌, ap, ◌∙◌, arith}
-use Rattle.shipment_machine.proofs.Conserved.{held_built}
+use Rattle.plain_station.proofs.Common.{held_built, built, cargo_of}
 use Rattle.shipment_machine.specs.declared.amount.Amount.{Amount}
-use Rattle.shipment_machine.specs.Book.{built}
-use Rattle.plain_station.specs.Lists.{cargo_of}
 use Rattle.plain_station.proofs.Walks.{summed}
 use Rattle.plain_station.proofs.cargo.PlainCargo.built_of.Goals as goal
 

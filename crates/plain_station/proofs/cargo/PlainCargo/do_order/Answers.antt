@@ -1,6 +1,5 @@
 use Rattle.std.proofs.Common.{◌≡◌, None, ap, subst, ◌∙◌}
-use Rattle.agent_stock.specs.Stock.{order_refusal, after_order}
-use Rattle.plain_station.specs.Lists.{cargo_of}
+use Rattle.plain_station.proofs.Common.{order_refusal, after_order, cargo_of}
 use Rattle.plain_station.proofs.Ordering.{done, steady_after}
 use Rattle.plain_station.proofs.cargo.PlainCargo.do_order.Goals as goal
 

@@ -1,8 +1,5 @@
 use Rattle.std.proofs.Common.{sym, subst}
-use Rattle.shipment_machine.specs.Agreement.{outcome_of}
-use Rattle.station_core.specs.Step.{cargo_acted}
-use Rattle.plain_station.specs.Doing.{Does}
-use Rattle.plain_station.specs.Lists.{cargo_of}
+use Rattle.plain_station.proofs.Common.{outcome_of, cargo_acted, Does, cargo_of}
 use Rattle.plain_station.proofs.Steady.{carried_steady}
 use Rattle.plain_station.proofs.cargo.PlainCargo.do_shipment.Goals as goal
 

@@ -1,6 +1,5 @@
 use Rattle.std.proofs.Common.{take, sym, subst}
-use Rattle.station_core.specs.Readers.{AreExpectations}
-use Rattle.plain_station.specs.Lists.{expected_in}
+use Rattle.plain_station.proofs.Common.{AreExpectations, expected_in}
 use Rattle.plain_station.proofs.Walks.{taken_more}
 use Rattle.plain_station.proofs.cargo.PlainCargo.expectations.Goals as goal
 

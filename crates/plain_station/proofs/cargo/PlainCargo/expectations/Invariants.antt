@@ -1,6 +1,5 @@
 use Rattle.std.proofs.Common.{take}
-use Rattle.station_core.specs.Readers.{AreExpectations}
-use Rattle.plain_station.specs.Lists.{expected_in}
+use Rattle.plain_station.proofs.Common.{AreExpectations, expected_in}
 use Rattle.plain_station.proofs.cargo.PlainCargo.expectations.Given as goal
 
 abbrev pub invariant-loop-row : goal.invariant-loop-row

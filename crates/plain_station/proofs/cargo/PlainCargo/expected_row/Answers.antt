@@ -1,7 +1,5 @@
 use Rattle.std.proofs.Common.{sym, ap}
-use Rattle.std.specs.Option.{unwrap_or}
-use Rattle.shipment_machine.specs.declared.moves.Declared.{Declared}
-use Rattle.shipment_machine.specs.Views.{undeclared}
+use Rattle.plain_station.proofs.Common.{unwrap_or, Declared, undeclared}
 use Rattle.plain_station.proofs.cargo.PlainCargo.expected_row.Goals as goal
 
 pub returns : goal.returns

@@ -1,11 +1,7 @@
 use Rattle.std.proofs.Common.{arith, ◌≡◌, length, take, ◌∷◌, [], ◌++◌, map, ap, sym, subst, ◌∙◌, IsSome}
-use Rattle.std.proofs.lemmas.List.{take_all}
-use Rattle.station_core.specs.declared.rows.Expectation.{Expectation}
-use Rattle.station_core.specs.Readers.{AreExpectations, expected_row}
-use Rattle.plain_station.specs.Lists.{cargo_of}
+use Rattle.plain_station.proofs.Common.{take_all, Expectation, AreExpectations, expected_row, cargo_of, mapped}
 use Rattle.plain_station.proofs.Listed.{known_asked}
 use Rattle.plain_station.proofs.Walks.{holds_of}
-use Rattle.station_core.proofs.Mapped.{mapped}
 use Rattle.plain_station.proofs.cargo.PlainCargo.expected_rows.Goals as goal
 
 pub expected_row-requires : goal.expected_row-requires

@@ -1,6 +1,5 @@
 use Rattle.std.proofs.Common.{◌≡◌, take, map}
-use Rattle.station_core.specs.Readers.{expected_row}
-use Rattle.plain_station.specs.Lists.{cargo_of}
+use Rattle.plain_station.proofs.Common.{expected_row, cargo_of}
 use Rattle.plain_station.proofs.cargo.PlainCargo.expected_rows.Given as goal
 
 abbrev pub invariant-loop-expectation : goal.invariant-loop-expectation

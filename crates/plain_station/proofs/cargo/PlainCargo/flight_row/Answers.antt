@@ -1,5 +1,5 @@
 use Rattle.std.proofs.Common.{length, sum_by, ap, ◌∙◌}
-use Rattle.shipment_machine.specs.Book.{built}
+use Rattle.plain_station.proofs.Common.{built}
 use Rattle.plain_station.proofs.cargo.PlainCargo.flight_row.Goals as goal
 
 pub returns : goal.returns

@@ -1,7 +1,5 @@
 use Rattle.std.proofs.Common.{◌∷◌, [], ◌++◌, ap, ◌∙◌}
-use Rattle.station_core.specs.Readers.{flight_row}
-use Rattle.plain_station.specs.Lists.{cargo_of}
-use Rattle.station_core.proofs.Mapped.{mapped}
+use Rattle.plain_station.proofs.Common.{flight_row, cargo_of, mapped}
 use Rattle.plain_station.proofs.cargo.PlainCargo.flight_rows.Goals as goal
 
 pub loop-noted-preserved : goal.loop-noted-preserved

@@ -1,6 +1,5 @@
 use Rattle.std.proofs.Common.{◌≡◌, take, map}
-use Rattle.station_core.specs.Readers.{flight_row}
-use Rattle.plain_station.specs.Lists.{cargo_of}
+use Rattle.plain_station.proofs.Common.{flight_row, cargo_of}
 use Rattle.plain_station.proofs.cargo.PlainCargo.flight_rows.Given as goal
 
 abbrev pub invariant-loop-noted : goal.invariant-loop-noted

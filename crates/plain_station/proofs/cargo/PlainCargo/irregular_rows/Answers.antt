@@ -1,6 +1,5 @@
 use Rattle.std.proofs.Common.{◌∙◌, ap, IsSome}
-use Rattle.shipment_machine.specs.Book.{waybills_of}
-use Rattle.plain_station.specs.Lists.{cargo_of}
+use Rattle.plain_station.proofs.Common.{waybills_of, cargo_of}
 use Rattle.plain_station.proofs.Known.{known_all}
 use Rattle.plain_station.proofs.Walks.{holds_of}
 use Rattle.plain_station.proofs.cargo.PlainCargo.irregular_rows.Goals as goal

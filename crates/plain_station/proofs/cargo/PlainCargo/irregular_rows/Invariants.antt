@@ -1,8 +1,5 @@
 use Rattle.std.proofs.Common.{◌≡◌, [], ◌∷◌, take}
-use Rattle.std.specs.Bool.{if◌then◌else◌}
-use Rattle.std.specs.List.{flat_map}
-use Rattle.station_core.specs.Readers.{is_irregular, irregular_row}
-use Rattle.plain_station.specs.Lists.{cargo_of}
+use Rattle.plain_station.proofs.Common.{if◌then◌else◌, flat_map, is_irregular, irregular_row, cargo_of}
 use Rattle.plain_station.proofs.cargo.PlainCargo.irregular_rows.Given as goal
 
 abbrev pub invariant-loop-number : goal.invariant-loop-number

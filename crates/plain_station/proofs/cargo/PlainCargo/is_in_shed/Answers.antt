@@ -1,5 +1,5 @@
 use Rattle.plain_station.proofs.Within.{within_places}
-use Rattle.plain_station.specs.Lists.{cargo_of}
+use Rattle.plain_station.proofs.Common.{cargo_of}
 use Rattle.plain_station.proofs.cargo.PlainCargo.is_in_shed.Goals as goal
 
 pub stored-requires-clause-within : goal.stored-requires-clause-within

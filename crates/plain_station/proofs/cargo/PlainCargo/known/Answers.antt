@@ -1,8 +1,6 @@
 use Rattle.std.proofs.Common.{◌∙◌, ap}
-use Rattle.shipment_machine.specs.declared.moves.Balances.{Balances}
-use Rattle.shipment_machine.specs.Book.{store}
+use Rattle.plain_station.proofs.Common.{Balances, store, cargo_of}
 use Rattle.plain_station.proofs.Within.{within_places}
-use Rattle.plain_station.specs.Lists.{cargo_of}
 use Rattle.plain_station.proofs.cargo.PlainCargo.known.Goals as goal
 
 pub stored-requires-clause-within : goal.stored-requires-clause-within

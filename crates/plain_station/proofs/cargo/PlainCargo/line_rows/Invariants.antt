@@ -1,7 +1,5 @@
 use Rattle.std.proofs.Common.{◌≡◌, take, map}
-use Rattle.shipment_machine.specs.Effect.{lines_for}
-use Rattle.shipment_machine.specs.Views.{line_view_of}
-use Rattle.plain_station.specs.Lists.{cargo_of}
+use Rattle.plain_station.proofs.Common.{lines_for, line_view_of, cargo_of}
 use Rattle.plain_station.proofs.cargo.PlainCargo.line_rows.Given as goal
 
 abbrev pub invariant-loop-line : goal.invariant-loop-line

@@ -1,5 +1,4 @@
-use Rattle.shipment_machine.proofs.Conserved.{held_built}
-use Rattle.plain_station.specs.Lists.{cargo_of}
+use Rattle.plain_station.proofs.Common.{held_built, cargo_of}
 use Rattle.plain_station.proofs.Within.{within_held}
 use Rattle.plain_station.proofs.cargo.PlainCargo.load_on.Goals as goal
 

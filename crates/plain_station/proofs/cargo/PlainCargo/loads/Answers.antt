@@ -1,10 +1,7 @@
 use Rattle.std.proofs.Common.{◌∷◌, [], ◌++◌, ap, ◌∙◌, IsSome}
-use Rattle.shipment_machine.specs.Book.{waybills_on}
-use Rattle.plain_station.specs.Aboard.{aboard_of}
-use Rattle.plain_station.specs.Lists.{cargo_of}
+use Rattle.plain_station.proofs.Common.{waybills_on, aboard_of, cargo_of, mapped}
 use Rattle.plain_station.proofs.Known.{known_on}
 use Rattle.plain_station.proofs.Walks.{holds_of}
-use Rattle.station_core.proofs.Mapped.{mapped}
 use Rattle.plain_station.proofs.cargo.PlainCargo.loads.Goals as goal
 
 pub declaration_of-declared-requires : goal.declaration_of-declared-requires

@@ -1,6 +1,5 @@
 use Rattle.std.proofs.Common.{◌≡◌, length, arith}
-use Rattle.std.proofs.lemmas.List.{length-map}
-use Rattle.station_core.specs.Texts.{texts_in}
+use Rattle.plain_station.proofs.Common.{length-map, texts_in}
 use Rattle.plain_station.proofs.Numbers.{pending_next}
 use Rattle.plain_station.proofs.cargo.PlainCargo.messages_after.Goals as goal
 

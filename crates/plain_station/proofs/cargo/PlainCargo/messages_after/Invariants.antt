@@ -1,6 +1,5 @@
 use Rattle.std.proofs.Common.{◌≡◌, ◌+◌, ◌-◌, take, drop}
-use Rattle.station_core.specs.Readers.{numbered, message}
-use Rattle.station_core.specs.Texts.{texts_in}
+use Rattle.plain_station.proofs.Common.{numbered, message, texts_in}
 use Rattle.plain_station.proofs.cargo.PlainCargo.messages_after.Given as goal
 
 abbrev pub invariant-loop-at : goal.invariant-loop-at

@@ -1,6 +1,5 @@
 use Rattle.std.proofs.Common.{◌≡◌, take}
-use Rattle.std.specs.List.{filter}
-use Rattle.plain_station.specs.Aboard.{is_onto}
+use Rattle.plain_station.proofs.Common.{filter, is_onto}
 use Rattle.plain_station.proofs.cargo.PlainCargo.moves_onto.Given as goal
 
 abbrev pub invariant-loop-movement : goal.invariant-loop-movement

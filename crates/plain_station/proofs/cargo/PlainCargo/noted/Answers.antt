@@ -1,6 +1,5 @@
 use Rattle.std.proofs.Common.{take, sym, subst}
-use Rattle.station_core.specs.Readers.{AreNoted}
-use Rattle.plain_station.specs.Lists.{flights_in}
+use Rattle.plain_station.proofs.Common.{AreNoted, flights_in}
 use Rattle.plain_station.proofs.Walks.{taken_more}
 use Rattle.plain_station.proofs.cargo.PlainCargo.noted.Goals as goal
 

@@ -1,6 +1,5 @@
 use Rattle.std.proofs.Common.{take}
-use Rattle.station_core.specs.Readers.{AreNoted}
-use Rattle.plain_station.specs.Lists.{flights_in}
+use Rattle.plain_station.proofs.Common.{AreNoted, flights_in}
 use Rattle.plain_station.proofs.cargo.PlainCargo.noted.Given as goal
 
 abbrev pub invariant-loop-row : goal.invariant-loop-row

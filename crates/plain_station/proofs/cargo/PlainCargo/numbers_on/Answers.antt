@@ -1,8 +1,5 @@
 use Rattle.std.proofs.Common.{◌∙◌, sym, ap}
-use Rattle.std.specs.List.{filter}
-use Rattle.std.proofs.lemmas.List.{take_all}
-use Rattle.shipment_machine.specs.Book.{waybills_of}
-use Rattle.plain_station.specs.Aboard.{is_built_on}
+use Rattle.plain_station.proofs.Common.{filter, take_all, waybills_of, is_built_on}
 use Rattle.plain_station.proofs.Onto.{on_flight}
 use Rattle.plain_station.proofs.Walks.{kept, passed_over}
 use Rattle.plain_station.proofs.cargo.PlainCargo.numbers_on.Goals.{then-is_on+in_ok-push, else-is_on}

@@ -1,12 +1,7 @@
 use Rattle.std.proofs.Common.{◌≡◌, ℕ, Option, Some, sym, ap, ◌∙◌, map}
-use Rattle.std.specs.Prelude.{is_some}
-use Rattle.std.specs.Option.{unwrap_or}
-use Rattle.std.proofs.lemmas.Bool.{cond-true, cond-false}
+use Rattle.plain_station.proofs.Common.{is_some, unwrap_or, cond-true, cond-false, is_day, lines_for, line_view_of, cargo_of, parts_in}
 use Rattle.station_days.specs.Date.{resolved}
 use Rattle.shipment_machine.specs.declared.view.Rows.TheVariants as rows
-use Rattle.shipment_machine.specs.Effect.{is_day, lines_for}
-use Rattle.shipment_machine.specs.Views.{line_view_of}
-use Rattle.plain_station.specs.Lists.{cargo_of, parts_in}
 use Rattle.plain_station.proofs.Meant.{still_some}
 use Rattle.plain_station.proofs.cargo.PlainCargo.part_rows.Goals as goal
 

@@ -1,9 +1,5 @@
 use Rattle.std.proofs.Common.{ℕ, List}
-use Rattle.shipment_machine.specs.Agreement.{StaysLawful, outcome_of}
-use Rattle.shipment_machine.specs.Effect.{carried_out}
-use Rattle.shipment_machine.specs.Lawful.{IsLawful}
-use Rattle.plain_station.specs.Lists.{cargo_of}
-use Rattle.station_core.specs.Step.{sent}
+use Rattle.plain_station.proofs.Common.{StaysLawful, outcome_of, carried_out, IsLawful, cargo_of, sent}
 use Rattle.station_core.proofs.StepLaw.{sent_lawful}
 use Rattle.plain_station.proofs.StillOk.{still_ok}
 use Rattle.plain_station.proofs.cargo.PlainCargo.plan.Goals as goal

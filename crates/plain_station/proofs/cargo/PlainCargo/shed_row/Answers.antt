@@ -1,10 +1,6 @@
 use Rattle.std.proofs.Common.{◌∙◌, sym, ap}
-use Rattle.std.specs.Option.{unwrap_or}
+use Rattle.plain_station.proofs.Common.{unwrap_or, store, Balances, Declared, undeclared}
 use Rattle.shipment_machine.specs.Amount.{less}
-use Rattle.shipment_machine.specs.Book.{store}
-use Rattle.shipment_machine.specs.declared.moves.Balances.{Balances}
-use Rattle.shipment_machine.specs.declared.moves.Declared.{Declared}
-use Rattle.shipment_machine.specs.Views.{undeclared}
 use Rattle.plain_station.proofs.cargo.PlainCargo.shed_row.Goals as goal
 
 pub returns : goal.returns

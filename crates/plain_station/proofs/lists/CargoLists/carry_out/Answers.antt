@@ -1,8 +1,5 @@
 use Rattle.std.proofs.Common.{true, map, sym, ap, ◌∙◌}
-use Rattle.telegrams.specs.NoticeText.{notice_text}
-use Rattle.shipment_machine.specs.Agreement.{outcome_of}
-use Rattle.plain_station.specs.Lists.{cargo_of}
-use Rattle.station_core.specs.Texts.{texts_in}
+use Rattle.plain_station.proofs.Common.{notice_text, outcome_of, cargo_of, texts_in}
 use Rattle.plain_station.proofs.Carried.{taken_over, room_after, not_carried, carried}
 use Rattle.plain_station.proofs.lists.CargoLists.carry_out.Goals as goal
 

@@ -1,6 +1,5 @@
 use Rattle.std.proofs.Common.{◌≡◌, drop}
-use Rattle.shipment_machine.specs.Cargo.{written_all}
-use Rattle.plain_station.specs.Lists.{cargo_of}
+use Rattle.plain_station.proofs.Common.{written_all, cargo_of}
 use Rattle.plain_station.specs.Next.{cargo_with}
 use Rattle.plain_station.proofs.writing.NextRows.after.Given as goal
 

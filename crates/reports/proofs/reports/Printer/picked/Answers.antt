@@ -1,7 +1,5 @@
 use Rattle.std.proofs.Common.{rules, ◌≡◌, ◌∙◌, ap, subst, false, ◌++◌}
-use Rattle.std.specs.Prelude.{filter}
-use Rattle.reports.specs.Ended.{HasEndedBy, HasEndedEach}
-use Rattle.reports.specs.Listings.{IsTextOf}
+use Rattle.reports.proofs.Common.{filter, HasEndedBy, HasEndedEach, IsTextOf}
 use Rattle.reports.proofs.Handing.{new_ended, new_ended_each}
 use Rattle.reports.proofs.reports.Printer.picked.Goals as goal
 

@@ -1,15 +1,11 @@
 use Rattle.std.proofs.Common.{arith, rules, ◌∷◌, []}
 use Rattle.std.proofs.lemmas.Grind.{common_steps}
-use Rattle.station_core.specs.Readers.{book_by, irregular_rows, messages_by, shed_rows, trail_by}
+use Rattle.reports.proofs.Common.{book_by, irregular_rows, messages_by, shed_rows, trail_by, line_by, data_by, book_cells, irregular_cells, shed_cells, summary_cells, message_lines, trail_line, IsWhole, message_data, trail_data}
 use Rattle.station_core.specs.Told.{summary_of}
 use Rattle.station_core.specs.declared.rows.BookQuery.TheVariants as book
 use Rattle.station_core.specs.declared.rows.ExpectedQuery.TheVariants as expected
 use Rattle.station_core.specs.declared.rows.MessageQuery.TheVariants as messages
 use Rattle.station_core.specs.declared.rows.TrailQuery.TheVariants as trail
-use Rattle.reports.specs.Cells.{line_by, data_by, book_cells, irregular_cells, shed_cells, summary_cells}
-use Rattle.reports.specs.Lines.{message_lines, trail_line}
-use Rattle.reports.specs.Listings.{IsWhole}
-use Rattle.reports.specs.Objects.{message_data, trail_data}
 use Rattle.reports.specs.declared.days.Lasting.TheVariants.{Irregular, Stored}
 use Rattle.reports.proofs.FlightLists.{one_announced, one_expected, one_flights}
 use Rattle.reports.proofs.Handing.{reported_as, reported_rows, reported_these}

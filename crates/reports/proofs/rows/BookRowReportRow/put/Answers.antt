@@ -1,7 +1,5 @@
 use Rattle.std.proofs.Common.{◌≡◌, ◌∙◌, ◌++◌, List, [], ◌∷◌, subst}
-use Rattle.std.specs.Prelude.{OnOk}
-use Rattle.reports.specs.Cells.{data_of, line_of}
-use Rattle.reports.specs.Pieces.{in_form}
+use Rattle.reports.proofs.Common.{OnOk, data_of, line_of, in_form}
 use Rattle.reports.specs.declared.cells.Cell.{Cell}
 use Rattle.reports.specs.declared.cells.Cell.TheVariants as cell
 use Rattle.reports.proofs.rows.BookRowReportRow.put.Goals as goal

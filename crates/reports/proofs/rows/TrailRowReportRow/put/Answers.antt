@@ -1,8 +1,5 @@
 use Rattle.std.proofs.Common.{◌≡◌, ◌++◌, sym, subst}
-use Rattle.std.specs.Prelude.{OnOk}
-use Rattle.reports.specs.Lines.{trail_line}
-use Rattle.reports.specs.Objects.{trail_data}
-use Rattle.reports.specs.Pieces.{in_form}
+use Rattle.reports.proofs.Common.{OnOk, trail_line, trail_data, in_form}
 use Rattle.reports.proofs.rows.TrailRowReportRow.put.Goals as goal
 
 pub returns-in-Json : goal.returns-in-Json

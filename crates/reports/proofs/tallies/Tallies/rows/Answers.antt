@@ -1,4 +1,4 @@
-use Rattle.reports.specs.Tallies.{listed}
+use Rattle.reports.proofs.Common.{listed}
 use Rattle.reports.proofs.Passing.{all_put}
 use Rattle.reports.proofs.tallies.Tallies.rows.Goals as goal
 

@@ -1,6 +1,5 @@
 use Rattle.std.proofs.Common.{◌≡◌, ◌++◌}
-use Rattle.std.specs.List.{flat_map}
-use Rattle.reports.specs.Tallies.{listed}
+use Rattle.reports.proofs.Common.{flat_map, listed}
 use Rattle.reports.proofs.tallies.Tallies.rows.Given as goal
 
 -- the rows so far and those ahead are the rows of all

@@ -1,6 +1,5 @@
 use Rattle.std.proofs.Common.{◌≡◌, ◌∙◌, rules}
-use Rattle.std.specs.BTreeMap.{get}
-use Rattle.state_store.specs.ExpectedLines.{line_of, same_line}
+use Rattle.state_store.proofs.Common.{get, line_of, same_line}
 use Rattle.state_store.proofs.Keyed.{found_by}
 use Rattle.state_store.proofs.Tied.{by_line, by_line_keyed}
 use Rattle.state_store.proofs.expected_lines.ExpectedLines.get.Goals as goal

@@ -1,6 +1,5 @@
 use Rattle.std.proofs.Common.{◌∙◌, ap, ◌++◌, ◌∷◌, [], ℕ, map}
-use Rattle.shipment_machine.specs.declared.moves.Expected.{Expected}
-use Rattle.state_store.specs.declared.flight_key.FlightKey.{FlightKey}
+use Rattle.state_store.proofs.Common.{Expected, FlightKey}
 use Rattle.state_store.proofs.InOrder.{are_expectations, expectation_of, mapped_last, mapped_more}
 use Rattle.state_store.proofs.expected_lines.ExpectedLines.listed.Goals as goal
 

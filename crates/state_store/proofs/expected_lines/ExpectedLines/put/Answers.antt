@@ -1,4 +1,4 @@
-use Rattle.state_store.specs.ExpectedLines.{line_of, same_line}
+use Rattle.state_store.proofs.Common.{line_of, same_line}
 use Rattle.state_store.proofs.Keyed.{put_in}
 use Rattle.state_store.proofs.Tied.{by_line, by_line_keyed}
 use Rattle.state_store.proofs.expected_lines.ExpectedLines.put.Goals as goal

@@ -1,8 +1,5 @@
 use Rattle.std.proofs.Common.{◌≡◌, ◌∙◌, ◌+◌, ◌++◌, drop, sym, ap, arith}
-use Rattle.std.specs.List.{flat_map}
-use Rattle.station_core.specs.Readers.{numbered, trail_row}
-use Rattle.state_store.specs.Asked.{first_line, if_line}
-use Rattle.state_store.specs.Maps.{trail_in, trail_line}
+use Rattle.state_store.proofs.Common.{flat_map, numbered, trail_row, first_line, if_line, trail_in, trail_line}
 use Rattle.state_store.proofs.BookLists.{row_last, row_more}
 use Rattle.state_store.proofs.Numbered.{ahead_mapped, length-mapped, lines_are, none_ahead_mapped}
 use Rattle.state_store.proofs.maps.asked.lines.Goals as goal

@@ -1,8 +1,5 @@
 use Rattle.std.proofs.Common.{◌≡◌, ◌+◌, ◌++◌, drop, length}
-use Rattle.std.specs.List.{flat_map}
-use Rattle.station_core.specs.Readers.{numbered, trail_row}
-use Rattle.state_store.specs.Asked.{first_line, if_line}
-use Rattle.state_store.specs.Maps.{trail_in}
+use Rattle.state_store.proofs.Common.{flat_map, numbered, trail_row, first_line, if_line, trail_in}
 use Rattle.state_store.proofs.maps.asked.lines.Given as goal
 
 -- the lines so far and those ahead are all that are asked for

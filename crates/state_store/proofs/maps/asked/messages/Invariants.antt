@@ -1,6 +1,5 @@
 use Rattle.std.proofs.Common.{◌≡◌, ◌+◌, ◌++◌, drop}
-use Rattle.station_core.specs.Readers.{message, numbered}
-use Rattle.station_core.specs.Texts.{texts_in}
+use Rattle.state_store.proofs.Common.{message, numbered, texts_in}
 use Rattle.state_store.proofs.maps.asked.messages.Given as goal
 
 -- the messages so far and those ahead are all behind the mark

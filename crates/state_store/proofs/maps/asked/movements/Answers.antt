@@ -1,6 +1,5 @@
 use Rattle.std.proofs.Common.{◌∙◌, arith}
-use Rattle.station_core.specs.Readers.{book_row}
-use Rattle.state_store.specs.Asked.{if_movement}
+use Rattle.state_store.proofs.Common.{book_row, if_movement}
 use Rattle.state_store.proofs.BookLists.{row_last}
 use Rattle.state_store.proofs.Numbered.{movements_are, none_ahead}
 use Rattle.state_store.proofs.maps.asked.movements.Goals as goal

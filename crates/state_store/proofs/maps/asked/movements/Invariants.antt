@@ -1,7 +1,5 @@
 use Rattle.std.proofs.Common.{◌≡◌, ◌+◌, ◌++◌, drop, length}
-use Rattle.std.specs.List.{flat_map}
-use Rattle.station_core.specs.Readers.{book_row, numbered}
-use Rattle.state_store.specs.Asked.{first_movement, if_movement}
+use Rattle.state_store.proofs.Common.{flat_map, book_row, numbered, first_movement, if_movement}
 use Rattle.state_store.proofs.maps.asked.movements.Given as goal
 
 -- the movements so far and those ahead are all that are asked for

@@ -1,6 +1,5 @@
 use Rattle.std.proofs.Common.{◌∙◌, ap, ◌++◌}
-use Rattle.std.specs.List.{flat_map}
-use Rattle.state_store.specs.Listed.{loaded}
+use Rattle.state_store.proofs.Common.{flat_map, loaded}
 use Rattle.state_store.proofs.BookLists.{all_loaded, row_last, row_more}
 use Rattle.state_store.proofs.maps.listed.loads_in.Goals as goal
 

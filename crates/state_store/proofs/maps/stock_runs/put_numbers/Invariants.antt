@@ -1,7 +1,5 @@
 use Rattle.std.proofs.Common.{◌-◌, ◌≤◌, ◌<◌}
-use Rattle.agent_stock.specs.Runs.{AreStockRuns, IsNoneFrom}
-use Rattle.agent_stock.specs.Stock.{Holders}
-use Rattle.state_store.specs.Runs.{with_numbers}
+use Rattle.state_store.proofs.Common.{AreStockRuns, IsNoneFrom, Holders, with_numbers}
 use Rattle.state_store.proofs.maps.stock_runs.put_numbers.Given as goal
 
 -- the numbers so far are among the runs

@@ -1,7 +1,6 @@
 use Rattle.std.proofs.Common.{subst, ◌∙◌}
-use Rattle.station_core.specs.Step.{State, IsLawfulState}
+use Rattle.station_engine.proofs.Common.{State, IsLawfulState, at_rest}
 use Rattle.station_engine.specs.Laws.{found_is}
-use Rattle.state_store.specs.Store.{at_rest}
 use Rattle.station_engine.proofs.Reading.{one_of_two}
 use Rattle.station_core.proofs.Refusals.{refused_stays}
 use Rattle.station_engine.proofs.station.StoredStation.act_on.Goals as goal

@@ -1,15 +1,7 @@
 use Rattle.std.proofs.Common.{ap, subst, ◌∙◌, arith}
 use Rattle.sqlite_wal.proofs.StateLemmas.{open_from}
-use Rattle.sqlite_wal.specs.Files.{outcomes}
-use Rattle.sqlite_wal.specs.Reads.{AreClean}
-use Rattle.sqlite_wal.specs.Recovery.{Image}
-use Rattle.sqlite_pool.proofs.StateLemmas.{clean_is, may_leave_is}
-use Rattle.sqlite_trees.proofs.Doubt.{clean_of as sure, no_doubt}
-use Rattle.sqlite_trees.specs.Tree.{Trees}
-use Rattle.sqlite_trees.specs.View.{View, IsClean}
-use Rattle.sqlite_store.specs.FileStore.{state, view}
-use Rattle.station_files.specs.Own.{own_trees}
-use Rattle.station_files.specs.OwnFiles.{may_leave_own, HoldsOwnAlone}
+use Rattle.station_files.proofs.Common.{outcomes, AreClean, Image, clean_is, may_leave_is, no_doubt, Trees, View, IsClean, state, view, own_trees, may_leave_own, HoldsOwnAlone}
+use Rattle.sqlite_trees.proofs.Doubt.{clean_of as sure}
 use Rattle.station_files.proofs.OwnFiles.{copied_own}
 use Rattle.station_files.proofs.closing.ConnectionOwnTreesFileStoreFileBackedFilesFileStore.into_files.Goals as goal
 

@@ -1,9 +1,5 @@
 use Rattle.std.proofs.Common.{◌≢◌, Option, Some, None, IfSome, subst, ◌∙◌}
-use Rattle.std.specs.List.{AllByRecursion}
-use Rattle.sqlite_value.specs.declared.value.Value.TheVariants.{Text}
-use Rattle.sqlite_value.specs.Order.{column}
-use Rattle.sqlite_trees.specs.Objects.{catalog_tree}
-use Rattle.sqlite_trees.specs.View.{IsClean}
+use Rattle.station_files.proofs.Common.{AllByRecursion, Text, column, catalog_tree, IsClean}
 use Rattle.station_files.proofs.Owning.{all_unnamed}
 use Rattle.station_files.proofs.own_trees.OwnTrees.free_number.Goals as goal
 

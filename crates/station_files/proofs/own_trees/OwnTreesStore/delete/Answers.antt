@@ -1,8 +1,6 @@
 use Rattle.std.proofs.Common.{w64, subst}
 use Rattle.std.proofs.lemmas.Int.{to_z-of_z}
-use Rattle.std.proofs.lemmas.Result.{on_ok_weaker}
-use Rattle.sqlite_trees.specs.Tree.{without_rowid}
-use Rattle.sqlite_trees.specs.View.{SetsTree}
+use Rattle.station_files.proofs.Common.{on_ok_weaker, without_rowid, SetsTree}
 use Rattle.station_files.proofs.Owning.{sets_inside, shown, stays, stays_after}
 use Rattle.station_files.proofs.own_trees.OwnTreesStore.delete.Goals as goal
 

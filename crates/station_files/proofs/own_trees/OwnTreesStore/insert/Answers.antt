@@ -1,5 +1,4 @@
-use Rattle.std.proofs.lemmas.Result.{on_ok_weaker}
-use Rattle.sqlite_trees.specs.Tree.{order_of, insert_entry}
+use Rattle.station_files.proofs.Common.{on_ok_weaker, order_of, insert_entry}
 use Rattle.station_files.proofs.Owning.{sets_inside, shown, stays, stays_after}
 use Rattle.station_files.proofs.own_trees.OwnTreesStore.insert.Goals as goal
 

@@ -1,9 +1,5 @@
 use Rattle.std.proofs.Common.{Bool, true, false, ap, List, ℕ, refl, rules}
-use Rattle.std.proofs.lemmas.Result.{on_ok_weaker, IfOk-weaker}
-use Rattle.sqlite_value.specs.Order.{Row}
-use Rattle.sqlite_trees.specs.View.{Advances, View}
-use Rattle.station_files.specs.Own.{own_view}
-use Rattle.station_files.specs.declared.layout.Layout.{Layout}
+use Rattle.station_files.proofs.Common.{on_ok_weaker, IfOk-weaker, Row, Advances, View, own_view, Layout}
 use Rattle.station_files.proofs.Owning.{shown, stays, stays_after}
 use Rattle.station_files.proofs.Others.{keeps, spares_after}
 use Rattle.station_files.proofs.own_trees.OwnTreesStore.next.Goals as goal

@@ -1,8 +1,5 @@
 use Rattle.std.proofs.Common.{ap, ap₂, sym, ◌∙◌, refl, rules}
-use Rattle.std.proofs.lemmas.Result.{on_ok_weaker}
-use Rattle.sqlite_trees.specs.Tree.{order_of, sought}
-use Rattle.sqlite_trees.specs.View.{with_cursor}
-use Rattle.station_files.specs.Own.{own_view}
+use Rattle.station_files.proofs.Common.{on_ok_weaker, order_of, sought, with_cursor, own_view}
 use Rattle.station_files.proofs.Owning.{rows_inside, shown, stays, stays_after}
 use Rattle.station_files.proofs.Others.{keeps, spares_after}
 use Rattle.station_files.proofs.own_trees.OwnTreesStore.seek.Goals as goal

@@ -1,7 +1,5 @@
 use Rattle.std.proofs.Common.{◌≡◌, ◌-◌, ◌<◌, ◌∙◌, map, length, slice_index_or, ap, sym, subst, arith, inl, inr, rules}
-use Rattle.std.proofs.lemmas.Bool.{cases_eq}
-use Rattle.sqlite_trees.specs.declared.store.Shape.TheVariants.{Absent}
-use Rattle.station_files.specs.declared.layout.Layout.{Layout}
+use Rattle.station_files.proofs.Common.{cases_eq, Absent, Layout}
 use Rattle.station_files.proofs.Owning.{get_mapped}
 use Rattle.station_files.proofs.own_trees.OwnTreesStore.tree_count.Goals as goal
 

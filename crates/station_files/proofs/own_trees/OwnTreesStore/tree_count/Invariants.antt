@@ -1,6 +1,5 @@
 use Rattle.std.proofs.Common.{◌≡◌, ◌<◌, ◌≤◌, ℕ, length, map, slice_index_or}
-use Rattle.sqlite_trees.specs.declared.store.Shape.TheVariants.{Absent}
-use Rattle.station_files.specs.declared.layout.Layout.{Layout}
+use Rattle.station_files.proofs.Common.{Absent, Layout}
 use Rattle.station_files.proofs.own_trees.OwnTreesStore.tree_count.Given as goal
 
 abbrev pub invariant-loop-count : goal.invariant-loop-count

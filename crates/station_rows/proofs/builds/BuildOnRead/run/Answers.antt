@@ -1,8 +1,5 @@
 use Rattle.std.proofs.Common.{refl}
-use Rattle.station_schema.specs.Tables.{build_row}
-use Rattle.station_schema.proofs.Statements.{query_survives}
-use Rattle.station_rows.specs.Meant.{build_meant}
-use Rattle.station_rows.specs.Shown.{build_read}
+use Rattle.station_rows.proofs.Common.{build_row, query_survives, build_meant, build_read}
 use Rattle.station_rows.proofs.ReadLemmas.{first_told}
 use Rattle.station_rows.proofs.Texts.{get_build_text, get_build_is}
 use Rattle.station_rows.proofs.KeyedLemmas.{gets}

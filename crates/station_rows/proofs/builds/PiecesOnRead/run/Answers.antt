@@ -1,4 +1,4 @@
-use Rattle.sqlite.specs.Held.{state}
+use Rattle.station_rows.proofs.Common.{state}
 use Rattle.station_rows.proofs.BuildLemmas.{reads_pieces}
 use Rattle.station_rows.proofs.builds.PiecesOnRead.run.Goals as goal
 

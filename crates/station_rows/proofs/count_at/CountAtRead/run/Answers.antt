@@ -1,8 +1,5 @@
 use Rattle.std.proofs.Common.{refl}
-use Rattle.station_schema.specs.Tables.{count_row}
-use Rattle.station_schema.proofs.Statements.{query_survives}
-use Rattle.station_rows.specs.Meant.{count_meant}
-use Rattle.station_rows.specs.Shown.{count_read}
+use Rattle.station_rows.proofs.Common.{count_row, query_survives, count_meant, count_read}
 use Rattle.station_rows.proofs.ReadLemmas.{first_told}
 use Rattle.station_rows.proofs.OneCount.{get_count_text, get_count_is}
 use Rattle.station_rows.proofs.KeyedLemmas.{gets}

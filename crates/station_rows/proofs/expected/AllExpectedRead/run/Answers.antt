@@ -1,8 +1,5 @@
 use Rattle.std.proofs.Common.{refl}
-use Rattle.station_schema.specs.Tables.{expected_row}
-use Rattle.station_schema.proofs.Statements.{query_survives}
-use Rattle.station_rows.specs.Meant.{listed_waybill_meant}
-use Rattle.station_rows.specs.Shown.{listed_waybill_read}
+use Rattle.station_rows.proofs.Common.{expected_row, query_survives, listed_waybill_meant, listed_waybill_read}
 use Rattle.station_rows.proofs.ReadLemmas.{all_told}
 use Rattle.station_rows.proofs.Texts.{all_expected_text, all_expected_is}
 use Rattle.station_rows.proofs.ExpectedLemmas.{lists_all_expected}

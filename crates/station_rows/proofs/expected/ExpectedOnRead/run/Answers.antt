@@ -1,7 +1,5 @@
 use Rattle.std.proofs.Common.{refl}
-use Rattle.station_schema.proofs.Statements.{query_survives}
-use Rattle.station_rows.specs.Meant.{expected_meant}
-use Rattle.station_rows.specs.Shown.{expected_shown, expected_read}
+use Rattle.station_rows.proofs.Common.{query_survives, expected_meant, expected_shown, expected_read}
 use Rattle.station_rows.proofs.ReadLemmas.{first_told}
 use Rattle.station_rows.proofs.Texts.{get_expected_text, get_expected_is}
 use Rattle.station_rows.proofs.KeyedLemmas.{gets_value}

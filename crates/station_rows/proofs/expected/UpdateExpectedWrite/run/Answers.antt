@@ -1,4 +1,4 @@
-use Rattle.station_rows.specs.Meant.{expected_meant}
+use Rattle.station_rows.proofs.Common.{expected_meant}
 use Rattle.station_rows.proofs.Texts.{update_expected_is}
 use Rattle.station_rows.proofs.WriteLemmas.{made_by, update_survives}
 use Rattle.station_rows.proofs.KeyedLemmas.{updates}

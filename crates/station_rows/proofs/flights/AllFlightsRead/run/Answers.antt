@@ -1,8 +1,5 @@
 use Rattle.std.proofs.Common.{refl}
-use Rattle.station_schema.specs.Tables.{flight_row}
-use Rattle.station_schema.proofs.Statements.{query_survives}
-use Rattle.station_rows.specs.Meant.{noted_flight_meant}
-use Rattle.station_rows.specs.Shown.{noted_flight_read}
+use Rattle.station_rows.proofs.Common.{flight_row, query_survives, noted_flight_meant, noted_flight_read}
 use Rattle.station_rows.proofs.ReadLemmas.{all_told}
 use Rattle.station_rows.proofs.Texts.{all_flight_text, all_flight_is}
 use Rattle.station_rows.proofs.FlightLemmas.{lists_all_flights}

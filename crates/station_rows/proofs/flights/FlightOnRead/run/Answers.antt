@@ -1,7 +1,5 @@
 use Rattle.std.proofs.Common.{refl}
-use Rattle.station_schema.proofs.Statements.{query_survives}
-use Rattle.station_rows.specs.Meant.{flight_meant}
-use Rattle.station_rows.specs.Shown.{flight_shown, flight_read}
+use Rattle.station_rows.proofs.Common.{query_survives, flight_meant, flight_shown, flight_read}
 use Rattle.station_rows.proofs.ReadLemmas.{first_told}
 use Rattle.station_rows.proofs.Texts.{get_flight_text, get_flight_is}
 use Rattle.station_rows.proofs.KeyedLemmas.{gets_value}

@@ -1,7 +1,5 @@
 use Rattle.std.proofs.Common.{refl}
-use Rattle.station_schema.proofs.Statements.{query_survives}
-use Rattle.station_rows.specs.Meant.{kept_meant}
-use Rattle.station_rows.specs.Shown.{kept_shown, kept_read}
+use Rattle.station_rows.proofs.Common.{query_survives, kept_meant, kept_shown, kept_read}
 use Rattle.station_rows.proofs.ReadLemmas.{first_told}
 use Rattle.station_rows.proofs.Texts.{get_kept_text, get_kept_is}
 use Rattle.station_rows.proofs.KeyedLemmas.{gets_value}

@@ -1,4 +1,4 @@
-use Rattle.station_rows.specs.Meant.{move_meant}
+use Rattle.station_rows.proofs.Common.{move_meant}
 use Rattle.station_rows.proofs.Texts.{insert_move_is}
 use Rattle.station_rows.proofs.WriteLemmas.{made_by, insert_survives}
 use Rattle.station_rows.proofs.MoveLemmas.{inserts_move}

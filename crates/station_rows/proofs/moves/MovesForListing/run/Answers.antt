@@ -1,8 +1,5 @@
 use Rattle.std.proofs.Common.{[], ◌∷◌}
-use Rattle.std.specs.Prelude.{string_bytes}
-use Rattle.sqlite.specs.declared.types.Value.TheVariants.{Int, Text}
-use Rattle.station_schema.proofs.Statements.{query_survives}
-use Rattle.station_rows.specs.Shown.{move_shown}
+use Rattle.station_rows.proofs.Common.{string_bytes, Int, Text, query_survives, move_shown}
 use Rattle.station_rows.proofs.MoveLemmas.{lists_after, lists_all_moves, lists_flown, lists_move}
 use Rattle.station_rows.proofs.ReadLemmas.{all_handed}
 use Rattle.station_rows.proofs.Texts.{after_move_is, after_move_text, all_move_is, all_move_text, flown_move_is, flown_move_text, list_move_is, list_move_text}

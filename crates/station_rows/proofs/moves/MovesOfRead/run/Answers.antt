@@ -1,7 +1,5 @@
 use Rattle.std.proofs.Common.{refl}
-use Rattle.station_schema.proofs.Statements.{query_survives}
-use Rattle.station_rows.specs.Meant.{move_meant}
-use Rattle.station_rows.specs.Shown.{move_shown, move_read}
+use Rattle.station_rows.proofs.Common.{query_survives, move_meant, move_shown, move_read}
 use Rattle.station_rows.proofs.ReadLemmas.{all_told}
 use Rattle.station_rows.proofs.Texts.{list_move_text, list_move_is}
 use Rattle.station_rows.proofs.MoveLemmas.{lists_move}

@@ -1,4 +1,4 @@
-use Rattle.station_rows.specs.Meant.{message_meant}
+use Rattle.station_rows.proofs.Common.{message_meant}
 use Rattle.station_rows.proofs.Texts.{insert_message_is}
 use Rattle.station_rows.proofs.WriteLemmas.{made_by, insert_survives}
 use Rattle.station_rows.proofs.MessageLemmas.{inserts_message}

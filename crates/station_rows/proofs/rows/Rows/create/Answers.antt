@@ -1,9 +1,6 @@
 use Rattle.std.proofs.Common.{sym, ap, subst, ◌∙◌, rules}
-use Rattle.sqlite.specs.Held.{state}
-use Rattle.station_schema.specs.Effects.{IsSettled}
+use Rattle.station_rows.proofs.Common.{state, IsSettled, IsOwn, tables_of}
 use Rattle.station_schema.specs.Connection.{IsVacant}
-use Rattle.station_schema.specs.Own.{IsOwn}
-use Rattle.station_schema.specs.Tables.{tables_of}
 use Rattle.station_rows.proofs.Views.{not_so, survives_alone}
 use Rattle.station_rows.proofs.rows.Rows.create.Goals as goal
 

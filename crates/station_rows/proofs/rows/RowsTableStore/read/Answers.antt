@@ -1,4 +1,4 @@
-use Rattle.sqlite.specs.Held.{state}
+use Rattle.station_rows.proofs.Common.{state}
 use Rattle.station_rows.proofs.Views.{working_after, owned_after, so_true}
 use Rattle.station_rows.proofs.rows.RowsTableStore.read.Goals as goal
 

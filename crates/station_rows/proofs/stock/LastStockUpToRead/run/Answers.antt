@@ -1,10 +1,5 @@
 use Rattle.std.proofs.Common.{Ok, [], refl, reverse}
-use Rattle.std.specs.FinMap.{entries}
-use Rattle.sqlite.specs.Held.{state}
-use Rattle.station_schema.proofs.Statements.{query_survives, still_plain}
-use Rattle.station_schema.specs.Tables.{stock_row, tables_of}
-use Rattle.station_rows.specs.Meant.{last_rows_up_to, stock_meant}
-use Rattle.station_rows.specs.Shown.{stock_read}
+use Rattle.station_rows.proofs.Common.{entries, state, query_survives, still_plain, stock_row, tables_of, last_rows_up_to, stock_meant, stock_read}
 use Rattle.station_rows.proofs.Last.{turned}
 use Rattle.station_rows.proofs.ReadLemmas.{all_told, fails_to_read}
 use Rattle.station_rows.proofs.Texts.{last_stock_rows_text, last_stock_rows_is}

@@ -1,8 +1,5 @@
 use Rattle.std.proofs.Common.{refl}
-use Rattle.station_schema.specs.Tables.{stock_row}
-use Rattle.station_schema.proofs.Statements.{query_survives}
-use Rattle.station_rows.specs.Meant.{stock_meant}
-use Rattle.station_rows.specs.Shown.{stock_read}
+use Rattle.station_rows.proofs.Common.{stock_row, query_survives, stock_meant, stock_read}
 use Rattle.station_rows.proofs.ReadLemmas.{all_told}
 use Rattle.station_rows.proofs.Texts.{between_stock_text, between_stock_is}
 use Rattle.station_rows.proofs.StockLemmas.{lists_between}

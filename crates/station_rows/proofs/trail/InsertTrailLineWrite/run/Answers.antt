@@ -1,4 +1,4 @@
-use Rattle.station_rows.specs.Meant.{trail_meant}
+use Rattle.station_rows.proofs.Common.{trail_meant}
 use Rattle.station_rows.proofs.Texts.{insert_trail_is}
 use Rattle.station_rows.proofs.WriteLemmas.{made_by, insert_survives}
 use Rattle.station_rows.proofs.TrailLemmas.{inserts_trail}

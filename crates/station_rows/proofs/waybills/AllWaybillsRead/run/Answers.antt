@@ -1,8 +1,5 @@
 use Rattle.std.proofs.Common.{refl}
-use Rattle.sqlite.specs.Held.{state}
-use Rattle.station_schema.proofs.Statements.{query_survives}
-use Rattle.station_rows.specs.Meant.{waybill_meant}
-use Rattle.station_rows.specs.Shown.{waybill_shown, waybill_read}
+use Rattle.station_rows.proofs.Common.{state, query_survives, waybill_meant, waybill_shown, waybill_read}
 use Rattle.station_rows.proofs.ReadLemmas.{all_told, read_where}
 use Rattle.station_rows.proofs.Texts.{all_waybill_text, all_waybill_is}
 use Rattle.station_rows.proofs.WaybillLemmas.{lists_all_waybills, waybills_ascend}

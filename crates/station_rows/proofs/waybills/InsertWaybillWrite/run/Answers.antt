@@ -1,4 +1,4 @@
-use Rattle.station_rows.specs.Meant.{waybill_meant}
+use Rattle.station_rows.proofs.Common.{waybill_meant}
 use Rattle.station_rows.proofs.Texts.{insert_waybill_is}
 use Rattle.station_rows.proofs.WriteLemmas.{made_by, insert_survives}
 use Rattle.station_rows.proofs.WaybillLemmas.{inserts_waybill}

@@ -1,4 +1,4 @@
-use Rattle.station_rows.specs.Meant.{waybill_meant}
+use Rattle.station_rows.proofs.Common.{waybill_meant}
 use Rattle.station_rows.proofs.Texts.{update_waybill_is}
 use Rattle.station_rows.proofs.WriteLemmas.{made_by, update_survives}
 use Rattle.station_rows.proofs.WaybillLemmas.{updates_waybill}

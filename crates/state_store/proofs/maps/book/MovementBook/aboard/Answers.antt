@@ -1,8 +1,5 @@
 use Rattle.std.proofs.Common.{◌∙◌, ap}
-use Rattle.shipment_machine.specs.declared.flight.FlightDate.{FlightDate}
-use Rattle.shipment_machine.specs.declared.moves.Place.TheVariants.{Built}
-use Rattle.state_store.specs.Flow.{flow_of}
-use Rattle.state_store.specs.Summed.{flow_by}
+use Rattle.state_store.proofs.Common.{FlightDate, Built, flow_of, flow_by}
 use Rattle.state_store.proofs.BookLists.{none_loaded}
 use Rattle.state_store.proofs.maps.book.MovementBook.aboard.Goals as goal
 

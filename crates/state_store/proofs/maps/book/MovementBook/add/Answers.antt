@@ -1,10 +1,6 @@
 use Rattle.std.proofs.Common.{◌≡◌, ◌∙◌, ◌∷◌, [], ◌++◌, ◌==◌, ℕ, ap, sym, subst}
-use Rattle.std.specs.Bool.{if◌then◌else◌}
-use Rattle.shipment_machine.specs.declared.moves.Place.TheVariants.{Built}
-use Rattle.state_store.specs.Flow.{flow_of, flow_with}
-use Rattle.state_store.specs.Summed.{IsWaybillSummed, flow_at}
+use Rattle.state_store.proofs.Common.{if◌then◌else◌, Built, flow_of, flow_with, IsWaybillSummed, flow_at, FlightKey}
 use Rattle.state_store.specs.declared.maps.book.MovementBook.{MovementBook}
-use Rattle.state_store.specs.declared.flight_key.FlightKey.{FlightKey}
 use Rattle.state_store.proofs.Posting.{flight_summed, posted_both, posted_first}
 use Rattle.state_store.proofs.maps.book.MovementBook.add.Goals.{then-not-is_same+in_ok-post_load-2, else-not-is_same}
 use Rattle.state_store.proofs.maps.book.MovementBook.add.Goals as goal

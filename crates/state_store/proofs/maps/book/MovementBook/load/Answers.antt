@@ -1,8 +1,5 @@
 use Rattle.std.proofs.Common.{◌≡◌, ◌∙◌, ap}
-use Rattle.shipment_machine.specs.Book.{built}
-use Rattle.shipment_machine.specs.declared.amount.Amount.{Amount}
-use Rattle.shipment_machine.specs.declared.flight.FlightDate.{FlightDate}
-use Rattle.state_store.specs.Flow.{held_of}
+use Rattle.state_store.proofs.Common.{built, Amount, FlightDate, held_of}
 use Rattle.state_store.proofs.StillOk.{still_ok}
 use Rattle.state_store.proofs.maps.book.MovementBook.load.Goals as goal
 

@@ -1,7 +1,5 @@
 use Rattle.std.proofs.Common.{◌∙◌, ap, sym, nat_cmp}
-use Rattle.std.specs.BTreeMap.{get}
-use Rattle.std.specs.Option.{unwrap_or}
-use Rattle.state_store.specs.WaybillFlows.{flows_with, no_flows}
+use Rattle.state_store.proofs.Common.{get, unwrap_or, flows_with, no_flows}
 use Rattle.state_store.proofs.Posting.{posted_waybill}
 use Rattle.state_store.proofs.maps.book.MovementBook.post_flows.Goals as goal
 

@@ -1,6 +1,5 @@
 use Rattle.std.proofs.Common.{◌≡◌, ◌++◌}
-use Rattle.std.specs.List.{flat_map}
-use Rattle.state_store.specs.Listed.{asked_by}
+use Rattle.state_store.proofs.Common.{flat_map, asked_by}
 use Rattle.state_store.proofs.maps.book.MovementBook.waybills.Given as goal
 
 -- the waybills so far and those ahead are all that are asked for

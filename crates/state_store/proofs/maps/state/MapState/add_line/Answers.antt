@@ -1,8 +1,5 @@
 use Rattle.std.proofs.Common.{◌≡◌, ◌∙◌, [], ◌∷◌, ◌++◌, ap, arith, rules}
-use Rattle.shipment_machine.specs.Cargo.{written}
-use Rattle.shipment_machine.specs.declared.plans.Change.TheVariants.{Trail}
-use Rattle.state_store.specs.Maps.{cargo_of, trail_in}
-use Rattle.state_store.specs.Shown.{state_of}
+use Rattle.state_store.proofs.Common.{written, Trail, cargo_of, trail_in, state_of}
 use Rattle.state_store.proofs.Writing.{room_line, shows_more, trail_more}
 use Rattle.state_store.proofs.maps.state.MapState.add_line.Goals as goal
 

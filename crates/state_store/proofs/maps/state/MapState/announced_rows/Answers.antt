@@ -1,6 +1,5 @@
 use Rattle.std.proofs.Common.{◌∙◌, ap, ◌++◌}
-use Rattle.std.specs.List.{flat_map}
-use Rattle.state_store.specs.Listed.{announced_by}
+use Rattle.state_store.proofs.Common.{flat_map, announced_by}
 use Rattle.state_store.proofs.AnnouncedOrder.{are_announced}
 use Rattle.state_store.proofs.BookLists.{row_last, row_more}
 use Rattle.state_store.proofs.maps.state.MapState.announced_rows.Goals as goal

@@ -1,7 +1,5 @@
 use Rattle.std.proofs.Common.{◌≡◌, ◌++◌}
-use Rattle.std.specs.List.{flat_map}
-use Rattle.state_store.specs.Listed.{announced_by}
-use Rattle.state_store.specs.Summed.{IsSummed}
+use Rattle.state_store.proofs.Common.{flat_map, announced_by, IsSummed}
 use Rattle.state_store.proofs.maps.state.MapState.announced_rows.Given as goal
 
 -- the rows so far and those ahead are all

@@ -1,8 +1,5 @@
 use Rattle.std.proofs.Common.{[]}
-use Rattle.shipment_machine.specs.Cargo.{written}
-use Rattle.shipment_machine.specs.declared.plans.Change.TheVariants.{Expect}
-use Rattle.state_store.specs.Maps.{cargo_of}
-use Rattle.state_store.specs.Shown.{state_of}
+use Rattle.state_store.proofs.Common.{written, Expect, cargo_of, state_of}
 use Rattle.state_store.proofs.Writing.{shows_more}
 use Rattle.state_store.proofs.maps.state.MapState.expect.Goals as goal
 

@@ -1,6 +1,5 @@
 use Rattle.std.proofs.Common.{◌≡◌, ◌∙◌, ap, rules}
-use Rattle.station_core.specs.Told.{with_text}
-use Rattle.state_store.specs.Shown.{state_of}
+use Rattle.state_store.proofs.Common.{with_text, state_of}
 use Rattle.state_store.proofs.KeptRows.{texts_kept}
 use Rattle.state_store.proofs.maps.state.MapState.keep_count.Goals as goal
 

@@ -1,13 +1,5 @@
 use Rattle.std.proofs.Common.{◌≡◌, [], Some}
-use Rattle.shipment_machine.specs.Cargo.{written}
-use Rattle.shipment_machine.specs.Flights.{same_flight_date}
-use Rattle.std.specs.Bool.{if◌then◌else◌}
-use Rattle.shipment_machine.specs.declared.flight.FlightDate.{FlightDate}
-use Rattle.shipment_machine.specs.declared.plans.Change.TheVariants.{NoteFlight}
-use Rattle.state_store.specs.FlightKey.{by_key}
-use Rattle.state_store.specs.Maps.{cargo_of, flights_in}
-use Rattle.state_store.specs.Shown.{state_of}
-use Rattle.state_store.specs.declared.flight_key.FlightKey.{FlightKey}
+use Rattle.state_store.proofs.Common.{written, same_flight_date, if◌then◌else◌, FlightDate, NoteFlight, by_key, cargo_of, flights_in, state_of, FlightKey}
 use Rattle.state_store.proofs.Keyed.{put_in}
 use Rattle.state_store.proofs.Tied.{by_flight_keyed}
 use Rattle.state_store.proofs.Writing.{shows_more}

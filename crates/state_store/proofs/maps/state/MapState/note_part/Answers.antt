@@ -1,11 +1,6 @@
 use Rattle.std.proofs.Common.{◌≡◌, ◌∙◌, Some, ap, cond, option_map}
-use Rattle.std.specs.Bool.{if◌then◌else◌}
-use Rattle.std.specs.Map.{lookup}
-use Rattle.shipment_machine.specs.Cargo.{same_part, written}
+use Rattle.state_store.proofs.Common.{if◌then◌else◌, lookup, same_part, written, NotePart, cargo_of, part_of, parts_in, state_of}
 use Rattle.shipment_machine.specs.declared.moves.Part.{Part}
-use Rattle.shipment_machine.specs.declared.plans.Change.TheVariants.{NotePart}
-use Rattle.state_store.specs.Maps.{cargo_of, part_of, parts_in}
-use Rattle.state_store.specs.Shown.{state_of}
 use Rattle.state_store.proofs.Keyed.{put_in}
 use Rattle.state_store.proofs.KeptRows.{mapped}
 use Rattle.state_store.proofs.Writing.{by_part, by_part_keyed, shows_more}

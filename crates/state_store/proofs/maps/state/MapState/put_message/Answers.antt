@@ -1,8 +1,5 @@
 use Rattle.std.proofs.Common.{◌≡◌, ◌∙◌, [], ◌∷◌, ◌++◌, ap, arith, rules}
-use Rattle.station_core.specs.Step.{sent}
-use Rattle.state_store.specs.Maps.{cargo_of}
-use Rattle.station_core.specs.Texts.{texts_in}
-use Rattle.state_store.specs.Shown.{state_of}
+use Rattle.state_store.proofs.Common.{sent, cargo_of, texts_in, state_of}
 use Rattle.state_store.proofs.Writing.{room_message, shows_more, texts_more}
 use Rattle.state_store.proofs.maps.state.MapState.put_message.Goals as goal
 

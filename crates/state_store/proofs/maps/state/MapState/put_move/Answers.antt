@@ -1,7 +1,5 @@
 use Rattle.std.proofs.Common.{[], ◌∷◌, ◌++◌, arith}
-use Rattle.shipment_machine.specs.Cargo.{Cargo}
-use Rattle.state_store.specs.Maps.{cargo_of}
-use Rattle.state_store.specs.Shown.{state_of}
+use Rattle.state_store.proofs.Common.{Cargo, cargo_of, state_of}
 use Rattle.state_store.proofs.StillOk.{told_both}
 use Rattle.state_store.proofs.Writing.{room_move, shows_more}
 use Rattle.state_store.proofs.maps.state.MapState.put_move.Goals as goal

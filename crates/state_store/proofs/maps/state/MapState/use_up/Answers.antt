@@ -1,9 +1,5 @@
 use Rattle.std.proofs.Common.{[]}
-use Rattle.shipment_machine.specs.Cargo.{written}
-use Rattle.shipment_machine.specs.declared.plans.Change.TheVariants.{UseUp}
-use Rattle.state_store.specs.Maps.{cargo_of}
-use Rattle.state_store.specs.Shown.{state_of}
-use Rattle.state_store.specs.Stock.{holders_of}
+use Rattle.state_store.proofs.Common.{written, UseUp, cargo_of, state_of, holders_of}
 use Rattle.state_store.proofs.Writing.{put_used, shows_more}
 use Rattle.state_store.proofs.maps.state.MapState.use_up.Goals as goal
 

@@ -1,6 +1,5 @@
 use Rattle.std.proofs.Common.{◌≡◌, ℕ, cond, ◌&&◌, nat_lt, None}
-use Rattle.std.specs.Ordering.{nat_cmp}
-use Rattle.std.specs.BTreeMap.{get, btree_map_len}
+use Rattle.state_store.proofs.Common.{nat_cmp, get, btree_map_len}
 use Rattle.state_store.proofs.maps.stock.MapStock.join_between.Given as goal
 
 -- what is gone lies between the two keys

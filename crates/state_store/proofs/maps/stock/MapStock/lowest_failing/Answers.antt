@@ -1,8 +1,6 @@
 use Rattle.std.proofs.Common.{◌≡◌, ℕ, ◌+◌, ◌-◌, ◌≤◌, ◌<◌, ◌∙◌, Bool, true, false, not, suc, sym, ap, arith, subst}
-use Rattle.std.specs.List.{find, range_with_len}
-use Rattle.agent_stock.specs.Stock.{passes}
+use Rattle.state_store.proofs.Common.{find, range_with_len, passes, holders_of}
 use Rattle.awb_number.specs.Number.{IsNumber}
-use Rattle.state_store.specs.Stock.{holders_of}
 use Rattle.state_store.proofs.Ahead.{named_alike}
 use Rattle.state_store.proofs.Named.{rises}
 use Rattle.agent_stock.proofs.Serials.{find_here, given_as, IsNumber-covered}

@@ -1,7 +1,5 @@
 use Rattle.std.proofs.Common.{◌≡◌, ◌-◌, not}
-use Rattle.std.specs.List.{find, range_with_len}
-use Rattle.agent_stock.specs.Stock.{lowest_failing, passes}
-use Rattle.state_store.specs.Stock.{holders_of}
+use Rattle.state_store.proofs.Common.{find, range_with_len, lowest_failing, passes, holders_of}
 use Rattle.state_store.proofs.maps.stock.MapStock.lowest_failing.Given as goal
 
 -- what is looked for lies ahead

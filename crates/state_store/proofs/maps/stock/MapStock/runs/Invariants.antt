@@ -1,6 +1,4 @@
-use Rattle.agent_stock.specs.Runs.{AreStockRuns}
-use Rattle.state_store.specs.Runs.{below}
-use Rattle.state_store.specs.Stock.{holders_of}
+use Rattle.state_store.proofs.Common.{AreStockRuns, below, holders_of}
 use Rattle.state_store.proofs.Ahead.{IsAhead}
 use Rattle.state_store.proofs.maps.stock.MapStock.runs.Given as goal
 

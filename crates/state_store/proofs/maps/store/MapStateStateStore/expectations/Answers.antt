@@ -1,7 +1,5 @@
 use Rattle.std.proofs.Common.{ap, subst, sym}
-use Rattle.shipment_machine.specs.Cargo.{Cargo}
-use Rattle.station_core.specs.Readers.{AreExpectations, expected_for}
-use Rattle.state_store.specs.ExpectedLines.{Lines, lines_in}
+use Rattle.state_store.proofs.Common.{Cargo, AreExpectations, expected_for, Lines, lines_in}
 use Rattle.state_store.proofs.Surviving.{cargo_is, survives_so}
 use Rattle.state_store.proofs.maps.store.MapStateStateStore.expectations.Goals as goal
 

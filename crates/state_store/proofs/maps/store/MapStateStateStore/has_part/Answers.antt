@@ -1,8 +1,5 @@
 use Rattle.std.proofs.Common.{◌≡◌, ◌∙◌, ap, is_some, rules}
-use Rattle.std.specs.BTreeMap.{get}
-use Rattle.std.specs.Map.{lookup}
-use Rattle.shipment_machine.specs.Cargo.{Cargo, same_part}
-use Rattle.state_store.specs.Maps.{part_of}
+use Rattle.state_store.proofs.Common.{get, lookup, Cargo, same_part, part_of}
 use Rattle.state_store.proofs.Keyed.{found_by, some_mapped}
 use Rattle.state_store.proofs.Surviving.{cargo_is, reads_so}
 use Rattle.state_store.proofs.Writing.{by_part, by_part_keyed}

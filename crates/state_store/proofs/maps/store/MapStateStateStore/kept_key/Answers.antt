@@ -1,9 +1,7 @@
 use Rattle.std.proofs.Common.{◌≡◌, ◌∙◌, Some, ap, option_map, rules}
 use Rattle.std.specs.HashMap.{get_by}
-use Rattle.std.specs.Prelude.{string_bytes}
+use Rattle.state_store.proofs.Common.{string_bytes, State, kept_of}
 use Rattle.std.specs.Str.{bytes_eq}
-use Rattle.station_core.specs.Step.{State}
-use Rattle.station_core.specs.Told.{kept_of}
 use Rattle.state_store.proofs.Surviving.{reads_so}
 use Rattle.state_store.proofs.maps.store.MapStateStateStore.kept_key.Goals as goal
 

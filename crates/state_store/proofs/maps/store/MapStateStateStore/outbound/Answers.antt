@@ -1,9 +1,5 @@
 use Rattle.std.proofs.Common.{◌≡◌, ◌∙◌, ap, rules}
-use Rattle.std.specs.BTreeMap.{get}
-use Rattle.shipment_machine.specs.Cargo.{Cargo}
-use Rattle.shipment_machine.specs.Flights.{same_flight_date}
-use Rattle.state_store.specs.FlightKey.{by_key}
-use Rattle.state_store.specs.declared.flight_key.FlightKey.{FlightKey}
+use Rattle.state_store.proofs.Common.{get, Cargo, same_flight_date, by_key, FlightKey}
 use Rattle.state_store.proofs.Keyed.{found_by}
 use Rattle.state_store.proofs.Surviving.{cargo_is, reads_so}
 use Rattle.state_store.proofs.Tied.{by_flight_keyed}

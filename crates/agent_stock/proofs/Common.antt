@@ -1,0 +1,12 @@
+-- The names that proofs of this crate cite, passed on from one place. Declares nothing.
+pub use Rattle.agent_stock.specs.Code.{is_agent_code}
+pub use Rattle.agent_stock.specs.Plain.{holders_of}
+pub use Rattle.agent_stock.specs.Runs.{AreApart, AreRuns, AreStockRuns, GoesOn, IsMaximalRun, IsNoneFrom, IsRunRow, StandFrom, end_of, holders_by, with_run}
+pub use Rattle.agent_stock.specs.Stock.{Holders, after_order, is_among, is_run, lowest_failing, order_refusal, passes}
+pub use Rattle.agent_stock.specs.declared.runs.StockRun.{StockRun}
+pub use Rattle.agent_stock.specs.declared.stock.Holder.{Holder}
+pub use Rattle.awb_number.specs.Number.{IsNumber, prefix_of, serial_of}
+pub use Rattle.std.proofs.lemmas.Bool.Decides.{nat_tests}
+pub use Rattle.std.specs.List.{AllByRecursion, find, list_all, list_any, range_with_len}
+pub use Rattle.std.specs.Ordering.{is_eq, nat_cmp}
+pub use Rattle.std.specs.Prelude.{IsSome, IsTrue, codes, is_some, map, nat_eq}

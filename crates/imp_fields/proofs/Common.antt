@@ -1,0 +1,30 @@
+-- The names that proofs of this crate cite, passed on from one place. Declares nothing.
+pub use Rattle.awb_number.proofs.Padded.{decimal_value-last, decimal_value-padded, digits-padded, is_digit_bounds, is_digit_from, length-padded}
+pub use Rattle.awb_number.specs.Digits.{decimal_value, is_digit, is_letter, is_letter_or_digit, padded}
+pub use Rattle.awb_number.specs.Number.{IsNumber, has_number_shape, key_of, number_of}
+pub use Rattle.imp_fields.specs.Airport.{airport_of, is_airport}
+pub use Rattle.imp_fields.specs.Amount.{IsPieces, IsTenths, book_weight_of, count_of, denominator_of, is_digit_or_point, is_weight_numeral, numerator_of, rounded_tenths, share_of, tenths_of}
+pub use Rattle.imp_fields.specs.Characters.{NoneInFront, before_last_while, drop_while, fields, is_blank, is_line, is_point, is_printable, is_slash, last_while}
+pub use Rattle.imp_fields.specs.Consignment.{Shipment, WrittenLine, consignment_by, consignment_of, consignment_text, goods_part, goods_text, has_consignment_shape, quantity_part, shipment_written}
+pub use Rattle.imp_fields.specs.Flight.{Designator, IsDesignator, flight_of, flight_text, is_carrier, same_flight, same_letter, suffix_of, suffix_text}
+pub use Rattle.imp_fields.specs.Message.{err_of, fault_in, is_head, sent_text, unless_true}
+pub use Rattle.imp_fields.specs.Name.{ends_in_blank, is_goods, is_name, kept_goods, trimmed}
+pub use Rattle.imp_fields.specs.NormalText.{BeginLines, IsFaultOf, fault_at, fault_of, first_fault, first_kind, from_line, from_message_line, is_empty, is_message_line, is_newline, kind_of, line_fault, line_starts, line_without_end, lines_of, normal_lines, normal_text, starts_from, unless_fault}
+pub use Rattle.imp_fields.specs.Quantity.{AreTenths, IsQuantity, IsTotal, IsWeight, code_letter, code_of, ends_in_t, is_unread, left_in, left_of_weight, quantity_after, quantity_of, quantity_text, total_at_end, total_text, unit_of, weight_at_front, weight_in, weight_text, written_code}
+pub use Rattle.imp_fields.specs.Scan.{AreKept, AreSlicesBefore, IsScanned, IsScannedTo, Sees, pieces_from}
+pub use Rattle.imp_fields.specs.Token.{AreSlices, AreSlicesFrom, IsSlice, is_line_token}
+pub use Rattle.imp_fields.specs.declared.amount.Quantity.{Quantity}
+pub use Rattle.imp_fields.specs.declared.amount.ShipmentCode.{ShipmentCode}
+pub use Rattle.imp_fields.specs.declared.amount.ShipmentCode.TheVariants.{Divided, Multi, Part, Split, Total}
+pub use Rattle.imp_fields.specs.declared.fault.TextFault.{TextFault}
+pub use Rattle.imp_fields.specs.declared.fault.Why.{Why}
+pub use Rattle.imp_fields.specs.declared.token.Token.{Token}
+pub use Rattle.station_days.specs.Steps.{or_else, where_true, ◌>>=◌}
+pub use Rattle.std.proofs.Math.Seq.{get_or-append_seam, take-add}
+pub use Rattle.std.proofs.lemmas.Bool.{and_from, and_left, and_parts, and_right, cases_Bool, cases_cond, cases_lt, cond-false, cond-true, cond_both, eq-eqb, eqb-true, le-leb, le-ltb, leb-true, lt-leb, lt-ltb, ltb-true, ne_eqb, not-true, not_from_false, not_from_true, or_left, or_right}
+pub use Rattle.std.proofs.lemmas.List.{drop-append-le, drop-drop, drop-take, drop_all, drop_at, get_or-append-add, get_or-drop, get_or-reverse, get_or-take, length-append, length-drop, length-map, length-reverse, length-take, length-take-le, map-append, reverse-append, take-append-drop, take-append-le, take-map, take-take, take_all, take_at, take_more}
+pub use Rattle.std.proofs.lemmas.List.Folds.{length-prefix_len, list_all-append, list_all-map, prefix_len-append}
+pub use Rattle.std.proofs.lemmas.List.Sums.{AllPass-from_list_all, list_all-from_AllPass, prefix_len-le-length, prefix_len_passes, prefix_len_stops, suffix_len-le-length, sum_by-append}
+pub use Rattle.std.proofs.lemmas.Option.{cond_some}
+pub use Rattle.std.specs.List.{AllByRecursion, after_first, before_first, join_with_byte, list_all, onto_first, position_or_len, prefix_len, slice_split, suffix_len}
+pub use Rattle.std.specs.Prelude.{Err, IfSome, IsTrue, Ok, Result, codes, count_by, decimal, filter, is_some, min, nat_le, nat_lt, not, position, replicate, reverse, slice_index, slice_range, take_while, ◌%◌, ◌&&◌, ◌/◌, ◌==◌}

@@ -1,0 +1,26 @@
+-- The names that proofs of this crate cite, passed on from one place. Declares nothing.
+pub use Rattle.desk_commands.specs.Command.{IsDeskCommand, command_text}
+pub use Rattle.shipment_machine.specs.declared.plans.Refusal.{Refusal}
+pub use Rattle.station_core.specs.Ranges.{AreInputs, IsContent, IsInboundLine, IsInput}
+pub use Rattle.station_core.specs.Readers.{AreExpectations, asked_of, asks_for, book_by, book_rows, by_expectation, by_flight, expected_for, irregular_rows, pending_messages, shed_rows, trail_by, waybill_of}
+pub use Rattle.station_core.specs.Step.{Acted, IsLawfulState, State, Stepped, accepted, acted, after_all, answered, answers_of, cargo_acted, first_time, has_room, keeping_text, kept_with, key_answer, opening, refused, repeated, sent, shipment_of, step, stepped, stock_acted, text_answer, with_notices}
+pub use Rattle.station_core.specs.Texts.{refusal_text, reply_text, texts_in}
+pub use Rattle.station_core.specs.declared.answer.Answer.{Answer}
+pub use Rattle.station_core.specs.declared.answer.Answer.TheVariants.{Done, Refused}
+pub use Rattle.station_core.specs.declared.input.Input.{Input}
+pub use Rattle.station_core.specs.declared.input.Input.TheVariants.{Keyed, Wire}
+pub use Rattle.station_core.specs.declared.rows.Expectation.{Expectation}
+pub use Rattle.station_days.specs.Date.{LocalMinute}
+pub use Rattle.std.proofs.lemmas.Bool.Decides.{nat_tests}
+pub use Rattle.std.proofs.lemmas.List.{length-append, length-drop, length-take-le, map_more, take_all, take_more}
+pub use Rattle.std.specs.Bool.{if◌then◌else◌}
+pub use Rattle.std.specs.List.{AllByRecursion, filter, find, flat_map, list_all, list_any}
+pub use Rattle.std.specs.Prelude.{IsTrue, codes, is_some, map, not, ⊤, ◌&&◌, ◌==◌}
+pub use Rattle.std.specs.Str.{IsAscii, bytes_eq}
+pub use Rattle.telegrams.specs.NoticeText.{notice_text}
+pub use denote.RattleType.{RattleType, Valss, owns}
+pub use denote.Steps.{nothing}
+pub use mir.Val.{Val, vnil, vptr, vstruct}
+pub use seplogic.Ra.Ura.{Ura}
+pub use types.Kit.{ !, Goal, Item, Step, done, drop, feq_i, feq_l, fjoin, fpack, fsplit, keep, move, prop, qed, raw, regoal, split, suffices, ‵, ◌$◌, ◌∵◌, ◌⊛◌}
+pub use types.Logic.{Logic}

@@ -1,0 +1,11 @@
+-- The names that proofs of this crate cite, passed on from one place. Declares nothing.
+pub use Rattle.shipment_machine.specs.Agreement.{StaysLawful, outcome_of}
+pub use Rattle.shipment_machine.specs.Cargo.{Cargo, written, written_all}
+pub use Rattle.shipment_machine.specs.Effect.{Outcome, carried_out, effect}
+pub use Rattle.state_store.specs.Store.{Changes, StaysAtRest, Storing, Survives, at_rest, inside}
+pub use Rattle.station_core.specs.Step.{Acted, IsLawfulState, State, Stepped, accepted, acted, answered, cargo_acted, first_time, has_room, keeping_text, kept_with, refused, repeated, sent, shipment_of, step, stepped, stock_acted, waybill_or_nothing, with_notices}
+pub use Rattle.station_core.specs.Texts.{texts_in}
+pub use Rattle.station_core.specs.Told.{sizes_of, with_messages, with_moves, with_order}
+pub use Rattle.station_engine.specs.Written.{with_changes, with_plan}
+pub use Rattle.std.proofs.lemmas.List.{length-append, length-map, take_more}
+pub use Rattle.std.specs.Prelude.{IfErr, None, OnErr, OnOk, Option, Some, nat_le, ◌&&◌, ◌⊎◌}
