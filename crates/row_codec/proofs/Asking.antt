@@ -1,21 +1,14 @@
 -- What is asked of the tables is what is asked of a station.
 use Rattle.std.proofs.Common.{◌≡◌, ℕ, ◌-◌, ℤ, pos, sym, ap, ◌∙◌, map, filter}
-use Rattle.std.specs.Prelude.{IsTrue, string_bytes}
+use Rattle.row_codec.proofs.Common.{IsTrue, string_bytes, flight_text, FlightDate, book_by, trail_by, is_move_after, is_flown, is_of, is_line_after, is_line_of, is_designator, trail_row_by, book_row_by}
 use Rattle.std.specs.declared.alloc.Global.{Global}
 use Rattle.std.specs.declared.string.String.{String}
-use Rattle.imp_fields.specs.Flight.{flight_text}
-use Rattle.shipment_machine.specs.declared.flight.FlightDate.{FlightDate}
-use Rattle.station_core.specs.Readers.{book_by, trail_by}
 use Rattle.station_core.specs.declared.rows.BookQuery.{BookQuery}
 use Rattle.station_core.specs.declared.rows.BookQuery.TheVariants as query
 use Rattle.station_core.specs.declared.rows.TrailQuery.{TrailQuery}
 use Rattle.station_core.specs.declared.rows.TrailQuery.TheVariants as trail
-use Rattle.station_rows.specs.Meant.{is_move_after, is_flown, is_of, is_line_after, is_line_of}
 use Rattle.station_rows.specs.declared.moves.MoveQuery.TheVariants as asked
 use Rattle.station_rows.specs.declared.trail.LineQuery.TheVariants as lines
-use Rattle.row_codec.specs.Flights.{is_designator}
-use Rattle.row_codec.specs.Logs.{trail_row_by}
-use Rattle.row_codec.specs.Moves.{book_row_by}
 use Rattle.row_codec.specs.Queries.{AsksMoves, AsksLines}
 use Rattle.row_codec.proofs.Handing.{book_after, book_handed, book_last, book_of, book_on, trail_after, trail_handed, trail_last, trail_of}
 

@@ -1,17 +1,6 @@
 -- The messages up to a number are confirmed in the station's row.
 use Rattle.std.proofs.Common.{◌≡◌, ◌&&◌, ℕ, pos, Bool, true, false, cond, Some, List, [], ◌∷◌, int_eq, refl, sym, ap, ◌∙◌, true≢false}
-use Rattle.std.proofs.lemmas.Bool.{and_parts, and_from}
-use Rattle.sqlite_keyed.specs.Lists.{update_where}
-use Rattle.imp_fields.specs.Airport.{is_airport}
-use Rattle.shipment_machine.specs.Cargo.{written}
-use Rattle.shipment_machine.specs.declared.plans.Change.TheVariants.{Confirm}
-use Rattle.station_core.specs.Step.{State}
-use Rattle.station_core.specs.Told.{on_cargo}
-use Rattle.station_schema.specs.Tables.{Tables, Station, station_id}
-use Rattle.station_rows.specs.Meant.{confirming}
-use Rattle.row_codec.specs.Numbers.{is_count}
-use Rattle.row_codec.specs.Meaning.{meaning_of, airport_in, confirmed_in, is_station, Means}
-use Rattle.row_codec.proofs.Readable.{readable_stations}
+use Rattle.row_codec.proofs.Common.{and_parts, and_from, update_where, is_airport, written, Confirm, State, on_cargo, Tables, Station, station_id, confirming, is_count, meaning_of, airport_in, confirmed_in, is_station, Means}
 
 module _ (upto : ℕ) where
   abbrev confirmed : List Station → List Station
@@ -43,6 +32,6 @@ module _ (upto : ℕ) where
   pub confirms : (t : Tables) (s : State) (text : List ℕ) → is_count (pos upto) ≡ true → Means t (Some s) → Means (confirming (pos upto) t) (Some (on_cargo (written text (Confirm upto)) s))
   confirms t s text counts means =
       let c = is_confirmed t.stations counts means.0.station in (
-        readable_stations t means.0 (confirmed t.stations) c.fits,
+        assumption (c, means),
         (λ i. record (meaning_of t) { cargo = record (meaning_of t).cargo { here = c.airport i; confirmed = c.upto_is i } }) ∙ ap (on_cargo (written text (Confirm upto))) means.1,
       )

@@ -1,22 +1,9 @@
 -- What is declared of a waybill is written.
 use Rattle.std.proofs.Common.{◌≡◌, ◌==◌, ℕ, ℤ, zero, suc, pos, Bool, true, false, cond, Option, Some, None, option_map, List, int_eq, refl, sym, ap, ◌∙◌, arith}
 use Rattle.std.specs.Bool.{if◌then◌else◌}
-use Rattle.std.proofs.lemmas.Int.{ints}
-use Rattle.sqlite_keyed.specs.Keyed.{get_by, insert_by}
-use Rattle.sqlite_keyed.specs.Lists.{update_where}
-use Rattle.shipment_machine.specs.declared.moves.Declared.{Declared}
-use Rattle.shipment_machine.specs.declared.plans.Change.TheVariants.{Declare}
-use Rattle.shipment_machine.specs.Cargo.{written}
-use Rattle.station_core.specs.Step.{State}
-use Rattle.station_core.specs.Told.{on_cargo}
-use Rattle.station_schema.specs.Tables.{Tables, Waybill, waybill_id}
-use Rattle.station_rows.specs.Meant.{with_waybill, changing_waybill}
-use Rattle.row_codec.specs.Numbers.{flag, is_set}
-use Rattle.row_codec.specs.Waybills.{since_of, since_column, declared_by, waybill_row, declared_in, is_waybill_row}
-use Rattle.row_codec.specs.Meaning.{meaning_of, Means}
+use Rattle.row_codec.proofs.Common.{ints, get_by, insert_by, update_where, Declared, Declare, written, State, on_cargo, Tables, Waybill, waybill_id, with_waybill, changing_waybill, flag, is_set, since_of, since_column, declared_by, waybill_row, declared_in, is_waybill_row, meaning_of, Means}
 use Rattle.row_codec.proofs.Listed.{get_by-insert_by, list_all-insert_by, get_by-update_where, list_all-update_where}
 use Rattle.row_codec.proofs.Fits.{not_zero}
-use Rattle.row_codec.proofs.Readable.{readable_waybills}
 
 pub flag_again : (set : Bool) → is_set (flag set) ≡ set
 flag_again true = refl
@@ -75,14 +62,13 @@ module _ (t : Tables) (w : ℕ) (d : Declared) where
     -- a row that is added
     pub declares : Means (with_waybill (waybill_row w d) t) (Some (on_cargo (written text (Declare w d)) s))
     declares = (
-      readable_waybills t means.0 (insert_by waybill_id t.waybills (waybill_row w d)) (list_all-insert_by waybill_id is_waybill_row t.waybills (waybill_row w d) fits means.0.waybills),
+      assumption (list_all-insert_by waybill_id is_waybill_row t.waybills (waybill_row w d) fits means.0.waybills, means),
       (λ i. record (meaning_of t) { cargo = record (meaning_of t).cargo { declared = λ q. inserted q i } }) ∙ ap (on_cargo (written text (Declare w d))) means.1,
     )
 
     -- a row that is there
     pub declares_again : (was : Waybill) → get_by waybill_id t.waybills (pos w) ≡ Some was → Means (changing_waybill (waybill_row w d) t) (Some (on_cargo (written text (Declare w d)) s))
     declares_again was has = (
-      readable_waybills t means.0 (update_where (λ x. int_eq (waybill_id x) (pos w)) changed t.waybills)
-          (list_all-update_where is_waybill_row (λ x. int_eq (waybill_id x) (pos w)) changed (λ x e. ap is_waybill_row (sym (same_row x e)) ∙ fits) t.waybills means.0.waybills),
+      assumption (list_all-update_where is_waybill_row (λ x. int_eq (waybill_id x) (pos w)) changed (λ x e. ap is_waybill_row (sym (same_row x e)) ∙ fits) t.waybills means.0.waybills, means),
       (λ i. record (meaning_of t) { cargo = record (meaning_of t).cargo { declared = λ q. updated was has q i } }) ∙ ap (on_cargo (written text (Declare w d))) means.1,
     )

@@ -1,21 +1,11 @@
 -- A row is read exactly where each of its columns is within range.
 use Rattle.std.proofs.Common.{◌≡◌, ℕ, ℤ, ◌<◌, ◌≤◌, pos, Bool, true, false, ◌&&◌, is_some, List, string_bytes, refl, sym, ap, ◌∙◌, arith}
-use Rattle.std.specs.Prelude.{◌↔◌, IsTrue, int_le}
-use Rattle.std.specs.Str.{is_utf8}
+use Rattle.row_codec.proofs.Common.{◌↔◌, IsTrue, int_le, is_utf8, and_parts, and_from, ints, is_airport, is_key, Flight, FlightKey, Expected, ExpectedKey, Kept, is_within, is_count, is_day, is_flag, is_number, is_flight_key, is_flight_row, is_expected_key, is_expected_row, is_kept_row}
 use Rattle.std.specs.declared.alloc.Global.{Global}
 use Rattle.std.specs.declared.string.String.{String}
-use Rattle.std.proofs.lemmas.Bool.{and_parts, and_from}
-use Rattle.std.proofs.lemmas.Int.{ints}
 use Rattle.std.proofs.lemmas.Str.{is_utf8-from_IsUtf8, IsUtf8-string_bytes}
-use Rattle.imp_fields.specs.Airport.{is_airport}
 use Rattle.station_days.specs.Date.{IsMomentDay}
 use Rattle.station_days.specs.Steps.{where_true}
-use Rattle.station_core.specs.Key.{is_key}
-use Rattle.station_schema.specs.Tables.{Flight, FlightKey, Expected, ExpectedKey, Kept}
-use Rattle.row_codec.specs.Numbers.{is_within, is_count, is_day, is_flag, is_number}
-use Rattle.row_codec.specs.Flights.{is_flight_key, is_flight_row}
-use Rattle.row_codec.specs.Manifests.{is_expected_key, is_expected_row}
-use Rattle.row_codec.specs.Replies.{is_kept_row}
 
 -- ---- one column
 
@@ -93,22 +83,15 @@ serials_within low h = and_parts (int_le (pos 0) low) (int_le low (pos 9_999_999
 -- what is tested of a row, by its parts
 pub no_number : (a b c d e : Bool) → false ≡ (a && b) → false ≡ (a && b && c && d && e)
 no_number true true c d e h = absurd (cc)
-no_number true false c d e h = refl
-no_number false b c d e h = refl
+no_number _ _ c d e h = refl
 
 pub no_count : (a b c d e : Bool) → false ≡ (c && d) → false ≡ (a && b && c && d && e)
 no_count true true true true e h = absurd (cc)
-no_count true true true false e h = refl
-no_count true true false d e h = refl
-no_count true false c d e h = refl
-no_count false b c d e h = refl
+no_count _ _ _ _ e h = refl
 
 pub no_holder : (a b c d e : Bool) → false ≡ e → false ≡ (a && b && c && d && e)
 no_holder true true true true e h = h
-no_holder true true true false e h = refl
-no_holder true true false d e h = refl
-no_holder true false c d e h = refl
-no_holder false b c d e h = refl
+no_holder _ _ _ _ e h = refl
 
 pub all_tests : (a b c d e : Bool) → true ≡ (a && b) → true ≡ (c && d) → true ≡ e → true ≡ (a && b && c && d && e)
 all_tests a b c d e h k l =

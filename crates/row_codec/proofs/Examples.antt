@@ -1,13 +1,6 @@
 -- Worked examples of moves and running counts, computed.
 use Rattle.std.proofs.Common.{◌≡◌, ℕ, pos, negsuc, List, [], ◌∷◌, Option, Some, None, refl}
-use Rattle.std.specs.Prelude.{codes}
-use Rattle.shipment_machine.specs.declared.flight.FlightDate.{FlightDate}
-use Rattle.shipment_machine.specs.declared.moves.Move.{Move}
-use Rattle.shipment_machine.specs.declared.moves.Place.{Place}
-use Rattle.shipment_machine.specs.declared.moves.Place.TheVariants.{Hand, Surplus, Free, Built, Departed, Delivered, Missing}
-use Rattle.station_schema.specs.Tables.{Count}
-use Rattle.row_codec.specs.Moves.{move_by, move_row}
-use Rattle.row_codec.specs.Counts.{counted, built_up}
+use Rattle.row_codec.proofs.Common.{codes, FlightDate, Move, Place, Hand, Surplus, Free, Built, Departed, Delivered, Missing, Count, move_by, move_row, count_in, build_in, running}
 
 abbrev lh400 : FlightDate
 lh400 = record { flight = record { carrier = codes "LH"; number = 400; suffix = None }; day = 19_000 }
@@ -23,7 +16,7 @@ abbrev book : List Move
 book = moved Hand Free 10 1000 None ∷ moved Free (Built lh400) 4 400 (Some lh400) ∷ moved (Built lh400) Departed 4 400 (Some lh400) ∷ []
 
 abbrev count : ℕ → Option Count
-count place = counted book (pos number, pos place)
+count place = count_in (running book) (pos number, pos place)
 
 abbrev built_before : List Move
 built_before = moved Hand Free 10 1000 None ∷ moved Free (Built lh400) 4 400 (Some lh400) ∷ []
@@ -46,13 +39,13 @@ none_missing = refl
 no_code : count 3 ≡ None
 no_code = refl
 
-none_built : built_up book (codes "LH400", (pos 19_000, pos number)) ≡ None
+none_built : build_in (running book) (codes "LH400", (pos 19_000, pos number)) ≡ None
 none_built = refl
 
-four_built : built_up built_before (codes "LH400", (pos 19_000, pos number)) ≡ Some (record { pieces = pos 4; tenths = pos 400 })
+four_built : build_in (running built_before) (codes "LH400", (pos 19_000, pos number)) ≡ Some (record { pieces = pos 4; tenths = pos 400 })
 four_built = refl
 
-no_flight : built_up built_before (codes "LH0400", (pos 19_000, pos number)) ≡ None
+no_flight : build_in (running built_before) (codes "LH0400", (pos 19_000, pos number)) ≡ None
 no_flight = refl
 
 -- the row of a move is read as that move

@@ -1,25 +1,11 @@
 -- Values within range make rows within range.
 use Rattle.std.proofs.Common.{◌≡◌, ℕ, ◌<◌, ◌≤◌, zero, suc, pos, Bool, true, false, Option, Some, None, IfSome, List, IsTrue, refl, sym, arith, true≢false}
-use Rattle.std.specs.Ordering.{int_eq}
-use Rattle.std.specs.Str.{is_utf8}
-use Rattle.std.proofs.lemmas.Bool.{and_from}
-use Rattle.std.proofs.lemmas.Int.{ints}
+use Rattle.row_codec.proofs.Common.{int_eq, is_utf8, and_from, ints, is_airport, IsPieces, IsBookTenths, IsPartNumber, Declared, Outbound, Part, is_within, is_number, is_count, is_day, flag, is_flag, since_column, is_since, waybill_row, is_waybill_row, FlightKey, ExpectedKey, is_designator, outbound_row, is_flight_key, is_flight_row, expected_row, is_expected_key, is_expected_row, part_key, is_part_row, line_row, is_trail_row}
 use Rattle.awb_number.specs.Number.{IsNumber}
-use Rattle.imp_fields.specs.Airport.{is_airport}
-use Rattle.imp_fields.specs.Amount.{IsPieces, IsBookTenths, IsPartNumber}
 use Rattle.imp_fields.specs.Characters.{is_line}
 use Rattle.station_days.specs.Date.{IsMomentDay}
 use Rattle.imp_fields.specs.Name.{is_goods}
-use Rattle.shipment_machine.specs.declared.moves.Declared.{Declared}
-use Rattle.shipment_machine.specs.declared.moves.Outbound.{Outbound}
 use Rattle.shipment_machine.specs.declared.moves.Expected.{Expected}
-use Rattle.shipment_machine.specs.declared.moves.Part.{Part}
-use Rattle.row_codec.specs.Numbers.{is_within, is_number, is_count, is_day, flag, is_flag}
-use Rattle.row_codec.specs.Waybills.{since_column, is_since, waybill_row, is_waybill_row}
-use Rattle.station_schema.specs.Tables.{FlightKey, ExpectedKey}
-use Rattle.row_codec.specs.Flights.{is_designator, outbound_row, is_flight_key, is_flight_row}
-use Rattle.row_codec.specs.Manifests.{expected_row, is_expected_key, is_expected_row, part_key, is_part_row}
-use Rattle.row_codec.specs.Logs.{line_row, is_trail_row}
 use Rattle.row_codec.proofs.FlightKeys.{written_reads}
 
 pub within : (low high n : ℕ) → low ≤ n → n ≤ high → is_within low high (pos n) ≡ true

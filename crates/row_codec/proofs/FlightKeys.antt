@@ -1,24 +1,7 @@
 -- Flights as rows have them: a written designator is read as itself, and keys are one exactly where flights are.
 use Rattle.std.proofs.Common.{◌≡◌, ℕ, ◌==◌, pos, Bool, true, false, ◌&&◌, Option, Some, None, List, int_cmp, int_eq, refl, sym, ap, ap₂, ◌∙◌, true≢false, arith}
-use Rattle.std.specs.Str.{bytes_eq}
-use Rattle.std.specs.Ordering.{eq_by_cmp}
-use Rattle.std.proofs.lemmas.Bool.{and_parts, and_from, leb-true, le-leb, false_from_ne_true}
-use Rattle.std.proofs.lemmas.Int.{ints}
-use Rattle.std.proofs.lemmas.Map.Text.{is_eq-slice_cmp}
-use Rattle.sqlite_keyed.proofs.SortLemmas.{pair_cmp}
-use Rattle.sqlite_typed.specs.Tests.{bytes_cmp}
-use Rattle.imp_fields.specs.Flight.{Designator, IsDesignator, flight_of, flight_text, same_flight}
+use Rattle.row_codec.proofs.Common.{bytes_eq, eq_by_cmp, and_parts, and_from, leb-true, le-leb, false_from_ne_true, ints, is_eq-slice_cmp, pair_cmp, bytes_cmp, Designator, IsDesignator, flight_of, flight_text, same_flight, bytes_eq-true, bytes_eq-refl, one_by_fields, same_of_one, one_by_text, same_flight_date, same_part, FlightDate, Part, same-is, pair_eq, int_tied, flight_cmp, expected_cmp, part_cmp, is_designator, is_flight_text, is_written, flight_key, expected_key, part_key}
 use Rattle.imp_fields.proofs.FieldLaws.{flight_again}
-use Rattle.imp_fields.proofs.SameFlight.{bytes_eq-true, bytes_eq-refl, one_by_fields, same_of_one, one_by_text}
-use Rattle.shipment_machine.specs.Flights.{same_flight_date}
-use Rattle.shipment_machine.specs.Cargo.{same_part}
-use Rattle.shipment_machine.specs.declared.flight.FlightDate.{FlightDate}
-use Rattle.shipment_machine.specs.declared.moves.Part.{Part}
-use Rattle.shipment_machine.proofs.FlightKeys.{same-is}
-use Rattle.station_schema.proofs.OneRow.{pair_eq, int_tied}
-use Rattle.station_schema.specs.Tables.{flight_cmp, expected_cmp, part_cmp}
-use Rattle.row_codec.specs.Flights.{is_designator, is_flight_text, is_written, flight_key}
-use Rattle.row_codec.specs.Manifests.{expected_key, part_key}
 
 -- ---- the test of a designator
 

@@ -1,25 +1,11 @@
 -- The rows of a flight are the moves of the flight.
 use Rattle.std.proofs.Common.{◌≡◌, ℕ, ◌==◌, ◌&&◌, ◌||◌, ℤ, pos, negsuc, Bool, true, false, if◌then◌else◌, Option, Some, None, List, [], ◌∷◌, length, is_some, refl, sym, ap, ap₂, subst, ◌∙◌, true≢false, arith}
-use Rattle.std.specs.Ordering.{int_eq, eq_by_cmp}
+use Rattle.row_codec.proofs.Common.{int_eq, eq_by_cmp, ints, bytes_cmp, is_eq-slice_cmp, and_parts, false_from_ne_true, bytes_eq-true, flight_text, FlightDate, Hand, Surplus, Free, Built, Departed, Delivered, Missing, Transferred, is_named, is_of_flight, is_flown, texts_total, natural, is_day, is_number, is_within, flight_date_of, is_designator, is_flight_text, are_flight_columns, is_move_row, move_by, place_of, plain_place}
 use Rattle.std.specs.Option.{unwrap_or}
-use Rattle.std.proofs.lemmas.Int.{ints}
-use Rattle.sqlite_typed.specs.Tests.{bytes_cmp}
 use Rattle.sqlite_typed.proofs.TestLemmas.{turn_eq}
-use Rattle.std.proofs.lemmas.Map.Text.{is_eq-slice_cmp}
-use Rattle.std.proofs.lemmas.Bool.{and_parts, false_from_ne_true}
 use Rattle.std.specs.Option.{option_map}
-use Rattle.imp_fields.proofs.SameFlight.{bytes_eq-true}
-use Rattle.imp_fields.specs.Flight.{flight_text}
 use Rattle.shipment_machine.specs.Places.{same_place}
-use Rattle.shipment_machine.specs.declared.flight.FlightDate.{FlightDate}
-use Rattle.shipment_machine.specs.declared.moves.Place.TheVariants.{Hand, Surplus, Free, Built, Departed, Delivered, Missing, Transferred}
-use Rattle.station_core.specs.Readers.{is_named, is_of_flight}
-use Rattle.station_rows.specs.Meant.{is_flown}
-use Rattle.station_schema.proofs.OneRow.{texts_total}
 use Rattle.station_schema.specs.Tables.{Move}
-use Rattle.row_codec.specs.Numbers.{natural, is_day, is_number, is_within}
-use Rattle.row_codec.specs.Flights.{flight_date_of, is_designator, is_flight_text}
-use Rattle.row_codec.specs.Moves.{are_flight_columns, is_move_row, move_by, place_of, plain_place}
 use Rattle.row_codec.proofs.FlightKeys.{read_again, tied_text}
 use Rattle.row_codec.proofs.Noted.{flight_of_row}
 
@@ -27,14 +13,8 @@ use Rattle.row_codec.proofs.Noted.{flight_of_row}
 unbuilt : (f : FlightDate) (a b c d e g h : Bool)
     → same_place (Built f) (unwrap_or (if a then Some Hand else if b then Some Surplus else if c then Some Free else if d then Some Departed else if e then Some Delivered
     else if g then Some Missing else if h then Some Transferred else None) Hand) ≡ false
-unbuilt f true b c d e g h = refl
-unbuilt f false true c d e g h = refl
-unbuilt f false false true d e g h = refl
-unbuilt f false false false true e g h = refl
-unbuilt f false false false false true g h = refl
-unbuilt f false false false false false true h = refl
-unbuilt f false false false false false false true = refl
 unbuilt f false false false false false false false = refl
+unbuilt f _ _ _ _ _ _ _ = refl
 
 -- the place of a code is built for a flight only if the columns name the flight
 built_for : (f : FlightDate) (code : ℤ) (o : Option FlightDate) → same_place (Built f) (unwrap_or (place_of code o) Hand) ≡ (int_eq code (pos 3) && is_named f o)
@@ -46,11 +26,10 @@ built_for f code o = go (int_eq code (pos 3)) o
     go false o = unbuilt f _ _ _ _ _ _ _
 
 either : (a b x : Bool) → (a && x || b && x || x) ≡ x
-either true true true = refl
-either true true false = refl
-either true false true = refl
-either true false false = refl
+either true b true = refl
 either false true true = refl
+either true true false = refl
+either true false false = refl
 either false true false = refl
 either false false true = refl
 either false false false = refl
@@ -71,11 +50,7 @@ flight_columns row h =
     sixth : (a b c d e f g i : Bool) → (a && b && c && d && e && f && g && i) ≡ true → f ≡ true
     sixth a b c d e true g i k = refl
     sixth true true true true true false g i k = cc
-    sixth true true true true false false g i k = cc
-    sixth true true true false e false g i k = cc
-    sixth true true false d e false g i k = cc
-    sixth true false c d e false g i k = cc
-    sixth false b c d e false g i k = cc
+    sixth _ _ _ _ _ false g i k = cc
 
 natural_day : (day : ℤ) → is_day day ≡ true → day ≡ pos (natural day)
 natural_day (pos n) h = refl

@@ -1,9 +1,6 @@
 -- A map that is read under the keys of values, where only some values have a key.
 use Rattle.std.proofs.Common.{◌≡◌, Bool, true, false, cond, Option, Some, option_map, unwrap_or, refl, sym, ap, ◌∙◌, true≢false, Ordering}
-use Rattle.std.specs.Cmp.{IsTotalOrder}
-use Rattle.std.specs.Ordering.{eq_by_cmp}
-use Rattle.std.specs.FinMap.{FinMap, get, insert, get-insert}
-use Rattle.std.proofs.lemmas.Bool.{false_from_ne_true}
+use Rattle.row_codec.proofs.Common.{IsTotalOrder, eq_by_cmp, FinMap, get, insert, get-insert, false_from_ne_true}
 use Rattle.station_schema.specs.ColumnKeys.{adjust}
 
 -- where there is a row, changing it is writing it

@@ -1,22 +1,8 @@
 -- What the rows of the book, of the trail and of the outbox hand out to readers.
 use Rattle.std.proofs.Common.{◌≡◌, ℕ, zero, suc, ◌+◌, ◌-◌, ◌<◌, ◌≤◌, ◌==◌, ◌&&◌, ℤ, pos, negsuc, Bool, true, false, cond, Some, List, [], ◌∷◌, map, filter, length, drop, ltb-true, ltb-false, refl, sym, ap, ap₂, subst, ◌∙◌, arith}
-use Rattle.std.specs.Prelude.{int_lt, nat_lt, IsTrue}
-use Rattle.std.specs.List.{list_all, range_with_len}
-use Rattle.std.specs.Ordering.{int_eq}
-use Rattle.std.proofs.lemmas.Int.{ints}
-use Rattle.std.proofs.lemmas.List.{drop-map}
-use Rattle.imp_fields.specs.Flight.{flight_text}
-use Rattle.shipment_machine.specs.declared.flight.FlightDate.{FlightDate}
-use Rattle.station_core.specs.Readers.{numbered, book_row, book_rows, last_of, is_of_flight, message, messages_after, trail_row, trail_rows}
-use Rattle.station_core.specs.Step.{State}
-use Rattle.station_rows.specs.Meant.{is_move_after, is_flown, is_of, is_message_after, is_line_after, is_line_of}
+use Rattle.row_codec.proofs.Common.{int_lt, nat_lt, IsTrue, list_all, range_with_len, int_eq, ints, drop-map, flight_text, FlightDate, numbered, book_row, book_rows, last_of, is_of_flight, message, messages_after, trail_row, trail_rows, State, is_move_after, is_flown, is_of, is_message_after, is_line_after, is_line_of, Tables, move_id, trail_id, Message, message_id, natural, is_number, book_row_by, is_move_row, move_by, is_trail_row, line_by, trail_row_by, Means, is_designator}
 use Rattle.station_core.specs.declared.rows.Message as reader
-use Rattle.station_schema.specs.Tables.{Tables, Move, move_id, trail_id, Message, message_id}
-use Rattle.row_codec.specs.Numbers.{natural, is_number}
-use Rattle.row_codec.specs.Moves.{book_row_by, is_move_row, move_by}
-use Rattle.row_codec.specs.Logs.{is_trail_row, line_by, trail_row_by}
-use Rattle.row_codec.specs.Meaning.{Means}
-use Rattle.row_codec.specs.Flights.{is_designator}
+use Rattle.station_schema.specs.Tables.{Move}
 use Rattle.row_codec.proofs.Listed.{head_is, tail_is}
 use Rattle.row_codec.proofs.Flown.{flown_moves}
 use Rattle.row_codec.proofs.Telling.{book_told, trail_told, outbox_told}

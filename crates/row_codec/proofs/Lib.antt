@@ -1,10 +1,10 @@
+pub mod Common
 pub mod MapLaws
 pub mod Listed
 pub mod Guarded
 pub mod FlightKeys
 pub mod Fits
 pub mod MoveRows
-pub mod Readable
 pub mod Declaring
 pub mod Noting
 pub mod Keeping
@@ -20,3 +20,16 @@ pub mod Reading
 pub mod Written
 pub mod Exact
 mod Examples
+pub mod Tests
+pub mod Storing
+pub mod Codes
+pub mod TotalsWritten
+pub mod Moved
+pub mod TotalsKept
+pub mod Found
+pub mod Amounts
+pub mod Stores
+pub mod KnownLaws
+pub mod FlightRows
+pub mod Loads
+pub mod EachWaybill

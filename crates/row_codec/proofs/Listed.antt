@@ -1,12 +1,6 @@
 -- Rows under a number each: what is found after one is written or changed, and rows that are numbered from 1.
 use Rattle.std.proofs.Common.{◌≡◌, ℕ, suc, ◌+◌, ◌≤◌, ℤ, pos, Bool, true, false, cond, ◌&&◌, Some, option_map, List, [], ◌∷◌, ◌++◌, map, length, int_cmp, int_eq, Ordering, Less, Equal, Greater, refl, sym, ap, ap₂, subst, ◌∙◌, arith}
-use Rattle.std.specs.Ordering.{match_ordering}
-use Rattle.std.specs.List.{list_all, range_with_len}
-use Rattle.std.proofs.lemmas.Bool.{and_parts}
-use Rattle.std.proofs.lemmas.Int.{ints}
-use Rattle.sqlite_keyed.specs.Keyed.{get_by, insert_by}
-use Rattle.sqlite_keyed.specs.Lists.{update_where}
-use Rattle.row_codec.specs.Numbers.{AreNumbered}
+use Rattle.row_codec.proofs.Common.{match_ordering, list_all, range_with_len, and_parts, ints, get_by, insert_by, update_where, AreNumbered}
 
 turned : (a id q : ℤ) → int_eq a q ≡ true → int_eq a id ≡ int_eq id q
 turned a id q e = grind (arith, ints)

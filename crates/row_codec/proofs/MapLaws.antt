@@ -1,15 +1,9 @@
 -- What holds of each entry of a map holds at each key, and the other way round.
 use Rattle.std.proofs.Common.{◌≡◌, List, [], ◌∷◌, Bool, true, false, cond, Some, is_eq, refl, sym, ap, ap₂, subst, ◌∙◌, Ordering, Less, Equal, Greater}
-use Rattle.std.specs.Prelude.{◌&&◌}
-use Rattle.std.specs.List.{AllByRecursion, list_all}
-use Rattle.std.specs.Cmp.{IsTotalOrder, eq_by_cmp_equiv, tied_itself}
-use Rattle.std.specs.Ordering.{eq_by_cmp}
-use Rattle.std.specs.FinMap.{FinMap, IsAntisymmetric, find, entries, get, insert, get-insert, get-entries}
-use Rattle.sqlite.specs.Tree.{IsAscending}
-use Rattle.sqlite_keyed.proofs.ListLemmas.{all_weaker, all_both}
-use Rattle.station_schema.proofs.Maps.{entries_rise}
+use Rattle.row_codec.proofs.Common.{◌&&◌, AllByRecursion, list_all, IsTotalOrder, eq_by_cmp_equiv, tied_itself, eq_by_cmp, FinMap, IsAntisymmetric, entries, get, insert, get-insert, get-entries, IsAscending, all_weaker, all_both, entries_rise}
+use Rattle.std.specs.FinMap.{find}
 
-is_tied : (o : Ordering) → is_eq o ≡ true → o ≡ Equal
+pub is_tied : (o : Ordering) → is_eq o ≡ true → o ≡ Equal
 is_tied Less h = absurd (cc)
 is_tied Equal h = refl
 is_tied Greater h = absurd (cc)
@@ -36,18 +30,7 @@ all_pass p (x ∷ xs) h = rw h.0 (all_pass p xs h.1)
 pub key_is : {K : Type 0} (R : K → K → Ordering) → IsAntisymmetric R → (q k : K) → eq_by_cmp R q k ≡ true → q ≡ k
 key_is R same q k tied = same q k (is_tied _ tied)
 
-module _ {K V : Type 0} (R : K → K → Ordering) (total : IsTotalOrder R) (same : IsAntisymmetric R) where
-  found_in : (P : K × V → Type 0) (q : K) (v : V) (es : List (K × V)) → AllByRecursion P es → find R q es ≡ Some v → P (q, v)
-  found_in P q v [] all is = absurd (cc)
-  found_in P q v (e ∷ es) all is = go (eq_by_cmp R q e.0) refl is (found_in P q v es all.1)
-    where
-      go : (b : Bool) → eq_by_cmp R q e.0 ≡ b → cond b (Some e.1) (find R q es) ≡ Some v → (find R q es ≡ Some v → P (q, v)) → P (q, v)
-      go true tied has more = let value : e.1 ≡ v = cc in subst P (ap₂ (λ a b. (a, b)) (sym (same q e.0 (is_tied _ tied))) value) all.0
-      go false tied has more = more has
-
-  pub at_key : (P : K × V → Type 0) (m : FinMap R V) → AllByRecursion P (entries m) → (q : K) (v : V) → get m q ≡ Some v → P (q, v)
-  at_key P m all q v has = found_in P q v (entries m) all (sym (get-entries m q) ∙ has)
-
+module _ {K V : Type 0} (R : K → K → Ordering) (total : IsTotalOrder R) where
   each_found : (es : List (K × V)) → IsAscending (λ a b. R a.0 b.0 ≡ Less) es → AllByRecursion (λ e. find R e.0 es ≡ Some e.1) es
   each_found [] up = tt
   each_found (e ∷ es) up = (
@@ -59,10 +42,22 @@ module _ {K V : Type 0} (R : K → K → Ordering) (total : IsTotalOrder R) (sam
   pub each_entry : (P : K × V → Type 0) (m : FinMap R V) → ((q : K) (v : V) → get m q ≡ Some v → P (q, v)) → AllByRecursion P (entries m)
   each_entry P m h = all_weaker _ P (λ e is. h e.0 e.1 (get-entries m e.0 ∙ is)) (entries m) (each_found (entries m) (entries_rise R total m))
 
-  -- a test that each entry passes
-  pub all-insert : (p : K × V → Bool) (m : FinMap R V) (k : K) (v : V) → list_all p (entries m) ≡ true → p (k, v) ≡ true → list_all p (entries (insert m k v)) ≡ true
-  all-insert p m k v all new = all_pass p (entries (insert m k v)) (each_entry (λ e. p e ≡ true) (insert m k v) (λ q w has. go q w (eq_by_cmp R q k) refl (sym (get-insert total m k v q) ∙ has)))
-    where
-      go : (q : K) (w : V) (b : Bool) → eq_by_cmp R q k ≡ b → cond b (Some v) (get m q) ≡ Some w → p (q, w) ≡ true
-      go q w true tied has = let value : v ≡ w = cc in ap₂ (λ a b. p (a, b)) (key_is R same q k tied) (sym value) ∙ new
-      go q w false tied has = at_key (λ e. p e ≡ true) m (each_passes p (entries m) all) q w has
+  module _ (same : IsAntisymmetric R) where
+    found_in : (P : K × V → Type 0) (q : K) (v : V) (es : List (K × V)) → AllByRecursion P es → find R q es ≡ Some v → P (q, v)
+    found_in P q v [] all is = absurd (cc)
+    found_in P q v (e ∷ es) all is = go (eq_by_cmp R q e.0) refl is (found_in P q v es all.1)
+      where
+        go : (b : Bool) → eq_by_cmp R q e.0 ≡ b → cond b (Some e.1) (find R q es) ≡ Some v → (find R q es ≡ Some v → P (q, v)) → P (q, v)
+        go true tied has more = let value : e.1 ≡ v = cc in subst P (ap₂ (λ a b. (a, b)) (sym (same q e.0 (is_tied _ tied))) value) all.0
+        go false tied has more = more has
+
+    pub at_key : (P : K × V → Type 0) (m : FinMap R V) → AllByRecursion P (entries m) → (q : K) (v : V) → get m q ≡ Some v → P (q, v)
+    at_key P m all q v has = found_in P q v (entries m) all (sym (get-entries m q) ∙ has)
+
+    -- a test that each entry passes
+    pub all-insert : (p : K × V → Bool) (m : FinMap R V) (k : K) (v : V) → list_all p (entries m) ≡ true → p (k, v) ≡ true → list_all p (entries (insert m k v)) ≡ true
+    all-insert p m k v all new = all_pass p (entries (insert m k v)) (each_entry (λ e. p e ≡ true) (insert m k v) (λ q w has. go q w (eq_by_cmp R q k) refl (sym (get-insert total m k v q) ∙ has)))
+      where
+        go : (q : K) (w : V) (b : Bool) → eq_by_cmp R q k ≡ b → cond b (Some v) (get m q) ≡ Some w → p (q, w) ≡ true
+        go q w true tied has = let value : v ≡ w = cc in ap₂ (λ a b. p (a, b)) (key_is R same q k tied) (sym value) ∙ new
+        go q w false tied has = at_key (λ e. p e ≡ true) m (each_passes p (entries m) all) q w has

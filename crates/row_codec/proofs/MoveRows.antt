@@ -1,18 +1,7 @@
 -- The row of a move is within range, and is read as that move.
 use Rattle.std.proofs.Common.{◌≡◌, ℕ, ◌<◌, pos, Bool, true, false, Option, Some, is_some, unwrap_or, option_map, IsTrue, refl, ap, ◌∙◌, arith}
-use Rattle.std.proofs.lemmas.Bool.{and_parts, and_from}
-use Rattle.imp_fields.specs.Amount.{IsPieces, IsBookTenths}
-use Rattle.imp_fields.specs.Flight.{Designator, flight_text}
-use Rattle.shipment_machine.specs.Flights.{same_flight_date}
-use Rattle.shipment_machine.specs.declared.flight.FlightDate.{FlightDate}
-use Rattle.shipment_machine.specs.declared.moves.Move.{Move}
-use Rattle.shipment_machine.specs.declared.moves.Place.{Place}
-use Rattle.shipment_machine.specs.declared.moves.Place.TheVariants.{Hand, Built}
-use Rattle.shipment_machine.proofs.FlightKeys.{same-is}
+use Rattle.row_codec.proofs.Common.{and_parts, and_from, IsPieces, IsBookTenths, Designator, flight_text, same_flight_date, FlightDate, Move, Place, Hand, Built, same-is, natural, is_within, is_number, is_day, is_designator, flight_date_of, place_code, place_of, move_by, move_row, flight_column, day_column, are_flight_columns, is_move_row}
 use Rattle.station_schema.specs.Tables as table
-use Rattle.row_codec.specs.Numbers.{natural, is_within, is_number, is_day}
-use Rattle.row_codec.specs.Flights.{is_designator, flight_date_of}
-use Rattle.row_codec.specs.Moves.{place_code, place_of, move_by, move_row, flight_column, day_column, are_flight_columns, is_move_row}
 use Rattle.row_codec.proofs.FlightKeys.{read_again}
 use Rattle.row_codec.proofs.Fits.{within, pieces_fit, tenths_fit}
 

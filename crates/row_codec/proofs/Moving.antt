@@ -1,12 +1,6 @@
 -- A move is written behind the others, under the next number.
 use Rattle.std.proofs.Common.{◌≡◌, ℕ, ◌+◌, pos, IsTrue, [], ◌∷◌, ◌++◌, length, ap, ◌∙◌}
-use Rattle.std.specs.List.{list_all}
-use Rattle.std.proofs.lemmas.List.{map-append}
-use Rattle.shipment_machine.specs.declared.moves.Move.{Move}
-use Rattle.station_schema.specs.Tables.{Tables, move_id}
-use Rattle.station_rows.specs.Meant.{with_move}
-use Rattle.row_codec.specs.Numbers.{AreNumbered}
-use Rattle.row_codec.specs.Moves.{move_by, move_row, book_in, is_move_row}
+use Rattle.row_codec.proofs.Common.{list_all, map-append, Move, Tables, move_id, with_move, AreNumbered, move_by, move_row, book_in, is_move_row}
 use Rattle.row_codec.proofs.Listed.{list_all-insert_by, next_row, still_numbered}
 
 -- the book has one move more, and its rows are in order

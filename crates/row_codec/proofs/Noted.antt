@@ -1,34 +1,16 @@
 -- What is noted of flights and what they are to bring, as readers are given them: in the order of their rows' keys.
 use Rattle.std.proofs.Common.{◌≡◌, ℕ, ◌<◌, ◌≤◌, length, ℤ, pos, negsuc, Bool, true, false, cond, ◌&&◌, Option, Some, None, option_map, List, [], ◌∷◌, map, take, drop, is_lt, int_cmp, refl, sym, ap, ap₂, subst, ◌∙◌, true≢false, arith, Ordering, Less, Equal, Greater, T}
-use Rattle.std.specs.Prelude.{◌^◌, IfSome, IsTrue, nat_le, take_while}
-use Rattle.std.specs.List.{AllByRecursion, find, list_all}
-use Rattle.std.specs.Ordering.{eq_by_cmp, nat_cmp, ordering_then}
+use Rattle.row_codec.proofs.Common.{◌^◌, IfSome, IsTrue, nat_le, take_while, AllByRecursion, find, list_all, eq_by_cmp, nat_cmp, ordering_then, FinMap, entries, entries_sorted, get, get-entries, is_sorted, and_parts, le-leb, leb-true, ints, count_of, Designator, flight_of, flight_text, is_carrier, suffix_of, bytes_eq-true, same_flight_date, FlightDate, AreExpectations, AreNoted, by_expectation, by_flight, State, Expected, ExpectedKey, Flight, FlightKey, Tables, expected_cmp, flight_cmp, flight_date_of, flight_key, flights_in, is_designator, is_flight_row, is_flight_text, is_written, noted_by, outbound_by, expectation_by, expected_by, expected_in, expected_key, is_expected_row, Means, is_within, natural}
 use Rattle.std.specs.Cmp.Lexicographic.{slice_cmp}
-use Rattle.std.specs.FinMap.{FinMap, entries, entries_sorted, get, get-entries, is_sorted}
 use Rattle.std.specs.FinMap as tree
 use Rattle.std.specs.FinMap.Entries.{below_all}
-use Rattle.std.proofs.lemmas.Bool.{and_parts, le-leb, leb-true}
-use Rattle.std.proofs.lemmas.Int.{ints}
 use Rattle.std.proofs.Math.Nat.{pow-le-pow_right}
 use Rattle.awb_number.specs.Digits.{decimal_value, is_digit, is_letter}
 use Rattle.awb_number.proofs.Padded.{decimal_value_bound}
-use Rattle.imp_fields.specs.Amount.{count_of}
 use Rattle.imp_fields.specs.Characters.{drop_while}
-use Rattle.imp_fields.specs.Flight.{Designator, flight_of, flight_text, is_carrier, suffix_of}
 use Rattle.station_days.specs.Steps.{◌>>=◌, where_true}
-use Rattle.imp_fields.proofs.SameFlight.{bytes_eq-true}
-use Rattle.shipment_machine.specs.Flights.{same_flight_date}
-use Rattle.shipment_machine.specs.declared.flight.FlightDate.{FlightDate}
-use Rattle.shipment_machine.specs.declared.moves.Expected as cargo
-use Rattle.station_core.specs.Readers.{AreExpectations, AreNoted, by_expectation, by_flight}
-use Rattle.station_core.specs.Step.{State}
 use Rattle.station_core.specs.declared.rows.Expectation.{Expectation}
 use Rattle.station_core.specs.declared.rows.NotedFlight.{NotedFlight}
-use Rattle.station_schema.specs.Tables.{Expected, ExpectedKey, Flight, FlightKey, Tables, expected_cmp, flight_cmp}
-use Rattle.row_codec.specs.Flights.{flight_date_of, flight_key, flights_in, is_designator, is_flight_row, is_flight_text, is_written, noted_by, outbound_by}
-use Rattle.row_codec.specs.Manifests.{expectation_by, expected_by, expected_in, expected_key, is_expected_row}
-use Rattle.row_codec.specs.Meaning.{Means}
-use Rattle.row_codec.specs.Numbers.{is_within, natural}
 use Rattle.row_codec.proofs.FlightKeys.{designator_test, same_designator, same_expected, same_expected_designator, same_expected_key, same_key}
 use Rattle.row_codec.proofs.MapLaws.{each_passes}
 

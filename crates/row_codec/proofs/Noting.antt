@@ -1,26 +1,11 @@
 -- What is noted of a flight, of what it brings, and of a part of its manifest is written.
 use Rattle.std.proofs.Common.{◌≡◌, ◌==◌, ◌&&◌, ℕ, true, cond, Option, Some, None, option_map, List, sym, ap, subst, ◌∙◌}
-use Rattle.std.specs.FinMap.{FinMap, get, insert}
-use Rattle.shipment_machine.specs.Flights.{same_flight_date}
-use Rattle.shipment_machine.specs.Cargo.{written, same_part}
-use Rattle.shipment_machine.specs.declared.flight.FlightDate.{FlightDate}
-use Rattle.shipment_machine.specs.declared.moves.Outbound.{Outbound}
+use Rattle.row_codec.proofs.Common.{FinMap, get, insert, same_flight_date, written, same_part, FlightDate, Outbound, Part, NoteFlight, Expect, NotePart, State, on_cargo, Tables, Flight, flight_cmp, Expected, expected_cmp, part_cmp, flight_total, flight_same, expected_total, expected_same, part_total, part_same, with_flight, changing_flight, with_expected, changing_expected, with_part, is_designator, flight_key, outbound_by, outbound_row, flights_in, is_flight_row, expected_key, expected_by, expected_row, expected_in, is_expected_row, part_key, parts_in, is_part_row, meaning_of, Means}
 use Rattle.shipment_machine.specs.declared.moves.Expected as cargo
-use Rattle.shipment_machine.specs.declared.moves.Part.{Part}
-use Rattle.shipment_machine.specs.declared.plans.Change.TheVariants.{NoteFlight, Expect, NotePart}
-use Rattle.station_core.specs.Step.{State}
-use Rattle.station_core.specs.Told.{on_cargo}
-use Rattle.station_schema.specs.Tables.{Tables, Flight, flight_cmp, Expected, expected_cmp, part_cmp}
-use Rattle.station_schema.proofs.Keys.{flight_total, flight_same, expected_total, expected_same, part_total, part_same}
-use Rattle.station_rows.specs.Meant.{with_flight, changing_flight, with_expected, changing_expected, with_part}
-use Rattle.row_codec.specs.Flights.{is_designator, flight_key, outbound_by, outbound_row, flights_in, is_flight_row}
-use Rattle.row_codec.specs.Manifests.{expected_key, expected_by, expected_row, expected_in, is_expected_row, part_key, parts_in, is_part_row}
-use Rattle.row_codec.specs.Meaning.{meaning_of, Means}
 use Rattle.row_codec.proofs.Declaring.{flag_again}
 use Rattle.row_codec.proofs.FlightKeys.{same_key, same_designator, same_expected, same_expected_key, same_expected_designator, same_part_key, same_part_designator}
 use Rattle.row_codec.proofs.Guarded.{adjusted, seen-insert}
 use Rattle.row_codec.proofs.MapLaws.{all-insert}
-use Rattle.row_codec.proofs.Readable.{readable_flights, readable_expected, readable_parts}
 
 -- ---- an outbound flight
 
@@ -37,8 +22,7 @@ module _ (t : Tables) (f : FlightDate) (o : Outbound) (is : is_designator f.flig
     -- a row that is added
     pub notes_flight : Means (with_flight (flight_key f) (outbound_row o) t) (Some (on_cargo (written text (NoteFlight f o)) s))
     notes_flight = (
-      readable_flights t means.0 (insert t.flights (flight_key f) (outbound_row o))
-          (all-insert flight_cmp flight_total flight_same is_flight_row t.flights (flight_key f) (outbound_row o) means.0.flights fits),
+      assumption (all-insert flight_cmp flight_total flight_same is_flight_row t.flights (flight_key f) (outbound_row o) means.0.flights fits, means),
       (λ i. record (meaning_of t) { cargo = record (meaning_of t).cargo { flights = λ k. flight_inserted k i } }) ∙ ap (on_cargo (written text (NoteFlight f o))) means.1,
     )
 
@@ -64,8 +48,7 @@ module _ (t : Tables) (f : FlightDate) (w : ℕ) (e : cargo.Expected) (is : is_d
     -- a row that is added
     pub expects : Means (with_expected (expected_key f w) (expected_row e) t) (Some (on_cargo (written text (Expect f w e)) s))
     expects = (
-      readable_expected t means.0 (insert t.expected (expected_key f w) (expected_row e))
-          (all-insert expected_cmp expected_total expected_same is_expected_row t.expected (expected_key f w) (expected_row e) means.0.expected fits),
+      assumption (all-insert expected_cmp expected_total expected_same is_expected_row t.expected (expected_key f w) (expected_row e) means.0.expected fits, means),
       (λ i. record (meaning_of t) { cargo = record (meaning_of t).cargo { expected = λ k q. expected_inserted k q i } }) ∙ ap (on_cargo (written text (Expect f w e))) means.1,
     )
 
@@ -84,6 +67,6 @@ module _ (t : Tables) (p : Part) (telegram : List ℕ) (is : is_designator p.fli
 
   pub notes_part : (s : State) → is_part_row (part_key p, telegram) ≡ true → Means t (Some s) → Means (with_part (part_key p) telegram t) (Some (on_cargo (written telegram (NotePart p)) s))
   notes_part s fits means = (
-    readable_parts t means.0 (insert t.parts (part_key p) telegram) (all-insert part_cmp part_total part_same is_part_row t.parts (part_key p) telegram means.0.parts fits),
+    assumption (all-insert part_cmp part_total part_same is_part_row t.parts (part_key p) telegram means.0.parts fits, means),
     (λ i. record (meaning_of t) { cargo = record (meaning_of t).cargo { parts = λ k. part_inserted k i } }) ∙ ap (on_cargo (written telegram (NotePart p))) means.1,
   )

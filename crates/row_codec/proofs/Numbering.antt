@@ -1,25 +1,13 @@
 -- A line of the trail and a message are written behind the others, under the next number.
 use Rattle.std.proofs.Common.{◌≡◌, ℕ, ◌+◌, pos, true, Some, List, [], ◌∷◌, ◌++◌, length, sym, ap, ◌∙◌}
-use Rattle.std.specs.Str.{is_utf8}
-use Rattle.std.proofs.lemmas.List.{map-append, length-map}
-use Rattle.sqlite_keyed.specs.Keyed.{insert_by}
-use Rattle.shipment_machine.specs.Cargo.{written}
-use Rattle.shipment_machine.specs.declared.plans.Change.TheVariants.{Trail}
-use Rattle.station_core.specs.Step.{State}
-use Rattle.station_core.specs.Told.{on_cargo, with_messages}
-use Rattle.station_schema.specs.Tables.{Tables, trail_id, Message, message_id}
-use Rattle.station_rows.specs.Meant.{with_trail_line, with_message}
-use Rattle.row_codec.specs.Logs.{line_by, line_row, trail_in, is_trail_row, message_row, is_message_row, outbox_in}
-use Rattle.row_codec.specs.Meaning.{meaning_of, Means}
+use Rattle.row_codec.proofs.Common.{is_utf8, map-append, length-map, insert_by, written, Trail, State, on_cargo, with_messages, Tables, trail_id, Message, message_id, with_trail_line, with_message, line_by, line_row, trail_in, is_trail_row, message_row, is_message_row, outbox_in, meaning_of, Means}
 use Rattle.row_codec.proofs.Listed.{list_all-insert_by, next_row, still_numbered}
-use Rattle.row_codec.proofs.Readable.{readable_trail, readable_outbox}
 
 module _ (t : Tables) (s : State) (n : ℕ) (means : Means t (Some s)) where
   pub adds_line : (w : ℕ) (line text : List ℕ) → is_trail_row (line_row n w line) ≡ true → n ≡ length s.cargo.trail + 1
       → Means (with_trail_line (line_row n w line) t) (Some (on_cargo (written text (Trail w line)) s))
   adds_line w line text fits next = (
-    readable_trail t means.0 (insert_by trail_id t.trail (line_row n w line)) (list_all-insert_by trail_id is_trail_row t.trail (line_row n w line) fits means.0.trail)
-        (still_numbered trail_id (line_row n w line) t.trail means.0.lines number),
+    assumption (list_all-insert_by trail_id is_trail_row t.trail (line_row n w line) fits means.0.trail, still_numbered trail_id (line_row n w line) t.trail means.0.lines number, means),
     (λ i. record (meaning_of t) { cargo = record (meaning_of t).cargo { trail = trail i } }) ∙ ap (on_cargo (written text (Trail w line))) means.1,
   )
     where
@@ -31,8 +19,7 @@ module _ (t : Tables) (s : State) (n : ℕ) (means : Means t (Some s)) where
 
   pub adds_message : (text : List ℕ) → is_utf8 text ≡ true → n ≡ length s.cargo.outbox + 1 → Means (with_message (message_row n text) t) (Some (with_messages (text ∷ []) s))
   adds_message text fits next = (
-    readable_outbox t means.0 (insert_by message_id t.outbox (message_row n text)) (list_all-insert_by message_id is_message_row t.outbox (message_row n text) fits means.0.messages)
-        (still_numbered message_id (message_row n text) t.outbox means.0.outbox number),
+    assumption (list_all-insert_by message_id is_message_row t.outbox (message_row n text) fits means.0.messages, still_numbered message_id (message_row n text) t.outbox means.0.outbox number, means),
     (λ i. record (meaning_of t) { cargo = record (meaning_of t).cargo { outbox = outbox i } }) ∙ ap (with_messages (text ∷ [])) means.1,
   )
     where

@@ -1,22 +1,10 @@
 -- What was read of a row is what the state has.
 use Rattle.std.proofs.Common.{◌≡◌, ℕ, ℤ, pos, Bool, true, false, cond, Option, Some, None, option_map, is_some, List, [], ◌∷◌, int_eq, refl, sym, ap, ◌∙◌, true≢false}
-use Rattle.std.specs.FinMap.{get}
-use Rattle.sqlite_keyed.specs.Keyed.{get_by}
-use Rattle.shipment_machine.specs.declared.flight.FlightDate.{FlightDate}
-use Rattle.shipment_machine.specs.declared.moves.Part.{Part}
-use Rattle.station_core.specs.Step.{State}
-use Rattle.station_schema.specs.Tables.{Tables, Station, station_id, waybill_id}
+use Rattle.row_codec.proofs.Common.{get, get_by, FlightDate, Part, State, Tables, Station, station_id, waybill_id, waybill_meant, flight_meant, expected_meant, kept_meant, natural, declared_by, is_designator, flight_key, outbound_by, expected_key, expected_by, part_key, kept_by, airport_in, confirmed_in, is_station, Means}
 use Rattle.station_rows.specs.declared.waybills.WaybillRow.{WaybillRow}
 use Rattle.station_rows.specs.declared.flights.FlightRow.{FlightRow}
 use Rattle.station_rows.specs.declared.expected.ExpectedRow.{ExpectedRow}
 use Rattle.station_rows.specs.declared.kept.KeptRow.{KeptRow}
-use Rattle.station_rows.specs.Meant.{waybill_meant, flight_meant, expected_meant, kept_meant}
-use Rattle.row_codec.specs.Numbers.{natural}
-use Rattle.row_codec.specs.Waybills.{declared_by}
-use Rattle.row_codec.specs.Flights.{is_designator, flight_key, outbound_by}
-use Rattle.row_codec.specs.Manifests.{expected_key, expected_by, part_key}
-use Rattle.row_codec.specs.Replies.{kept_by}
-use Rattle.row_codec.specs.Meaning.{airport_in, confirmed_in, is_station, Means}
 use Rattle.row_codec.proofs.Telling.{here_told, confirmed_told, declared_told, outbound_told, expected_told, part_told, kept_key_told, kept_text_told}
 
 -- the one row of the station

@@ -1,22 +1,6 @@
 -- What the rows of tables say is what the state has that they mean.
 use Rattle.std.proofs.Common.{◌≡◌, ℕ, pos, true, Some, None, option_map, List, length, sym, ap, ◌∙◌}
-use Rattle.std.specs.FinMap.{get}
-use Rattle.std.proofs.lemmas.Bool.{cond-true}
-use Rattle.std.proofs.lemmas.List.{length-map}
-use Rattle.sqlite_keyed.specs.Keyed.{get_by}
-use Rattle.shipment_machine.specs.declared.flight.FlightDate.{FlightDate}
-use Rattle.shipment_machine.specs.declared.moves.Part.{Part}
-use Rattle.station_core.specs.Step.{State}
-use Rattle.station_schema.specs.Tables.{Tables, Message, waybill_id}
-use Rattle.row_codec.specs.Numbers.{natural}
-use Rattle.row_codec.specs.Waybills.{declared_by}
-use Rattle.row_codec.specs.Stock.{holders_in}
-use Rattle.row_codec.specs.Flights.{is_designator, flight_key, outbound_by}
-use Rattle.row_codec.specs.Moves.{move_by, book_in}
-use Rattle.row_codec.specs.Manifests.{expected_key, expected_by, part_key}
-use Rattle.row_codec.specs.Logs.{line_by, trail_in, outbox_in}
-use Rattle.row_codec.specs.Replies.{kept_by}
-use Rattle.row_codec.specs.Meaning.{airport_in, confirmed_in, Means}
+use Rattle.row_codec.proofs.Common.{get, cond-true, length-map, get_by, FlightDate, Part, State, Tables, Message, waybill_id, natural, declared_by, holders_in, is_designator, flight_key, outbound_by, move_by, book_in, expected_key, expected_by, part_key, line_by, trail_in, outbox_in, kept_by, airport_in, confirmed_in, Means}
 
 module _ (t : Tables) (s : State) (means : Means t (Some s)) where
   pub here_told : airport_in t.stations ≡ s.cargo.here

@@ -1,30 +1,10 @@
 -- The same writes, stated of the rows and the keys that were made of the values.
 use Rattle.std.proofs.Common.{◌≡◌, ℕ, ◌+◌, ℤ, pos, true, Some, List, [], ◌∷◌, length, sym, ap, subst, ◌∙◌, IsTrue}
-use Rattle.std.specs.Str.{is_utf8}
-use Rattle.shipment_machine.specs.Cargo.{written}
-use Rattle.imp_fields.specs.Flight.{flight_text}
-use Rattle.shipment_machine.specs.declared.flight.FlightDate.{FlightDate}
-use Rattle.shipment_machine.specs.declared.moves.Declared.{Declared}
-use Rattle.shipment_machine.specs.declared.moves.Outbound.{Outbound}
+use Rattle.row_codec.proofs.Common.{is_utf8, written, flight_text, FlightDate, Declared, Outbound, Part, Declare, NoteFlight, Expect, NotePart, Trail, Confirm, get_by, is_key, State, IsRequest, on_cargo, with_key, with_text, with_messages, Tables, Waybill, waybill_id, Flight, FlightKey, Expected, ExpectedKey, PartKey, Kept, TrailLine, Message, with_waybill, changing_waybill, with_flight, with_expected, with_move, with_part, with_trail_line, with_message, with_kept, with_kept_text, confirming, is_count, waybill_row, is_waybill_row, is_designator, flight_key, outbound_row, is_flight_row, expected_key, expected_row, is_expected_row, part_key, is_part_row, move_by, move_row, is_move_row, line_row, is_trail_row, message_row, kept_row, Means}
 use Rattle.shipment_machine.specs.declared.moves.Expected as cargo
 use Rattle.shipment_machine.specs.declared.moves.Move as cargo_move
-use Rattle.shipment_machine.specs.declared.moves.Part.{Part}
-use Rattle.shipment_machine.specs.declared.plans.Change.TheVariants.{Declare, NoteFlight, Expect, NotePart, Trail, Confirm}
-use Rattle.sqlite_keyed.specs.Keyed.{get_by}
-use Rattle.station_core.specs.Key.{is_key}
-use Rattle.station_core.specs.Step.{State}
 use Rattle.station_core.specs.Step as step
-use Rattle.station_core.specs.Told.{IsRequest, on_cargo, with_key, with_text, with_messages}
-use Rattle.station_schema.specs.Tables.{Tables, Waybill, waybill_id, Flight, FlightKey, Expected, ExpectedKey, PartKey, Kept, TrailLine, Message, Move}
-use Rattle.station_rows.specs.Meant.{with_waybill, changing_waybill, with_flight, with_expected, with_move, with_part, with_trail_line, with_message, with_kept, with_kept_text, confirming}
-use Rattle.row_codec.specs.Numbers.{is_count}
-use Rattle.row_codec.specs.Waybills.{waybill_row, is_waybill_row}
-use Rattle.row_codec.specs.Flights.{is_designator, flight_key, outbound_row, is_flight_row}
-use Rattle.row_codec.specs.Manifests.{expected_key, expected_row, is_expected_row, part_key, is_part_row}
-use Rattle.row_codec.specs.Moves.{move_by, move_row, is_move_row}
-use Rattle.row_codec.specs.Logs.{line_row, is_trail_row, message_row}
-use Rattle.row_codec.specs.Replies.{kept_row}
-use Rattle.row_codec.specs.Meaning.{Means}
+use Rattle.station_schema.specs.Tables.{Move}
 use Rattle.row_codec.proofs.Confirming.{confirms}
 use Rattle.row_codec.proofs.Declaring.{declares, declares_again}
 use Rattle.row_codec.proofs.Keeping.{keeps_key, keeps_text}

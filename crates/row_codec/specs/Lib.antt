@@ -9,3 +9,8 @@ pub mod Logs
 pub mod Replies
 pub mod Meaning
 pub mod Queries
+pub mod Sums
+pub mod Stored
+pub mod Known
+pub mod Posted
+pub mod Loaded

@@ -1,5 +1,5 @@
 //! Reading the columns of a row. The result is `None` if the value is out of range.
-ghost use Rattle.std.specs.Prelude.{◌≡◌, is_some, IfSome};
+ghost use Rattle.std.specs.Prelude.{◌≡◌, pos, is_some, IfSome};
 ghost use Rattle.imp_fields.specs.Airport.{is_airport};
 ghost use Rattle.imp_fields.specs.Name.{is_goods};
 ghost use Rattle.row_codec.specs.Numbers.{natural, is_within, is_number, is_count, is_day, is_set, is_flag};
@@ -14,6 +14,7 @@ use station_days::LocalDay;
 pub(crate) fn awb_by(column: i64) -> Option<Awb>
     ensures exact { is_some result ≡ is_number column }
     ensures value { IfSome result (λ awb. awb ≡ natural column) }
+    ensures again { IfSome result (λ awb. column ≡ pos awb) }
 {
     Awb::of_key(u64::try_from(column).ok()?)
 }

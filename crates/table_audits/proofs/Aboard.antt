@@ -1,34 +1,15 @@
 -- The sums on a flight are those of the waybills that are built on it.
 use Rattle.std.proofs.Common.{◌≡◌, ℕ, ◌<◌, ◌==◌, arith, ℤ, pos, negsuc, Bool, true, false, cond, ◌&&◌, ◌||◌, nat_lt, List, [], ◌∷◌, map, length, Option, Some, None, is_some, option_map, refl, sym, ap, ap₂, subst, ◌∙◌, true≢false, nat_cmp, int_cmp, int_eq, Less, slice_get}
-use Rattle.std.specs.List.{AllByRecursion}
+use Rattle.table_audits.proofs.Common.{AllByRecursion, ordering_then, tied_itself, nat_cmp_total, is_at, lookup, keys_of, nat_tests, ints, FlightDate, Move, Built, built, waybills_on, Build, running, unless_nothing, natural, none_is, int_pos, Tally, BuildPlace, BookSums, build_row, build_due, build_place_cmp, AreSums, is_left, on_flight, running_on}
 use Rattle.std.specs.List.Sorted.{IsStrictlySortedBy}
-use Rattle.std.specs.Ordering.{ordering_then}
-use Rattle.std.specs.Cmp.{tied_itself, nat_cmp_total}
-use Rattle.std.specs.BTreeMap.{is_at}
-use Rattle.std.specs.Map.{lookup, keys_of}
-use Rattle.std.proofs.lemmas.Bool.Decides.{nat_tests}
-use Rattle.std.proofs.lemmas.Int.{ints}
-use Rattle.shipment_machine.specs.declared.flight.FlightDate.{FlightDate}
-use Rattle.shipment_machine.specs.declared.moves.Move.{Move}
-use Rattle.shipment_machine.specs.declared.moves.Place.TheVariants.{Built}
-use Rattle.shipment_machine.specs.Book.{built, waybills_on}
 use Rattle.shipment_machine.specs.Numbers.{IsAscending as Rising, is_in}
 use Rattle.shipment_machine.proofs.Rising.{same_rising}
 use Rattle.shipment_machine.proofs.FlightMoves.{Rising-waybills_on}
 use Rattle.shipment_machine.proofs.OnFlight.{is_in-waybills_on}
-use Rattle.station_schema.specs.Tables.{Build}
-use Rattle.row_codec.specs.Counts.{running, unless_nothing}
-use Rattle.row_codec.specs.Numbers.{natural}
-use Rattle.running_totals.proofs.Tests.{none_is, int_pos}
-use Rattle.table_audits.specs.declared.tally.Tally.{Tally}
-use Rattle.table_audits.specs.declared.sums.BuildPlace.{BuildPlace}
-use Rattle.table_audits.specs.declared.sums.BookSums.{BookSums}
-use Rattle.table_audits.specs.Sums.{meant, build_of, build_due, build_place_cmp, AreSums}
-use Rattle.table_audits.specs.Balances.{is_left, on_flight}
 use Rattle.table_audits.proofs.Posted.{key_eq}
 use Rattle.table_audits.proofs.Sorted.{each_looked_up}
 use Rattle.table_audits.proofs.Made.{build_places_total}
-use Rattle.table_audits.proofs.Stocked.{meant_build, built_none, built_some}
+use Rattle.table_audits.proofs.Stocked.{row_tally, built_none, built_some}
 
 abbrev pub waybills_at : ℕ → List (BuildPlace × Tally) → List ℕ
 waybills_at i es = map (λ (e : BuildPlace × Tally). natural e.0.awb) (on_flight i es)
@@ -118,26 +99,26 @@ module _ (flights : List FlightDate) (sums : BookSums) (book : List Move) (are :
 
   numbered : AllByRecursion IsNumbered sums.builds.entries
   numbered = each_looked_up build_place_cmp build_places_total sums.builds.entries up IsNumbered
-      (λ q v is. due_numbered q.awb (slice_get flights q.flight) (build_of v) (sym (are.builds q.flight q.awb) ∙ ap (option_map build_of) is))
+      (λ q v is. due_numbered q.awb (slice_get flights q.flight) (build_row v) (sym (are.builds q.flight q.awb) ∙ ap (option_map build_row) is))
 
   -- what is said of a listed flight
-  pub told_on : (i w : ℕ) (f : FlightDate) → slice_get flights i ≡ Some f → option_map meant (told i w) ≡ unless_nothing (running book w (Built f))
-  told_on i w f is = meant_build (told i w) (unless_nothing (running book w (Built f))) (are.builds i (pos w) ∙ ap (build_due (running book) (pos w)) is)
+  pub told_on : (i w : ℕ) (f : FlightDate) → slice_get flights i ≡ Some f → (told i w) ≡ unless_nothing (running book w (Built f))
+  told_on i w f is = row_tally build_row running_on (λ t. refl) (told i w) (unless_nothing (running book w (Built f))) (are.builds i (pos w) ∙ ap (build_due (running book) (pos w)) is)
 
   -- and of one that isn't
   none_told : (i w : ℕ) → slice_get flights i ≡ None → told i w ≡ None
   none_told i w none = go (told i w) (are.builds i (pos w) ∙ ap (build_due (running book) (pos w)) none)
     where
-      go : (o : Option Tally) → option_map build_of o ≡ None → o ≡ None
+      go : (o : Option Tally) → option_map build_row o ≡ None → o ≡ None
       go None h = refl
       go (Some t) h = absurd (cc)
 
-  aboard : (w : ℕ) (f : FlightDate) (o : Option Tally) → option_map meant o ≡ unless_nothing (running book w (Built f)) → ((t : Tally) → o ≡ Some t → is_left (meant t) ≡ true) → is_some o ≡ nat_lt 0 (built book w f).pieces
+  aboard : (w : ℕ) (f : FlightDate) (o : Option Tally) → o ≡ unless_nothing (running book w (Built f)) → ((t : Tally) → o ≡ Some t → is_left t ≡ true) → is_some o ≡ nat_lt 0 (built book w f).pieces
   aboard w f None h left = sym (ap (nat_lt 0) (built_none book w f h))
   aboard w f (Some t) h left = sym (built_some book w f t h (left t refl))
 
   -- where something is left of each sum, the sums on a flight are the waybills on it
-  pub on_listed : (i : ℕ) (f : FlightDate) → slice_get flights i ≡ Some f → ((w : ℕ) (t : Tally) → told i w ≡ Some t → is_left (meant t) ≡ true) → length (on_flight i sums.builds.entries) ≡ length (waybills_on book f)
+  pub on_listed : (i : ℕ) (f : FlightDate) → slice_get flights i ≡ Some f → ((w : ℕ) (t : Tally) → told i w ≡ Some t → is_left t ≡ true) → length (on_flight i sums.builds.entries) ≡ length (waybills_on book f)
   on_listed i f is left =
       sym (as_many (λ (e : BuildPlace × Tally). natural e.0.awb) (on_flight i sums.builds.entries))
       ∙ ap (λ (ws : List ℕ). length ws) (same_rising (waybills_at i sums.builds.entries) (waybills_on book f) (rising_at i sums.builds.entries numbered up) (Rising-waybills_on book f)

@@ -1,48 +1,18 @@
 -- The balances of a station are lawful exactly where each sum is, and no flight has more than 500
 -- of them.
-use Rattle.std.proofs.Common.{◌≡◌, ◌≢◌, ◌⊎◌, inl, inr, ℕ, zero, suc, ◌≤◌, arith, ℤ, pos, negsuc, Bool, true, false, ◌&&◌, ◌||◌, cond, nat_lt, List, [], ◌∷◌, map, length, Option, Some, None, option_map, refl, sym, ap, ap₂, subst, ◌∙◌, true≢false, nat_cmp, int_cmp, is_eq, slice_get, Ordering, Less, Equal, Greater}
-use Rattle.std.specs.Prelude.{int_lt, not}
-use Rattle.std.specs.Ordering.{int_eq}
-use Rattle.std.specs.List.{AllByRecursion, list_all}
+use Rattle.std.proofs.Common.{◌≡◌, ◌≢◌, ◌⊎◌, inl, inr, ℕ, zero, suc, ◌≤◌, arith, ℤ, pos, negsuc, Bool, true, false, ◌&&◌, ◌||◌, cond, nat_lt, List, [], ◌∷◌, map, length, Option, Some, None, option_map, refl, sym, ap, ap₂, subst, ◌∙◌, true≢false, nat_cmp, int_cmp, is_eq, slice_get, Ordering}
+use Rattle.table_audits.proofs.Common.{int_lt, not, int_eq, AllByRecursion, list_all, eq_by_cmp, IsTotalOrder, on_total, then_total, int_cmp_total, entries, get, get-entries, IsAntisymmetric, nat_cmp-IsAntisymmetric, int_cmp-IsAntisymmetric, is_at, lookup, keys_of, and_parts, and_from, all_from_test, test_from_all, bytes_cmp, FlightDate, Move, Place, Hand, Surplus, Free, Built, Departed, Delivered, Missing, Transferred, built, taken_and_found, waybills_on, is_outside, IsStocked, IsCovered, same-is, pair_total, pair_same, texts_total, Tables, Count, Build, Flight, FlightKey, flight_cmp, running, unless_nothing, is_designator, flight_key, flights_in, outbound_by, book_in, place_code, plain_place, is_set, same_key, is_built, count_in, count_here, some_is, none_is, is_false, Tally, CountPlace, BuildPlace, BookSums, count_row, build_row, build_due, count_place_cmp, build_place_cmp, AreSums, AreFlightsOf, AreBalances, is_covered, is_left, drawn_by, drawn_at, is_lawful_count, is_open, is_lawful_build, on_flight, running_in}
 use Rattle.std.specs.List.Sorted.{IsStrictlySortedBy}
-use Rattle.std.specs.Ordering.{eq_by_cmp}
-use Rattle.std.specs.Cmp.{IsTotalOrder, on_total, then_total, int_cmp_total}
-use Rattle.std.specs.FinMap.{find, entries, get, get-entries, IsAntisymmetric, nat_cmp-IsAntisymmetric, int_cmp-IsAntisymmetric}
-use Rattle.std.specs.BTreeMap.{is_at}
-use Rattle.std.specs.Map.{lookup, keys_of}
-use Rattle.std.proofs.lemmas.Bool.{and_parts, and_from}
-use Rattle.sqlite_keyed.proofs.ListLemmas.{all_from_test, test_from_all}
-use Rattle.sqlite_typed.specs.Tests.{bytes_cmp}
-use Rattle.shipment_machine.specs.declared.flight.FlightDate.{FlightDate}
-use Rattle.shipment_machine.specs.declared.moves.Move.{Move}
-use Rattle.shipment_machine.specs.declared.moves.Place.{Place}
-use Rattle.shipment_machine.specs.declared.moves.Place.TheVariants.{Hand, Surplus, Free, Built, Departed, Delivered, Missing, Transferred}
+use Rattle.std.specs.FinMap.{find}
 use Rattle.shipment_machine.specs.Amount.{plus, fits}
-use Rattle.shipment_machine.specs.Book.{built, taken_and_found, waybills_on}
 use Rattle.shipment_machine.specs.Effect.{is_closed}
-use Rattle.shipment_machine.specs.Lawful.{is_outside, IsStocked, IsCovered}
-use Rattle.shipment_machine.proofs.FlightKeys.{same-is}
-use Rattle.station_schema.proofs.OneRow.{pair_total, pair_same, texts_total}
-use Rattle.station_schema.specs.Tables.{Tables, Count, Build, Flight, FlightKey, flight_cmp}
-use Rattle.row_codec.specs.Counts.{running, unless_nothing}
-use Rattle.row_codec.specs.Flights.{is_designator, flight_key, flights_in, outbound_by}
-use Rattle.row_codec.specs.Moves.{book_in, place_code, plain_place}
-use Rattle.row_codec.specs.Numbers.{is_set}
-use Rattle.row_codec.proofs.FlightKeys.{same_key}
-use Rattle.running_totals.specs.Sums.{is_built, count_in, count_here}
-use Rattle.running_totals.proofs.Codes as codes
-use Rattle.running_totals.proofs.Entries.{each_entry}
-use Rattle.running_totals.proofs.Tests.{some_is, none_is, is_false}
-use Rattle.table_audits.specs.declared.tally.Tally.{Tally}
-use Rattle.table_audits.specs.declared.sums.CountPlace.{CountPlace}
-use Rattle.table_audits.specs.declared.sums.BuildPlace.{BuildPlace}
-use Rattle.table_audits.specs.declared.sums.BookSums.{BookSums}
-use Rattle.table_audits.specs.Sums.{meant, count_of, build_of, build_due, count_place_cmp, build_place_cmp, AreSums, AreFlightsOf}
-use Rattle.table_audits.specs.Balances.{AreBalances, is_covered, is_left, drawn_by, drawn_at, is_within, is_lawful_count, is_open, is_lawful_build, on_flight}
+use Rattle.row_codec.proofs.Codes as codes
+use Rattle.row_codec.proofs.MapLaws.{each_entry, is_tied}
+use Rattle.table_audits.specs.Balances.{is_within}
 use Rattle.table_audits.proofs.Sorted.{each_looked_up}
 use Rattle.table_audits.proofs.Mapped.{got_map, index_of, listed}
 use Rattle.table_audits.proofs.Made.{distinct, build_places_total}
-use Rattle.table_audits.proofs.Stocked.{meant_count, stocked_even, told_even, told_stocked, stocked_told, told_covered, covered_told, told_drawn, built_none, built_some}
+use Rattle.table_audits.proofs.Stocked.{row_tally, stocked_even, told_even, told_stocked, stocked_told, told_covered, covered_told, told_drawn, built_none, built_some}
 use Rattle.table_audits.proofs.Aboard.{told, told_on, on_listed, on_unlisted, nothing_on}
 
 -- what the passes over the sums find
@@ -52,11 +22,6 @@ pub record IsAudited (rows : List (FlightKey × Flight)) (sums : BookSums) : Typ
   pub room : (i : ℕ) → length (on_flight i sums.builds.entries) ≤ 500
 
 -- ---- what is found under a key
-
-is_tied : (o : Ordering) → is_eq o ≡ true → o ≡ Equal
-is_tied Less h = absurd (cc)
-is_tied Equal h = refl
-is_tied Greater h = absurd (cc)
 
 looked_up : {K V : Type 0} (R : K → K → Ordering) → IsAntisymmetric R → (P : K × V → Type 0) (es : List (K × V)) → AllByRecursion P es → (q : K) (v : V) → lookup (is_at (R q)) es ≡ Some v → P (q, v)
 looked_up R same P [] all q v h = absurd (true≢false (sym (none_is v h)))
@@ -92,22 +57,8 @@ all_at P (y ∷ xs) (suc i) x all h = all_at P xs i x all.1 h
 high_code : (p : Place) → is_outside p ≡ false → is_built p ≡ false → int_lt (pos (place_code p)) (pos 2) ≡ false
 high_code Hand h k = absurd (true≢false h)
 high_code Surplus h k = absurd (true≢false h)
-high_code Free h k = refl
 high_code (Built f) h k = absurd (true≢false k)
-high_code Departed h k = refl
-high_code Delivered h k = refl
-high_code Missing h k = refl
-high_code Transferred h k = refl
-
-unbuilt : (code : ℤ) (p : Place) → plain_place code ≡ Some p → is_built p ≡ false
-unbuilt code Hand h = refl
-unbuilt code Surplus h = refl
-unbuilt code Free h = refl
-unbuilt code (Built f) h = absurd (true≢false (sym (none_is (Built f) (ap plain_place (sym (codes.plain_code code (Built f) h)) ∙ h))))
-unbuilt code Departed h = refl
-unbuilt code Delivered h = refl
-unbuilt code Missing h = refl
-unbuilt code Transferred h = refl
+high_code _ h k = refl
 
 -- ---- rows of `flight`
 
@@ -165,8 +116,8 @@ module _ (t : Tables) (flights : List FlightDate) (of : AreFlightsOf flights (en
     abbrev count_told_at : ℕ → Place → Option Tally
     count_told_at w p = lookup (is_at (count_place_cmp (record { awb = pos w; place = pos (place_code p) }))) sums.counts.entries
 
-    told_at : (w : ℕ) (p : Place) → is_built p ≡ false → option_map meant (count_told_at w p) ≡ unless_nothing (running book w p)
-    told_at w p plain = meant_count (count_told_at w p) (unless_nothing (running book w p)) (are.counts (pos w, pos (place_code p)) ∙ codes.at_key (running book) w p (running book w p) plain)
+    told_at : (w : ℕ) (p : Place) → is_built p ≡ false → (count_told_at w p) ≡ unless_nothing (running book w p)
+    told_at w p plain = row_tally count_row running_in (λ t. refl) (count_told_at w p) (unless_nothing (running book w p)) (are.counts (pos w, pos (place_code p)) ∙ codes.at_key (running book) w p (running book w p) plain)
 
     same_drawn : (w : ℕ) → plus (drawn_at sums (pos w) (pos 0)) (drawn_at sums (pos w) (pos 1)) ≡ taken_and_found book w
     same_drawn w = ap₂ plus (told_drawn book w Hand (count_told_at w Hand) (told_at w Hand refl)) (told_drawn book w Surplus (count_told_at w Surplus) (told_at w Surplus refl))
@@ -177,11 +128,11 @@ module _ (t : Tables) (flights : List FlightDate) (of : AreFlightsOf flights (en
       within_at : (w : ℕ) → is_within sums (pos w) ≡ true
       within_at w = ap fits (same_drawn w) ∙ law.within w
 
-      left_at : (w : ℕ) (p : Place) (v : Tally) → is_outside p ≡ false → is_built p ≡ false → count_told_at w p ≡ Some v → is_left (meant v) ≡ true
-      left_at w p v inside plain is = stocked_told book w p v (ap (option_map meant) (sym is) ∙ told_at w p plain) (law.stocked w p inside)
+      left_at : (w : ℕ) (p : Place) (v : Tally) → is_outside p ≡ false → is_built p ≡ false → count_told_at w p ≡ Some v → is_left v ≡ true
+      left_at w p v inside plain is = stocked_told book w p v ((sym is) ∙ told_at w p plain) (law.stocked w p inside)
 
       lawful_at : (w : ℕ) (p : Place) (v : Tally) → is_built p ≡ false → count_told_at w p ≡ Some v → is_lawful_count sums (record { awb = pos w; place = pos (place_code p) }, v) ≡ true
-      lawful_at w Hand v plain is = and_from (is_within sums (pos w)) (is_covered (meant v)) (within_at w) (covered_told book w v (ap (option_map meant) (sym is) ∙ told_at w Hand plain) (law.covered w))
+      lawful_at w Hand v plain is = and_from (is_within sums (pos w)) (is_covered v) (within_at w) (covered_told book w v ((sym is) ∙ told_at w Hand plain) (law.covered w))
       lawful_at w Surplus v plain is = and_from (is_within sums (pos w)) true (within_at w) refl
       lawful_at w Free v plain is = left_at w Free v refl refl is
       lawful_at w (Built f) v plain is = absurd (true≢false plain)
@@ -201,8 +152,8 @@ module _ (t : Tables) (flights : List FlightDate) (of : AreFlightsOf flights (en
 
       count_is : (q : CountPlace) (v : Tally) → lookup (is_at (count_place_cmp q)) sums.counts.entries ≡ Some v → is_lawful_count sums (q, v) ≡ true
       count_is q v is =
-          let due = count_due q.awb q.place (count_of v) (sym (ap (option_map count_of) is) ∙ are.counts (q.awb, q.place)) in
-          go due.0 due.1 due.2 (codes.plain_code q.place due.1 due.3) (unbuilt q.place due.1 due.3)
+          let due = count_due q.awb q.place (count_row v) (sym (ap (option_map count_row) is) ∙ are.counts (q.awb, q.place)) in
+          go due.0 due.1 due.2 (codes.plain_code q.place due.1 due.3) (codes.not_built q.place due.1 due.3)
         where
           go : (w : ℕ) (p : Place) → q.awb ≡ pos w → q.place ≡ pos (place_code p) → is_built p ≡ false → is_lawful_count sums (q, v) ≡ true
           go w p awb place plain =
@@ -214,7 +165,7 @@ module _ (t : Tables) (flights : List FlightDate) (of : AreFlightsOf flights (en
           (each_looked_up count_place_cmp count_places_total sums.counts.entries up (λ (e : CountPlace × Tally). is_lawful_count sums e ≡ true) count_is)
 
     module _ (builds_up : IsStrictlySortedBy build_place_cmp (keys_of sums.builds.entries)) where
-      built_told : (i w : ℕ) (f : FlightDate) → slice_get flights i ≡ Some f → option_map meant (told flights sums book are builds_up i w) ≡ unless_nothing (running book w (Built f))
+      built_told : (i w : ℕ) (f : FlightDate) → slice_get flights i ≡ Some f → (told flights sums book are builds_up i w) ≡ unless_nothing (running book w (Built f))
       built_told = told_on flights sums book are builds_up
 
       -- ---- lawful sums are lawful balances
@@ -226,15 +177,15 @@ module _ (t : Tables) (flights : List FlightDate) (of : AreFlightsOf flights (en
         build_passes : (q : BuildPlace) (v : Tally) → lookup (is_at (build_place_cmp q)) sums.builds.entries ≡ Some v → is_lawful_build rows (q, v) ≡ true
         build_passes = looked_up build_place_cmp build_same (λ e. is_lawful_build rows e ≡ true) sums.builds.entries (all_from_test (is_lawful_build rows) sums.builds.entries audited.builds)
 
-        build_left : (i w : ℕ) (v : Tally) → told flights sums book are builds_up i w ≡ Some v → is_left (meant v) ≡ true
-        build_left i w v is = (and_parts (is_left (meant v)) (is_open (slice_get rows i)) (build_passes (record { flight = i; awb = pos w }) v is)).0
+        build_left : (i w : ℕ) (v : Tally) → told flights sums book are builds_up i w ≡ Some v → is_left v ≡ true
+        build_left i w v is = (and_parts (is_left v) (is_open (slice_get rows i)) (build_passes (record { flight = i; awb = pos w }) v is)).0
 
         build_open : (i w : ℕ) (v : Tally) → told flights sums book are builds_up i w ≡ Some v → is_open (slice_get rows i) ≡ true
-        build_open i w v is = (and_parts (is_left (meant v)) (is_open (slice_get rows i)) (build_passes (record { flight = i; awb = pos w }) v is)).1
+        build_open i w v is = (and_parts (is_left v) (is_open (slice_get rows i)) (build_passes (record { flight = i; awb = pos w }) v is)).1
 
         stocked_plain : (w : ℕ) (p : Place) → is_outside p ≡ false → is_built p ≡ false → IsStocked book w p
         stocked_plain w p inside plain = told_stocked book w p (count_told_at w p) (told_at w p plain)
-            (λ v is. ap (λ b. cond b (is_within sums (pos w) && (not (int_eq (pos (place_code p)) (pos 0)) || is_covered (meant v))) (is_left (meant v))) (sym (high_code p inside plain)) ∙ count_passes (record { awb = pos w; place = pos (place_code p) }) v is)
+            (λ v is. ap (λ b. cond b (is_within sums (pos w) && (not (int_eq (pos (place_code p)) (pos 0)) || is_covered v)) (is_left v)) (sym (high_code p inside plain)) ∙ count_passes (record { awb = pos w; place = pos (place_code p) }) v is)
 
         stocked_built : (w : ℕ) (f : FlightDate) → IsStocked book w (Built f)
         stocked_built w f = go (index_of flights f)
@@ -255,13 +206,13 @@ module _ (t : Tables) (flights : List FlightDate) (of : AreFlightsOf flights (en
 
         all_covered : (w : ℕ) → IsCovered book w
         all_covered w = told_covered book w (count_told_at w Hand) (told_at w Hand refl)
-            (λ v is. (and_parts (is_within sums (pos w)) (is_covered (meant v)) (count_passes (record { awb = pos w; place = pos 0 }) v is)).1)
+            (λ v is. (and_parts (is_within sums (pos w)) (is_covered v) (count_passes (record { awb = pos w; place = pos 0 }) v is)).1)
 
         all_within : (w : ℕ) → fits (taken_and_found book w) ≡ true
         all_within w = ap fits (sym (same_drawn w)) ∙ go (count_told_at w Hand) (count_told_at w Surplus) refl refl
           where
             go : (hand surplus : Option Tally) → count_told_at w Hand ≡ hand → count_told_at w Surplus ≡ surplus → is_within sums (pos w) ≡ true
-            go (Some v) surplus h k = (and_parts (is_within sums (pos w)) (is_covered (meant v)) (count_passes (record { awb = pos w; place = pos 0 }) v h)).0
+            go (Some v) surplus h k = (and_parts (is_within sums (pos w)) (is_covered v) (count_passes (record { awb = pos w; place = pos 0 }) v h)).0
             go None (Some v) h k = (and_parts (is_within sums (pos w)) true (count_passes (record { awb = pos w; place = pos 1 }) v k)).0
             go None None h k = ap₂ (λ a b. fits (plus (drawn_by a) (drawn_by b))) h k
 
@@ -272,7 +223,7 @@ module _ (t : Tables) (flights : List FlightDate) (of : AreFlightsOf flights (en
             go at.0 at.1 (ap is_open at.2 ∙ ap not c.3) (told flights sums book are builds_up at.0 w) refl
           where
             go : (i : ℕ) → slice_get flights i ≡ Some f → is_open (slice_get rows i) ≡ false → (o : Option Tally) → told flights sums book are builds_up i w ≡ o → (built book w f).pieces ≡ 0
-            go i at shut None is = built_none book w f (ap (option_map meant) (sym is) ∙ built_told i w f at)
+            go i at shut None is = built_none book w f ((sym is) ∙ built_told i w f at)
             go i at shut (Some v) is = absurd (true≢false (sym (build_open i w v is) ∙ shut))
 
         all_room : (f : FlightDate) → length (waybills_on book f) ≤ 500
@@ -288,8 +239,8 @@ module _ (t : Tables) (flights : List FlightDate) (of : AreFlightsOf flights (en
       -- ---- where the balances are lawful, so are the sums on flights
 
       module _ (law : AreBalances t) where
-        on_left : (i w : ℕ) (f : FlightDate) → slice_get flights i ≡ Some f → (v : Tally) → told flights sums book are builds_up i w ≡ Some v → is_left (meant v) ≡ true
-        on_left i w f at v is = stocked_told book w (Built f) v (ap (option_map meant) (sym is) ∙ built_told i w f at) (law.stocked w (Built f) refl)
+        on_left : (i w : ℕ) (f : FlightDate) → slice_get flights i ≡ Some f → (v : Tally) → told flights sums book are builds_up i w ≡ Some v → is_left v ≡ true
+        on_left i w f at v is = stocked_told book w (Built f) v ((sym is) ∙ built_told i w f at) (law.stocked w (Built f) refl)
 
         not_closed : (f : FlightDate) (row : Flight) → is_designator f.flight ≡ true → get t.flights (flight_key f) ≡ Some row → (w : ℕ) → nat_lt 0 (built book w f).pieces ≡ true → not (is_set row.closed) ≡ true
         not_closed f row is has w some = go (is_set row.closed) refl
@@ -307,7 +258,7 @@ module _ (t : Tables) (flights : List FlightDate) (of : AreFlightsOf flights (en
 
         build_is : (q : BuildPlace) (v : Tally) → lookup (is_at (build_place_cmp q)) sums.builds.entries ≡ Some v → is_lawful_build rows (q, v) ≡ true
         build_is q v is =
-            let due = build_due_of q.awb (slice_get flights q.flight) (build_of v) (sym (ap (option_map build_of) is) ∙ are.builds q.flight q.awb) in
+            let due = build_due_of q.awb (slice_get flights q.flight) (build_row v) (sym (ap (option_map build_row) is) ∙ are.builds q.flight q.awb) in
             go due.0 due.1 due.2 due.3
           where
             go : (w : ℕ) (f : FlightDate) → q.awb ≡ pos w → slice_get flights q.flight ≡ Some f → is_lawful_build rows (q, v) ≡ true
@@ -316,8 +267,8 @@ module _ (t : Tables) (flights : List FlightDate) (of : AreFlightsOf flights (en
                 let here : told flights sums book are builds_up q.flight w ≡ Some v = ap (λ (k : BuildPlace). lookup (is_at (build_place_cmp k)) sums.builds.entries) (sym key) ∙ is in
                 let left = on_left q.flight w f at v here in
                 let row = row_of q.flight f at in
-                let some = built_some book w f v (ap (option_map meant) (sym here) ∙ built_told q.flight w f at) left in
-                and_from (is_left (meant v)) (is_open (slice_get rows q.flight)) left
+                let some = built_some book w f v ((sym here) ∙ built_told q.flight w f at) left in
+                and_from (is_left v) (is_open (slice_get rows q.flight)) left
                 (ap is_open row.1 ∙ not_closed f row.0 (listed flights rows of (distinct flights rows of) q.flight f at) row.2 w some)
 
         pub room_at : (i : ℕ) → length (on_flight i sums.builds.entries) ≤ 500

@@ -1,35 +1,8 @@
 -- Flights are closed exactly where they departed, row by row.
 use Rattle.std.proofs.Common.{◌≡◌, ◌↔◌, Bool, true, false, cond, ◌||◌, is_some, Option, Some, None, option_map, List, [], ◌∷◌, map, length, refl, sym, ap, ap₂, subst, ◌∙◌, true≢false}
-use Rattle.std.specs.Prelude.{IsSome, IsTrue}
-use Rattle.std.specs.List.{AllByRecursion, list_all}
-use Rattle.std.specs.FinMap.{entries, get}
-use Rattle.std.proofs.lemmas.Bool.{and_parts, cond-true}
-use Rattle.std.proofs.lemmas.List.{length-map}
-use Rattle.sqlite_keyed.proofs.ListLemmas.{all_from_test, map-map}
-use Rattle.table_load.specs.declared.flight.FlightEntry.{FlightEntry}
-use Rattle.table_load.specs.Held.{flight_entry}
-use Rattle.shipment_machine.specs.Book.{same_place}
+use Rattle.table_audits.proofs.Common.{IsSome, IsTrue, AllByRecursion, list_all, entries, get, and_parts, cond-true, length-map, all_from_test, map-map, FlightEntry, flight_entry, same_place, FlightDate, Move, Outbound, Place, Built, Departed, departs_with, IsNoted, IsLawfulMove, same-is, Tables, Flight, FlightKey, flight_cmp, flight_total, flight_same, is_set, is_designator, flight_key, flights_in, outbound_by, is_flight_row, book_in, at_key, each_entry, same_bool, is_false, AreDistinct, flight_in, AreDepartures, departs_in, IsDeparted, cargo_in, listed_in}
 use Rattle.shipment_machine.specs.Effect.{is_closed}
-use Rattle.shipment_machine.specs.declared.flight.FlightDate.{FlightDate}
-use Rattle.shipment_machine.specs.declared.moves.Move.{Move}
-use Rattle.shipment_machine.specs.declared.moves.Outbound.{Outbound}
-use Rattle.shipment_machine.specs.declared.moves.Place.{Place}
-use Rattle.shipment_machine.specs.declared.moves.Place.TheVariants.{Hand, Surplus, Free, Built, Departed, Delivered, Missing, Transferred}
-use Rattle.shipment_machine.specs.Lawful.{departs_with, IsNoted, IsLawfulMove}
-use Rattle.shipment_machine.proofs.FlightKeys.{same-is}
-use Rattle.station_schema.specs.Tables.{Tables, Flight, FlightKey, flight_cmp}
-use Rattle.station_schema.proofs.Keys.{flight_total, flight_same}
-use Rattle.row_codec.specs.Numbers.{is_set}
-use Rattle.row_codec.specs.Flights.{is_designator, flight_key, flights_in, outbound_by, is_flight_row}
-use Rattle.row_codec.specs.Moves.{book_in}
-use Rattle.row_codec.proofs.MapLaws.{at_key, each_entry}
-use Rattle.running_totals.proofs.Tests.{same_bool, is_false}
-use Rattle.table_audits.specs.Sums.{AreDistinct}
 use Rattle.table_audits.proofs.Made.{distinct}
-use Rattle.table_audits.specs.Audited.{flight_in, AreDepartures}
-use Rattle.table_audits.specs.Departed.{departs_in, IsDeparted}
-use Rattle.table_audits.specs.Lawful.{cargo_in}
-use Rattle.table_audits.specs.Posted.{listed_in}
 use Rattle.table_audits.proofs.Listed.{IsNamed, named, named_by, flights_are}
 
 -- ---- lists
@@ -71,13 +44,7 @@ module _ (t : Tables) (within : list_all is_flight_row (entries t.flights) ≡ t
     where
       at : (q : Place) → IsNoted (cargo_in t) q → same_place q (Built f) ≡ true → IsSome (flights_in t.flights f)
       at (Built g) noted e = subst (λ (d : FlightDate). IsSome (flights_in t.flights d)) (same-is g f e) noted
-      at Hand noted e = absurd (true≢false (sym e))
-      at Surplus noted e = absurd (true≢false (sym e))
-      at Free noted e = absurd (true≢false (sym e))
-      at Departed noted e = absurd (true≢false (sym e))
-      at Delivered noted e = absurd (true≢false (sym e))
-      at Missing noted e = absurd (true≢false (sym e))
-      at Transferred noted e = absurd (true≢false (sym e))
+      at _ noted e = absurd (true≢false (sym e))
 
       go : (b : Bool) → departs_with f m ≡ b → (b || departs_in moves f) ≡ true → (departs_in moves f ≡ true → IsSome (flights_in t.flights f)) → IsSome (flights_in t.flights f)
       go true e k more = at m.from all.0.noted_from (and_parts (same_place m.from (Built f)) (same_place m.to Departed) e).0
@@ -100,7 +67,7 @@ module _ (t : Tables) (within : list_all is_flight_row (entries t.flights) ≡ t
           ∙ ap (departs_in book) (named_by f row x)
 
   each_closed : ((f : FlightDate) → IsTrue (is_closed (flights_in t.flights f)) ↔ IsTrue (departs_in book f)) → AllByRecursion IsSameAt (entries t.flights)
-  each_closed law = each_entry flight_cmp flight_total flight_same IsSameAt t.flights go
+  each_closed law = each_entry flight_cmp flight_total IsSameAt t.flights go
     where
       go : (key : FlightKey) (row : Flight) → get t.flights key ≡ Some row → IsSameAt (key, row)
       go key row has =

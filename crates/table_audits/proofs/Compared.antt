@@ -1,30 +1,16 @@
 -- Rows that are compared with the sums one by one.
 use Rattle.std.proofs.Common.{◌≡◌, Bool, cond, ◌↔◌, T, IsTrue, List, [], ◌∷◌, map, Some, option_map, refl, sym, ap, subst, ◌∙◌, int_cmp, is_eq, is_lt, Less}
-use Rattle.std.specs.List.{AllByRecursion}
+use Rattle.table_audits.proofs.Common.{AllByRecursion, is_sorted, entries, get-entries, int_cmp-IsAntisymmetric, below_all, is_at, lookup, keys_of, FlightDate, Move, pair_same, Tables, Count, CountKey, count_cmp, running, AreCounts, counts_total, Tally, CountPlace, BookSums, count_row, count_entry, count_place_cmp, AreSums, count_in}
 use Rattle.std.specs.List.Sorted.{IsStrictlySortedBy}
-use Rattle.std.specs.FinMap.{find, is_sorted, entries, get-entries, int_cmp-IsAntisymmetric}
-use Rattle.std.specs.FinMap.Entries.{below_all}
-use Rattle.std.specs.BTreeMap.{is_at}
-use Rattle.std.specs.Map.{lookup, keys_of}
-use Rattle.shipment_machine.specs.declared.flight.FlightDate.{FlightDate}
-use Rattle.shipment_machine.specs.declared.moves.Move.{Move}
-use Rattle.station_schema.proofs.OneRow.{pair_same}
-use Rattle.station_schema.specs.Tables.{Tables, Count, CountKey, count_cmp}
-use Rattle.row_codec.specs.Counts.{running, counted, AreCounts}
-use Rattle.running_totals.proofs.Keeping.{counts_total}
-use Rattle.running_totals.proofs.Moved.{counted_is}
-use Rattle.table_audits.specs.declared.tally.Tally.{Tally}
-use Rattle.table_audits.specs.declared.sums.CountPlace.{CountPlace}
-use Rattle.table_audits.specs.declared.sums.BookSums.{BookSums}
-use Rattle.table_audits.specs.Sums.{count_of, count_entry, count_place_cmp, AreSums}
+use Rattle.std.specs.FinMap.{find}
 use Rattle.table_audits.proofs.Posted.{mapped}
 use Rattle.table_audits.proofs.Sorted.{both, entries_are}
 
-find_entry : (es : List (CountPlace × Tally)) (q : CountKey) → find count_cmp q (map count_entry es) ≡ option_map count_of (lookup (is_at (count_place_cmp (record { awb = q.0; place = q.1 }))) es)
+find_entry : (es : List (CountPlace × Tally)) (q : CountKey) → find count_cmp q (map count_entry es) ≡ option_map count_row (lookup (is_at (count_place_cmp (record { awb = q.0; place = q.1 }))) es)
 find_entry [] q = refl
 find_entry (e ∷ es) q =
-    ap (cond (is_eq (count_cmp q (count_entry e).0)) (Some (count_of e.1))) (find_entry es q)
-    ∙ sym (mapped count_of (is_eq (count_cmp q (count_entry e).0)) (Some e.1) (lookup (is_at (count_place_cmp (record { awb = q.0; place = q.1 }))) es))
+    ap (cond (is_eq (count_cmp q (count_entry e).0)) (Some (count_row e.1))) (find_entry es q)
+    ∙ sym (mapped count_row (is_eq (count_cmp q (count_entry e).0)) (Some e.1) (lookup (is_at (count_place_cmp (record { awb = q.0; place = q.1 }))) es))
 
 below : (k : CountPlace) (es : List (CountPlace × Tally)) → AllByRecursion (λ q. count_place_cmp k q ≡ Less) (keys_of es) → T (below_all count_cmp (k.awb, k.place) (map count_entry es))
 below k [] all = tt
@@ -36,8 +22,8 @@ rises [] up = tt
 rises (e ∷ es) up = both (below_all count_cmp (e.0.awb, e.0.place) (map count_entry es)) _ (below e.0 es up.0) (rises es up.1)
 
 module _ (sums : BookSums) (t : Tables) (flights : List FlightDate) (book : List Move) (are : AreSums flights sums (running book)) where
-  told : (q : CountKey) → find count_cmp q (map count_entry sums.counts.entries) ≡ counted book q
-  told q = find_entry sums.counts.entries q ∙ are.counts q ∙ sym (counted_is book q)
+  told : (q : CountKey) → find count_cmp q (map count_entry sums.counts.entries) ≡ count_in (running book) q
+  told q = find_entry sums.counts.entries q ∙ are.counts q
 
   pub same_rows : entries t.counts ≡ map count_entry sums.counts.entries → AreCounts t.counts book
   same_rows h q = get-entries t.counts q ∙ ap (find count_cmp q) h ∙ told q

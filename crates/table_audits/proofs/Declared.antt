@@ -1,28 +1,15 @@
 -- In a database with the tables that a station declares, those that are held are the typed ones.
 use Rattle.std.proofs.Common.{◌≡◌, ◌∙◌, ℕ, ℤ, pos, Bool, true, false, List, [], ◌∷◌, map, refl, sym, ap, arith}
-use Rattle.std.proofs.lemmas.Int.{ints}
-use Rattle.std.specs.Prelude.{if◌then◌else◌, ◌&&◌}
-use Rattle.std.specs.Ordering.{int_eq}
-use Rattle.std.specs.Str.{is_utf8}
-use Rattle.std.specs.FinMap.{entries, same_entries_map}
+use Rattle.table_audits.proofs.Common.{ints, if◌then◌else◌, ◌&&◌, int_eq, is_utf8, entries, same_entries_map, Trees, Database, Tables, Station, station_id, station_row, station_in, typed_stations, IsStation, tables_of, IsOldStation, old_tables_of, undated, raised, upgraded, station_name, station_columns, station_found, station_of, found_in_rows, damaged, other_version, one_row, version_number, row_of_version, TableName, IsLawfulTable, First, Second, Reading, read_as, IsStationOf}
 use Rattle.sqlite.specs.Order.{column}
 use Rattle.sqlite.specs.Table.{Table}
-use Rattle.sqlite.specs.Tree.{Trees}
 use Rattle.sqlite_tied.specs.Compute.{everything}
-use Rattle.sqlite.specs.Effect.{Database}
 use Rattle.station_schema.specs.Schema.{schema_with, waybill2}
-use Rattle.station_schema.specs.Tables.{Tables, Station, station_id, station_row, station_in, typed_stations, IsStation, tables_of, IsOldStation, old_tables_of, undated, raised, upgraded}
 use Rattle.table_load.specs.Raw.{found, rows_of}
 use Rattle.station_rows.specs.Shown.{station_shown}
-use Rattle.table_load.specs.Verdict.{station_name, station_columns, station_found, station_of, found_in_rows, damaged, other_version, one_row, version_number, row_of_version}
 use Rattle.table_load.proofs.Declared.{old_waybill_typed, waybill_typed, stock_typed, flight_typed, moves_typed, expected_typed, part_typed, trail_typed, outbox_typed, kept_key_typed, kept_text_typed, counts_typed, build_typed, old_waybill_old, stock_old, flight_old, moves_old, expected_old, part_old, trail_old, outbox_old, kept_key_old, kept_text_old, counts_old, build_old}
-use Rattle.table_audits.specs.declared.name.TableName.{TableName}
-use Rattle.table_audits.specs.Lawful.{IsLawfulTable}
 use Rattle.station_schema.specs.ColumnKeys.{AreListed}
 use Rattle.table_load.specs.declared.station.FileVersion.{FileVersion}
-use Rattle.table_load.specs.declared.station.FileVersion.TheVariants.{First, Second}
-use Rattle.table_load.specs.Reading.{Reading, read_as}
-use Rattle.table_audits.specs.Good.{IsStationOf}
 use Rattle.table_audits.proofs.Judged.{same_mark, same_words, through}
 
 -- ---- lawful table by table, so lawful

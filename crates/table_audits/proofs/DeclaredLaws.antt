@@ -1,10 +1,6 @@
 -- A waybill is declared exactly where there is a row of it.
 use Rattle.std.proofs.Common.{◌≡◌, ℕ, pos, true, Option, Some, None, option_map, is_some, List, refl}
-use Rattle.std.specs.Prelude.{IsSome}
-use Rattle.sqlite_keyed.specs.Keyed.{get_by}
-use Rattle.station_schema.specs.Tables.{Waybill, waybill_id}
-use Rattle.row_codec.specs.Waybills.{declared_by, declared_in}
-use Rattle.table_audits.specs.Rows.{has_waybill}
+use Rattle.table_audits.proofs.Common.{IsSome, get_by, Waybill, waybill_id, declared_by, declared_in, has_waybill}
 
 pub some_from : {X Y : Type 0} (f : X → Y) (o : Option X) → is_some o ≡ true → IsSome (option_map f o)
 some_from f (Some x) h = refl

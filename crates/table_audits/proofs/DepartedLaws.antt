@@ -1,23 +1,8 @@
 -- Flights that have departed, marked move by move.
 use Rattle.std.proofs.Common.{◌≡◌, ◌≢◌, ℕ, zero, suc, ℤ, pos, Bool, true, false, cond, ◌&&◌, ◌||◌, Some, unwrap_or, List, [], ◌∷◌, ◌++◌, map, length, slice_get, replicate, refl, sym, ap, ap₂, ◌∙◌, true≢false, arith, int_eq}
-use Rattle.std.specs.Prelude.{slice_set}
-use Rattle.std.specs.List.{list_any}
-use Rattle.shipment_machine.specs.Book.{same_place}
-use Rattle.shipment_machine.specs.Flights.{same_flight_date}
-use Rattle.shipment_machine.specs.declared.flight.FlightDate.{FlightDate}
-use Rattle.shipment_machine.specs.declared.moves.Move.{Move}
-use Rattle.shipment_machine.specs.declared.moves.Place.{Place}
-use Rattle.shipment_machine.specs.declared.moves.Place.TheVariants.{Hand, Surplus, Free, Built, Departed, Delivered, Missing, Transferred}
-use Rattle.shipment_machine.specs.Lawful.{departs_with, builds_on, StaysDeparted}
-use Rattle.shipment_machine.proofs.FlightKeys.{same-is, same-refl}
-use Rattle.row_codec.specs.Moves.{place_code}
-use Rattle.running_totals.specs.Sums.{is_built}
-use Rattle.running_totals.proofs.Tests.{some_is, none_is, is_false}
+use Rattle.table_audits.proofs.Common.{slice_set, list_any, same_place, same_flight_date, FlightDate, Move, Place, Hand, Built, Departed, departs_with, builds_on, StaysDeparted, same-is, same-refl, place_code, is_built, some_is, none_is, is_false, Posting, AreDistinct, IsSpot, IsPosting, departs_in, marks_of, is_marked, marked, and_no}
 use Rattle.table_audits.specs.declared.sums.Spot.{Spot}
 use Rattle.table_audits.specs.declared.sums.Spot.TheVariants.{Plain, OnFlight}
-use Rattle.table_audits.specs.declared.sums.Posting.{Posting}
-use Rattle.table_audits.specs.Sums.{AreDistinct, IsSpot, IsPosting}
-use Rattle.table_audits.specs.Departed.{departs_in, marks_of, is_marked, marked}
 use Rattle.table_audits.proofs.Lists.{or_no, or_yes, any_push, any_within, got_map}
 
 -- ---- one move more
@@ -51,18 +36,8 @@ broken f (a ∷ past) m next some builds stays = go (departs_with f a) refl some
 -- ---- places of a move
 
 pub plain_off : (p : Place) (f : FlightDate) → is_built p ≡ false → same_place p (Built f) ≡ false
-plain_off Hand f h = refl
-plain_off Surplus f h = refl
-plain_off Free f h = refl
 plain_off (Built g) f h = absurd (true≢false h)
-plain_off Departed f h = refl
-plain_off Delivered f h = refl
-plain_off Missing f h = refl
-plain_off Transferred f h = refl
-
-and_no : (b : Bool) → (b && false) ≡ false
-and_no true = refl
-and_no false = refl
+plain_off _ f h = refl
 
 and_yes : (b : Bool) → (b && true) ≡ b
 and_yes true = refl
@@ -70,13 +45,7 @@ and_yes false = refl
 
 departed_code : (p : Place) (code : ℤ) → code ≡ pos (place_code p) → int_eq code (pos 4) ≡ same_place p Departed
 departed_code Hand code is = ap (λ c. int_eq c (pos 4)) is
-departed_code Surplus code is = ap (λ c. int_eq c (pos 4)) is
-departed_code Free code is = ap (λ c. int_eq c (pos 4)) is
-departed_code (Built f) code is = ap (λ c. int_eq c (pos 4)) is
-departed_code Departed code is = ap (λ c. int_eq c (pos 4)) is
-departed_code Delivered code is = ap (λ c. int_eq c (pos 4)) is
-departed_code Missing code is = ap (λ c. int_eq c (pos 4)) is
-departed_code Transferred code is = ap (λ c. int_eq c (pos 4)) is
+departed_code _ code is = ap (λ c. int_eq c (pos 4)) is
 
 -- ---- marks
 

@@ -1,14 +1,6 @@
 -- What holds of each row of a table holds of what is found in it, and the other way round.
 use Rattle.std.proofs.Common.{◌≡◌, ℕ, ℤ, pos, negsuc, ◌≤◌, Bool, true, false, cond, ◌&&◌, Some, List, [], ◌∷◌, refl, ap, subst, ◌∙◌, int_cmp, int_eq, Less, arith}
-use Rattle.std.specs.Prelude.{find, int_le}
-use Rattle.std.specs.List.{AllByRecursion, list_all}
-use Rattle.std.proofs.lemmas.Bool.{and_parts}
-use Rattle.std.proofs.lemmas.Int.{ints}
-use Rattle.sqlite.specs.Tree.{IsAscending}
-use Rattle.sqlite_keyed.specs.Keyed.{get_by}
-use Rattle.sqlite_keyed.proofs.ListLemmas.{all_weaker, all_both, all_from_test, test_from_all}
-use Rattle.shipment_machine.specs.Lawful.{IsLawfulAmount}
-use Rattle.row_codec.specs.Numbers.{natural, is_within}
+use Rattle.table_audits.proofs.Common.{find, int_le, AllByRecursion, list_all, and_parts, ints, IsAscending, get_by, all_weaker, all_both, all_from_test, test_from_all, IsLawfulAmount, natural, is_within}
 
 -- ---- tests of lists
 

@@ -1,21 +1,7 @@
 -- The rows of `expected` are lawful exactly where the table is.
 use Rattle.std.proofs.Common.{◌≡◌, ℕ, pos, Bool, true, false, cond, ◌&&◌, Option, Some, None, option_map, refl, sym, ap, ap₂, subst, ◌∙◌}
-use Rattle.std.specs.Prelude.{int_le, IsSome, IfSome}
-use Rattle.std.specs.List.{list_all}
-use Rattle.std.specs.FinMap.{entries, get}
-use Rattle.std.proofs.lemmas.Bool.{and_parts, and_from, cond-true}
-use Rattle.sqlite_keyed.proofs.ListLemmas.{all_from_test, test_from_all}
-use Rattle.shipment_machine.specs.Lawful.{IsLawfulAmount}
-use Rattle.shipment_machine.specs.declared.flight.FlightDate.{FlightDate}
+use Rattle.table_audits.proofs.Common.{int_le, IsSome, IfSome, list_all, entries, get, and_parts, and_from, cond-true, all_from_test, test_from_all, IsLawfulAmount, FlightDate, Tables, Expected, ExpectedKey, expected_cmp, expected_total, expected_same, natural, is_within, is_number, is_day, is_designator, is_flight_text, expected_key, expected_by, expected_in, is_expected_row, at_key, each_entry, AreExpected, cargo_in, has_waybill, is_lawful_expected}
 use Rattle.shipment_machine.specs.declared.moves.Expected as cargo
-use Rattle.station_schema.specs.Tables.{Tables, Expected, ExpectedKey, expected_cmp}
-use Rattle.station_schema.proofs.Keys.{expected_total, expected_same}
-use Rattle.row_codec.specs.Numbers.{natural, is_within, is_number, is_day}
-use Rattle.row_codec.specs.Flights.{is_designator, is_flight_text}
-use Rattle.row_codec.specs.Manifests.{expected_key, expected_by, expected_in, is_expected_row}
-use Rattle.row_codec.proofs.MapLaws.{at_key, each_entry}
-use Rattle.table_audits.specs.Lawful.{AreExpected, cargo_in}
-use Rattle.table_audits.specs.Rows.{has_waybill, is_lawful_expected}
 use Rattle.table_audits.proofs.Each.{both_lists, natural_again, amount_of, amount_back}
 use Rattle.table_audits.proofs.FlightRows.{flight_at}
 use Rattle.table_audits.proofs.DeclaredLaws.{declared_from, declared_back}
@@ -62,7 +48,7 @@ module _ (t : Tables) where
       go f w true (Some row) is = met (expected_key f w) w row (at_key expected_cmp expected_total expected_same (λ e. passes e ≡ true) t.expected (all_from_test passes (entries t.expected) all) (expected_key f w) row is) refl
 
   pub lawful_expected : AreExpected t → list_all passes (entries t.expected) ≡ true
-  lawful_expected law = test_from_all passes (entries t.expected) (each_entry expected_cmp expected_total expected_same (λ e. passes e ≡ true) t.expected go)
+  lawful_expected law = test_from_all passes (entries t.expected) (each_entry expected_cmp expected_total (λ e. passes e ≡ true) t.expected go)
     where
       go : (key : ExpectedKey) (row : Expected) → get t.expected key ≡ Some row → passes (key, row) ≡ true
       go key row has =

@@ -1,20 +1,6 @@
 -- The rows of `flight` are lawful exactly where the table is.
 use Rattle.std.proofs.Common.{◌≡◌, ℕ, Bool, true, false, cond, not, Option, Some, None, option_map, List, refl, sym, ap, ap₂, subst, ◌∙◌}
-use Rattle.std.specs.Prelude.{IfSome}
-use Rattle.std.specs.List.{list_all}
-use Rattle.std.specs.Str.{bytes_eq}
-use Rattle.std.specs.FinMap.{entries, get}
-use Rattle.std.proofs.lemmas.Bool.{and_parts, and_from, cond-true}
-use Rattle.sqlite_keyed.proofs.ListLemmas.{all_from_test, test_from_all}
-use Rattle.shipment_machine.specs.declared.flight.FlightDate.{FlightDate}
-use Rattle.shipment_machine.specs.declared.moves.Outbound.{Outbound}
-use Rattle.station_schema.specs.Tables.{Tables, Flight, FlightKey, flight_cmp}
-use Rattle.station_schema.proofs.Keys.{flight_total, flight_same}
-use Rattle.row_codec.specs.Flights.{is_designator, flight_key, outbound_by, flights_in, is_flight_row}
-use Rattle.row_codec.specs.Meaning.{airport_in}
-use Rattle.row_codec.proofs.MapLaws.{at_key, each_entry}
-use Rattle.table_audits.specs.Lawful.{AreFlights, cargo_in}
-use Rattle.table_audits.specs.Rows.{is_lawful_flight}
+use Rattle.table_audits.proofs.Common.{IfSome, list_all, bytes_eq, entries, get, and_parts, and_from, cond-true, all_from_test, test_from_all, FlightDate, Outbound, Tables, Flight, FlightKey, flight_cmp, flight_total, flight_same, is_designator, flight_key, outbound_by, flights_in, is_flight_row, airport_in, at_key, each_entry, AreFlights, cargo_in, is_lawful_flight}
 use Rattle.table_audits.proofs.Each.{both_lists}
 use Rattle.table_audits.proofs.FlightRows.{flight_at}
 
@@ -45,7 +31,7 @@ module _ (t : Tables) (here : List ℕ) (at : airport_in t.stations ≡ here) wh
       go f true (Some row) is = elsewhere (flight_key f, row) (at_key flight_cmp flight_total flight_same (λ e. is_lawful_flight here e ≡ true) t.flights (all_from_test (is_lawful_flight here) (entries t.flights) all) (flight_key f) row is)
 
   pub lawful_flights : AreFlights t → list_all (is_lawful_flight here) (entries t.flights) ≡ true
-  lawful_flights law = test_from_all (is_lawful_flight here) (entries t.flights) (each_entry flight_cmp flight_total flight_same (λ e. is_lawful_flight here e ≡ true) t.flights go)
+  lawful_flights law = test_from_all (is_lawful_flight here) (entries t.flights) (each_entry flight_cmp flight_total (λ e. is_lawful_flight here e ≡ true) t.flights go)
     where
       go : (key : FlightKey) (row : Flight) → get t.flights key ≡ Some row → is_lawful_flight here (key, row) ≡ true
       go key row has =

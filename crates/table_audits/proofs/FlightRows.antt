@@ -1,19 +1,11 @@
 -- A flight's text in range is that of a designator, and its row stands under the key of a flight.
-use Rattle.std.proofs.Common.{true≢false, ◌≡◌, ℕ, zero, suc, ◌^◌, ◌≤◌, ◌<◌, ℤ, pos, Bool, true, false, ◌&&◌, Option, Some, None, List, [], ◌∷◌, take, drop, length, refl, sym, subst, arith}
-use Rattle.std.specs.Prelude.{take_while, IsTrue, IfSome, nat_le}
-use Rattle.std.specs.List.{list_all}
-use Rattle.std.proofs.lemmas.Bool.{and_parts, leb-true}
+use Rattle.std.proofs.Common.{true≢false, ◌≡◌, ℕ, suc, ◌^◌, ◌≤◌, ◌<◌, ℤ, pos, Bool, true, false, ◌&&◌, Option, Some, None, List, [], ◌∷◌, take, drop, length, refl, sym, subst, arith}
+use Rattle.table_audits.proofs.Common.{take_while, IsTrue, IfSome, nat_le, list_all, and_parts, leb-true, drop_while, Designator, is_carrier, suffix_of, flight_of, flight_text, FlightDate, natural, is_day, is_designator, is_written, is_flight_text, designator_test}
 use Rattle.awb_number.specs.Digits.{is_digit, is_letter, decimal_value}
 use Rattle.awb_number.proofs.Padded.{decimal_value_bound}
 use Rattle.station_days.specs.Steps.{◌>>=◌, where_true}
-use Rattle.imp_fields.specs.Characters.{drop_while}
 use Rattle.imp_fields.specs.Amount.{count_of}
-use Rattle.imp_fields.specs.Flight.{Designator, is_carrier, suffix_of, flight_of, flight_text}
 use Rattle.imp_fields.proofs.SameFlight.{bytes_eq-true}
-use Rattle.shipment_machine.specs.declared.flight.FlightDate.{FlightDate}
-use Rattle.row_codec.specs.Numbers.{natural, is_day}
-use Rattle.row_codec.specs.Flights.{is_designator, is_written, is_flight_text}
-use Rattle.row_codec.proofs.FlightKeys.{designator_test}
 use Rattle.table_audits.proofs.Each.{natural_again}
 
 -- ---- what was read of a text
@@ -39,12 +31,8 @@ count_range digits n e =
     (subst (λ m. 1 ≤ m) w.1 some, subst (λ m. m ≤ 9999) w.1 (below digits b.1 long))
   where
     power : (k : ℕ) → k ≤ 4 → (m : ℕ) → m < 10 ^ k → m ≤ 9999
-    power zero h m low = omega (arith, low)
-    power (suc zero) h m low = omega (arith, low)
-    power (suc (suc zero)) h m low = omega (arith, low)
-    power (suc (suc (suc zero))) h m low = omega (arith, low)
-    power (suc (suc (suc (suc zero)))) h m low = omega (arith, low)
     power (suc (suc (suc (suc (suc k))))) h m low = absurd (omega arith)
+    power _ h m low = omega (arith, low)
 
     below : (digits : List ℕ) → list_all is_digit digits ≡ true → length digits ≤ 4 → decimal_value digits ≤ 9999
     below digits are long = power (length digits) long (decimal_value digits) (decimal_value_bound digits are)

@@ -1,27 +1,15 @@
 -- The audit of one table after another, the row of `station`, and why a station's database is fit.
 use Rattle.std.proofs.Common.{◌≡◌, ◌∙◌, ◌≤◌, ◌-◌, ℕ, length, arith, Option, Some, None, ℤ, false, true, List, [], ◌∷◌, sym, subst, ap, ap₂, inl, inr, Result, Ok, Err}
-use Rattle.std.specs.Prelude.{IsErr, IsTrue, MatchOption}
+use Rattle.table_audits.proofs.Common.{IsErr, IsTrue, MatchOption, Held, state, Error, Tables, airport_in, confirmed_in, natural, Reading, station_read, read_as, no_station, damaged, other_version, one_row, new_row, Known, TableName, IsLawfulTable, HoldsStation, before, AreGood, IsStationOf, IsFirstBad, HasBefore, Knows, HasJudged, AreJudged, JudgesOn}
 use Rattle.sqlite.specs.State.{State, HasCleanDisk, IsUnchanged, Survives}
-use Rattle.sqlite.specs.Held.{Held, state}
 use Rattle.sqlite_trees.specs.declared.store.Store.{Ghosts}
 use Rattle.sqlite.proofs.Callers.{unchanged_then}
 use Rattle.sqlite.proofs.StreamLemmas.{rolled_back_since}
-use Rattle.sqlite.specs.declared.error.Error.{Error}
 use Rattle.station_schema.specs.Effects.{Reads, Stops}
 use Rattle.station_schema.specs.Connection.{opening}
-use Rattle.station_schema.specs.Tables.{Tables}
-use Rattle.row_codec.specs.Meaning.{airport_in, confirmed_in}
-use Rattle.row_codec.specs.Numbers.{natural}
-use Rattle.table_load.specs.Reading.{Reading, station_read, read_as}
-use Rattle.table_load.specs.Verdict.{no_station, damaged, other_version, one_row, new_row}
-use Rattle.table_audits.specs.declared.known.Known.{Known}
-use Rattle.table_audits.specs.declared.name.TableName.{TableName}
 use Rattle.table_audits.specs.declared.name.TableName.TheVariants as table
 use Rattle.table_audits.specs.declared.unfit.Unfit.{Unfit}
 use Rattle.table_audits.specs.declared.unfit.Unfit.TheVariants as unfit
-use Rattle.table_audits.specs.Lawful.{IsLawfulTable}
-use Rattle.table_audits.specs.Good.{HoldsStation, before, AreGood, IsStationOf, IsFirstBad}
-use Rattle.table_audits.specs.Judged.{HasBefore, Knows, HasJudged, AreJudged, JudgesOn}
 use Rattle.table_audits.specs.Verdict.{is_ours, IsUnfit}
 
 -- ---- the tables before one are good too

@@ -1,19 +1,8 @@
 -- Rows of `kept_key` that are taken one by one.
 use Rattle.std.proofs.Common.{◌≡◌, ◌↔◌, ℕ, Bool, true, false, List, [], ◌∷◌, ◌++◌, map, sym, subst, ◌∙◌, true≢false}
-use Rattle.std.specs.Prelude.{IsTrue}
-use Rattle.std.specs.List.{AllByRecursion}
-use Rattle.std.specs.FinMap.{entries}
-use Rattle.std.proofs.lemmas.List.{map-append}
-use Rattle.sqlite_keyed.proofs.ListLemmas.{all_weaker, all_both, all_from_test, test_from_all}
+use Rattle.table_audits.proofs.Common.{IsTrue, AllByRecursion, entries, map-append, all_weaker, all_both, all_from_test, test_from_all, Kept, kept_cmp, Tables, kept_total, kept_same, kept_key_entry, AreRequests, is_kept_row, at_key, each_entry, AreKeptKeys, IsLawfulKept}
 use Rattle.station_core.specs.Told.{IsRequest}
-use Rattle.station_schema.specs.Tables.{Kept, kept_cmp, Tables}
-use Rattle.station_schema.proofs.Keys.{kept_total, kept_same}
 use Rattle.table_load.specs.declared.kept_key.KeptKeyEntry.{KeptKeyEntry}
-use Rattle.table_load.specs.Held.{kept_key_entry}
-use Rattle.row_codec.specs.Replies.{AreRequests, is_kept_row}
-use Rattle.row_codec.proofs.MapLaws.{at_key, each_entry}
-use Rattle.table_audits.specs.Lawful.{AreKeptKeys}
-use Rattle.table_audits.specs.Taken.{IsLawfulKept}
 use Rattle.table_audits.proofs.Lists.{all_push, all_pop}
 
 abbrev pub Asks : List ℕ × Kept → Type 0
@@ -44,7 +33,7 @@ module _ (t : Tables) where
   are_requests all key row has = at_key kept_cmp kept_total kept_same Asks t.kept all key row has
 
   requests_back : AreRequests t.kept → AllByRecursion Asks (entries t.kept)
-  requests_back are = each_entry kept_cmp kept_total kept_same Asks t.kept are
+  requests_back are = each_entry kept_cmp kept_total Asks t.kept are
 
   lawful_keys : AllByRecursion IsLawfulKept (entries t.kept) → AreKeptKeys t
   lawful_keys all = record {

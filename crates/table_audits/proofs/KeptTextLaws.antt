@@ -1,21 +1,7 @@
 -- The texts of parts are kept exactly where the table says so.
 use Rattle.std.proofs.Common.{◌≡◌, ℕ, Bool, true, false, cond, Option, Some, None, List, refl, ap, ap₂, subst, ◌∙◌}
-use Rattle.std.specs.Prelude.{IsSome, IfSome}
-use Rattle.std.specs.List.{list_all}
-use Rattle.std.specs.FinMap.{entries, get}
-use Rattle.std.proofs.lemmas.Bool.{and_parts, cond-true}
-use Rattle.sqlite_keyed.proofs.ListLemmas.{all_from_test, test_from_all}
+use Rattle.table_audits.proofs.Common.{IsSome, IfSome, list_all, entries, get, and_parts, cond-true, all_from_test, test_from_all, Tables, PartKey, part_cmp, part_total, part_same, natural, is_designator, part_key, parts_in, is_part_row, is_kept_text_row, meaning_of, at_key, each_entry, AreParts, AreKeptTexts, has_text}
 use Rattle.shipment_machine.specs.declared.moves.Part.{Part}
-use Rattle.station_schema.specs.Tables.{Tables, PartKey, part_cmp}
-use Rattle.station_schema.proofs.Keys.{part_total, part_same}
-use Rattle.row_codec.specs.Numbers.{natural}
-use Rattle.row_codec.specs.Flights.{is_designator}
-use Rattle.row_codec.specs.Manifests.{part_key, parts_in, is_part_row}
-use Rattle.row_codec.specs.Replies.{is_kept_text_row}
-use Rattle.row_codec.specs.Meaning.{meaning_of}
-use Rattle.row_codec.proofs.MapLaws.{at_key, each_entry}
-use Rattle.table_audits.specs.Lawful.{AreParts, AreKeptTexts}
-use Rattle.table_audits.specs.Rows.{has_text}
 use Rattle.table_audits.proofs.Each.{natural_again}
 use Rattle.table_audits.proofs.FlightRows.{flight_at}
 use Rattle.table_audits.proofs.DeclaredLaws.{some_from, some_back}
@@ -35,7 +21,7 @@ module _ (t : Tables) where
           some_from natural (get t.kept_texts text) kept
 
   pub texts_kept : AreParts t → AreKeptTexts t → list_all (has_text t.kept_texts) (entries t.parts) ≡ true
-  texts_kept parts law = test_from_all (has_text t.kept_texts) (entries t.parts) (each_entry part_cmp part_total part_same (λ e. has_text t.kept_texts e ≡ true) t.parts go)
+  texts_kept parts law = test_from_all (has_text t.kept_texts) (entries t.parts) (each_entry part_cmp part_total (λ e. has_text t.kept_texts e ≡ true) t.parts go)
     where
       go : (key : PartKey) (text : List ℕ) → get t.parts key ≡ Some text → has_text t.kept_texts (key, text) ≡ true
       go key text has =

@@ -1,23 +1,9 @@
 -- The flights that rows of `flight` name.
 use Rattle.std.proofs.Common.{◌≡◌, ℕ, true, Option, Some, None, option_map, List, [], ◌∷◌, map, slice_get, refl, sym, ap, ap₂, subst, ◌∙◌, Less}
-use Rattle.std.specs.Prelude.{IsSome}
+use Rattle.table_audits.proofs.Common.{IsSome, AllByRecursion, list_all, FinMap, entries, get, and_parts, cond-true, IsAscending, ascending-map, ascending_from_map, entries_rise, FlightDate, Outbound, Flight, FlightKey, flight_cmp, flight_total, is_designator, flight_key, flight_date_of, flights_in, outbound_by, is_flight_row, each_entry, AreFlightsOf, nowhere, flight_in, flights_of}
 use Rattle.std.specs.Option.{unwrap_or}
-use Rattle.std.specs.List.{AllByRecursion, list_all}
-use Rattle.std.specs.FinMap.{FinMap, entries, get}
-use Rattle.std.proofs.lemmas.Bool.{and_parts, cond-true}
-use Rattle.sqlite.specs.Tree.{IsAscending}
-use Rattle.sqlite_keyed.proofs.ListLemmas.{ascending-map, ascending_from_map}
-use Rattle.station_schema.proofs.Maps.{entries_rise}
-use Rattle.shipment_machine.specs.declared.flight.FlightDate.{FlightDate}
-use Rattle.shipment_machine.specs.declared.moves.Outbound.{Outbound}
-use Rattle.station_schema.specs.Tables.{Flight, FlightKey, flight_cmp}
-use Rattle.station_schema.proofs.Keys.{flight_total, flight_same}
-use Rattle.row_codec.specs.Flights.{is_designator, flight_key, flight_date_of, flights_in, outbound_by, is_flight_row}
 use Rattle.row_codec.proofs.MoveRows.{columns_again}
-use Rattle.row_codec.proofs.MapLaws.{each_entry}
 use Rattle.table_audits.proofs.FlightRows.{flight_at}
-use Rattle.table_audits.specs.Sums.{AreFlightsOf}
-use Rattle.table_audits.specs.Audited.{nowhere, flight_in, flights_of}
 use Rattle.table_audits.proofs.Lists.{all_got, got_of}
 
 -- a row within range names a flight, under whose key it stands
@@ -74,7 +60,7 @@ module _ (m : FinMap flight_cmp Flight) (all : list_all is_flight_row (entries m
   pub noted_row : (i : ℕ) (row : FlightKey × Flight) → slice_get (entries m) i ≡ Some row → flights_in m (flight_in row) ≡ Some (outbound_by row.1)
   noted_row i row is =
       let one : IsNamed row = all_got IsNamed (entries m) each i row is in
-      let found : get m row.0 ≡ Some row.1 = all_got (λ (e : FlightKey × Flight). get m e.0 ≡ Some e.1) (entries m) (each_entry flight_cmp flight_total flight_same (λ e. get m e.0 ≡ Some e.1) m (λ k v has. has)) i row is in
+      let found : get m row.0 ≡ Some row.1 = all_got (λ (e : FlightKey × Flight). get m e.0 ≡ Some e.1) (entries m) (each_entry flight_cmp flight_total (λ e. get m e.0 ≡ Some e.1) m (λ k v has. has)) i row is in
       cond-true (is_designator (flight_in row).flight) (option_map outbound_by (get m (flight_key (flight_in row)))) None one.designator
       ∙ ap (option_map outbound_by) (ap (get m) one.key ∙ found)
 

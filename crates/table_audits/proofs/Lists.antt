@@ -1,8 +1,6 @@
 -- Lists, index by index and one element more.
 use Rattle.std.proofs.Common.{◌≡◌, ℕ, zero, suc, ◌<◌, Bool, true, false, ◌||◌, Some, List, [], ◌∷◌, ◌++◌, map, length, get_or, slice_get, refl, sym, ap, subst, ◌∙◌, true≢false, arith}
-use Rattle.std.specs.List.{AllByRecursion, list_any}
-use Rattle.std.proofs.lemmas.List.Folds.{list_any-append}
-use Rattle.running_totals.proofs.Tests.{some_is, none_is}
+use Rattle.table_audits.proofs.Common.{AllByRecursion, list_any, list_any-append, some_is, none_is}
 
 pub or_no : (b : Bool) → (b || false) ≡ b
 or_no true = refl

@@ -1,29 +1,8 @@
 -- The rows of `build` that the sums make, in the order of their keys.
 use Rattle.std.proofs.Common.{◌≡◌, ℕ, zero, suc, ◌<◌, arith, ℤ, pos, negsuc, Bool, ◌↔◌, T, IsTrue, List, [], ◌∷◌, map, Option, Some, None, option_map, refl, sym, ap, subst, ◌∙◌, true≢false, nat_cmp, int_cmp, is_lt, slice_get, Ordering, Less, Equal, Greater}
-use Rattle.std.specs.List.{AllByRecursion}
+use Rattle.table_audits.proofs.Common.{AllByRecursion, ordering_then, IsTotalOrder, ranked, on_total, then_total, tied_itself, nat_cmp_total, int_cmp_total, is_sorted, entries, get-entries, nat_cmp-IsAntisymmetric, int_cmp-IsAntisymmetric, below_all, keys_of, IsAscending, map-map, bytes_cmp, flight_text, FlightDate, Move, pair_total, pair_same, texts_total, texts_same, Tables, Build, BuildKey, build_cmp, Flight, FlightKey, flight_cmp, running, AreBuilds, flight_key, none_is, some_is, builds_total, Tally, BuildPlace, BookSums, build_row, build_due, build_entry, build_place_cmp, AreDistinct, AreSums, AreFlightsOf}
 use Rattle.std.specs.List.Sorted.{IsStrictlySortedBy}
-use Rattle.std.specs.Ordering.{ordering_then}
-use Rattle.std.specs.Cmp.{IsTotalOrder, ranked, on_total, then_total, tied_itself, nat_cmp_total, int_cmp_total}
-use Rattle.std.specs.FinMap.{is_sorted, entries, get-entries, nat_cmp-IsAntisymmetric, int_cmp-IsAntisymmetric}
-use Rattle.std.specs.FinMap.Entries.{below_all}
-use Rattle.std.specs.Map.{keys_of}
-use Rattle.sqlite.specs.Tree.{IsAscending}
-use Rattle.sqlite_keyed.proofs.ListLemmas.{map-map}
 use Rattle.sqlite_keyed.proofs.SortLemmas.{pair_cmp}
-use Rattle.sqlite_typed.specs.Tests.{bytes_cmp}
-use Rattle.imp_fields.specs.Flight.{flight_text}
-use Rattle.shipment_machine.specs.declared.flight.FlightDate.{FlightDate}
-use Rattle.shipment_machine.specs.declared.moves.Move.{Move}
-use Rattle.station_schema.proofs.OneRow.{pair_total, pair_same, texts_total, texts_same}
-use Rattle.station_schema.specs.Tables.{Tables, Build, BuildKey, build_cmp, Flight, FlightKey, flight_cmp}
-use Rattle.row_codec.specs.Counts.{running, AreBuilds}
-use Rattle.row_codec.specs.Flights.{flight_key}
-use Rattle.running_totals.proofs.Tests.{none_is, some_is}
-use Rattle.running_totals.proofs.Keeping.{builds_total}
-use Rattle.table_audits.specs.declared.tally.Tally.{Tally}
-use Rattle.table_audits.specs.declared.sums.BuildPlace.{BuildPlace}
-use Rattle.table_audits.specs.declared.sums.BookSums.{BookSums}
-use Rattle.table_audits.specs.Sums.{build_of, build_due, build_entry, build_place_cmp, AreDistinct, AreSums, AreFlightsOf}
 use Rattle.table_audits.proofs.Sorted.{both, each_looked_up, entries_are}
 use Rattle.table_audits.proofs.Mapped.{entry, entry_is, told_builds}
 
@@ -127,7 +106,7 @@ module _ (flights : List FlightDate) (rows : List (FlightKey × Flight)) (of : A
 
     all_listed : AllByRecursion IsListed sums.builds.entries
     all_listed = each_looked_up build_place_cmp build_places_total sums.builds.entries up IsListed
-        (λ q v is. due_listed q.awb (slice_get flights q.flight) (build_of v) (sym (are.builds q.flight q.awb) ∙ ap (option_map build_of) is))
+        (λ q v is. due_listed q.awb (slice_get flights q.flight) (build_row v) (sym (are.builds q.flight q.awb) ∙ ap (option_map build_row) is))
 
     pub same_builds : (t : Tables) → map (λ (r : BuildKey × Build). Some r) (entries t.builds) ≡ map (build_entry rows) sums.builds.entries → AreBuilds t.builds book
     same_builds t zip q = get-entries t.builds q ∙ told_builds flights rows of distinct sums book are (entries t.builds) zip q

@@ -1,28 +1,8 @@
 -- Rows of `build` that are compared with the sums one by one.
 use Rattle.std.proofs.Common.{◌≡◌, ◌≢◌, ◌⊎◌, inl, inr, ℕ, zero, suc, ℤ, pos, negsuc, ◌==◌, Bool, true, false, cond, ◌&&◌, List, [], ◌∷◌, map, Option, Some, None, option_map, refl, sym, ap, ◌∙◌, true≢false, int_eq, slice_get}
-use Rattle.std.proofs.lemmas.Bool.{eq-eqb, and_from}
-use Rattle.std.specs.List.{AllByRecursion}
-use Rattle.std.specs.Ordering.{eq_by_cmp}
+use Rattle.table_audits.proofs.Common.{eq-eqb, and_from, AllByRecursion, eq_by_cmp, is_at, lookup, bytes_cmp, Designator, flight_text, same_flight_date, FlightDate, Move, same-is, same-refl, first_true, second_true, Build, BuildKey, build_cmp, Flight, FlightKey, running, build_row, written_flight, is_designator, flight_key, same_bool, is_false, some_is, none_is, is_int, int_itself, is_nat, Tally, BuildPlace, BookSums, build_due, build_entry, build_place_cmp, AreDistinct, AreSums, AreFlightsOf, build_in, build_here}
 use Rattle.std.specs.FinMap.{find}
-use Rattle.std.specs.BTreeMap.{is_at}
-use Rattle.std.specs.Map.{lookup}
-use Rattle.sqlite_typed.specs.Tests.{bytes_cmp}
-use Rattle.imp_fields.specs.Flight.{Designator, flight_text}
-use Rattle.shipment_machine.specs.Flights.{same_flight_date}
-use Rattle.shipment_machine.specs.declared.flight.FlightDate.{FlightDate}
-use Rattle.shipment_machine.specs.declared.moves.Move.{Move}
-use Rattle.shipment_machine.proofs.FlightKeys.{same-is, same-refl}
-use Rattle.station_schema.proofs.OneRow.{first_true, second_true}
-use Rattle.station_schema.specs.Tables.{Build, BuildKey, build_cmp, Flight, FlightKey}
-use Rattle.row_codec.specs.Counts.{running, build_row, build_at, built_up, written_flight}
-use Rattle.row_codec.specs.Flights.{is_designator, flight_key}
-use Rattle.row_codec.proofs.FlightKeys.{is_one}
-use Rattle.running_totals.proofs.Tests.{same_bool, is_false, some_is, none_is, is_int, int_itself, is_nat}
-use Rattle.running_totals.proofs.Written.{written_again, written_so, is_text, text_itself, build_eq}
-use Rattle.table_audits.specs.declared.tally.Tally.{Tally}
-use Rattle.table_audits.specs.declared.sums.BuildPlace.{BuildPlace}
-use Rattle.table_audits.specs.declared.sums.BookSums.{BookSums}
-use Rattle.table_audits.specs.Sums.{build_of, build_due, build_entry, build_place_cmp, AreDistinct, AreSums, AreFlightsOf}
+use Rattle.row_codec.proofs.TotalsWritten.{written_again, written_so, is_text, text_itself, build_eq}
 use Rattle.table_audits.proofs.Posted.{key_eq}
 
 -- ---- lists
@@ -49,10 +29,10 @@ together true y z = refl
 together false y z = refl
 
 abbrev pub entry : FlightDate → BuildPlace × Tally → BuildKey × Build
-entry f e = ((flight_text f.flight, (pos f.day, e.0.awb)), build_of e.1)
+entry f e = ((flight_text f.flight, (pos f.day, e.0.awb)), build_row e.1)
 
 abbrev at_key : BuildPlace × Tally → FlightKey → BuildKey × Build
-at_key e k = ((k.0, (k.1, e.0.awb)), build_of e.1)
+at_key e k = ((k.0, (k.1, e.0.awb)), build_row e.1)
 
 -- a flight stands in a list, or doesn't
 pub index_of : (flights : List FlightDate) (f : FlightDate) → ((i : ℕ) × (slice_get flights i ≡ Some f)) ⊎ ((i : ℕ) → slice_get flights i ≢ Some f)
@@ -86,7 +66,7 @@ module _ (flights : List FlightDate) (rows : List (FlightKey × Flight)) (of : A
 
   one_flight : (f g : FlightDate) → is_designator f.flight ≡ true → is_designator g.flight ≡ true → flight_text f.flight ≡ flight_text g.flight → pos f.day ≡ pos g.day → f ≡ g
   one_flight f g is_f is_g text day =
-      let flight : f.flight ≡ g.flight = some_is f.flight g.flight (sym (written_again f.flight (is_one f.flight is_f)) ∙ ap written_flight text ∙ written_again g.flight (is_one g.flight is_g)) in
+      let flight : f.flight ≡ g.flight = some_is f.flight g.flight (sym (written_again f.flight is_f) ∙ ap written_flight text ∙ written_again g.flight is_g) in
       let on : f.day ≡ g.day = cc in
       λ i. record { flight = flight i; day = on i }
 
@@ -99,7 +79,7 @@ module _ (flights : List FlightDate) (rows : List (FlightKey × Flight)) (of : A
       ap (λ (x : FlightDate). eq_by_cmp bytes_cmp (flight_text f.flight) (flight_text x.flight) && int_eq (pos f.day) (pos x.day)) (sym one)
       ∙ and_from _ _ (text_itself (flight_text f.flight)) (int_itself (pos f.day)))
 
-  step : (b c : Bool) → b ≡ c → (t : Tally) (x : Option Build) (y : Option Tally) → x ≡ option_map build_of y → cond b (Some (build_of t)) x ≡ option_map build_of (cond c (Some t) y)
+  step : (b c : Bool) → b ≡ c → (t : Tally) (x : Option Build) (y : Option Tally) → x ≡ option_map build_row y → cond b (Some (build_row t)) x ≡ option_map build_row (cond c (Some t) y)
   step true true e t x y h = refl
   step true false e t x y h = absurd (true≢false e)
   step false true e t x y h = absurd (true≢false (sym e))
@@ -114,7 +94,7 @@ module _ (flights : List FlightDate) (rows : List (FlightKey × Flight)) (of : A
   -- what is found of a listed flight
   pub found_there : (L : List (BuildKey × Build)) (es : List (BuildPlace × Tally)) → ◌≡◌ {A = List (Option (BuildKey × Build))} (map (λ r. Some r) L) (map (build_entry rows) es)
       → (i : ℕ) (f : FlightDate) → slice_get flights i ≡ Some f → (awb : ℤ)
-      → find build_cmp (flight_text f.flight, (pos f.day, awb)) L ≡ option_map build_of (lookup (is_at (build_place_cmp (record { flight = i; awb = awb }))) es)
+      → find build_cmp (flight_text f.flight, (pos f.day, awb)) L ≡ option_map build_row (lookup (is_at (build_place_cmp (record { flight = i; awb = awb }))) es)
   found_there [] [] h i f is awb = refl
   found_there [] (e ∷ es) h i f is awb = absurd (cc)
   found_there (r ∷ L) [] h i f is awb = absurd (cc)
@@ -139,7 +119,7 @@ module _ (flights : List FlightDate) (rows : List (FlightKey × Flight)) (of : A
   found_nowhere (r ∷ L) (e ∷ es) h text day awb nowhere =
       let here = row_of r e (slice_get flights e.0.flight) refl (ap (first_or None) h ∙ entry_is e) in
       ap (λ (x : BuildKey × Build). cond (eq_by_cmp build_cmp (text, (day, awb)) x.0) (Some x.1) (find build_cmp (text, (day, awb)) L)) here.2
-      ∙ ap (λ b. cond b (Some (build_of e.1)) (find build_cmp (text, (day, awb)) L))
+      ∙ ap (λ b. cond b (Some (build_row e.1)) (find build_cmp (text, (day, awb)) L))
       (build_eq text (flight_text here.0.flight) day (pos here.0.day) awb e.0.awb
       ∙ together (eq_by_cmp bytes_cmp text (flight_text here.0.flight)) (int_eq day (pos here.0.day)) (int_eq awb e.0.awb)
       ∙ ap (λ b. b && int_eq awb e.0.awb) (nowhere e.0.flight here.0 here.1))
@@ -152,12 +132,12 @@ module _ (flights : List FlightDate) (rows : List (FlightKey × Flight)) (of : A
     due day awb (Some d) = build_due (running book) awb (Some (record { flight = d; day = day }))
 
     apart : (text : List ℕ) (day : ℕ) → written_flight text ≡ None → (j : ℕ) (g : FlightDate) → slice_get flights j ≡ Some g → (eq_by_cmp bytes_cmp text (flight_text g.flight) && int_eq (pos day) (pos g.day)) ≡ false
-    apart text day none j g is = is_false _ (λ h. none_is g.flight (sym none ∙ ap written_flight (is_text text (flight_text g.flight) (first_true _ _ h)) ∙ written_again g.flight (is_one g.flight (listed j g is))))
+    apart text day none j g is = is_false _ (λ h. none_is g.flight (sym none ∙ ap written_flight (is_text text (flight_text g.flight) (first_true _ _ h)) ∙ written_again g.flight (listed j g is)))
 
     other : (text : List ℕ) (day : ℕ) (d : Designator) → written_flight text ≡ Some d → ((i : ℕ) → slice_get flights i ≢ Some (record { flight = d; day = day }))
         → (j : ℕ) (g : FlightDate) → slice_get flights j ≡ Some g → (eq_by_cmp bytes_cmp text (flight_text g.flight) && int_eq (pos day) (pos g.day)) ≡ false
     other text day d e nowhere j g is = is_false _ (λ h.
-        let flight : g.flight ≡ d = some_is g.flight d (sym (written_again g.flight (is_one g.flight (listed j g is))) ∙ ap written_flight (sym (is_text text (flight_text g.flight) (first_true _ _ h))) ∙ e) in
+        let flight : g.flight ≡ d = some_is g.flight d (sym (written_again g.flight (listed j g is)) ∙ ap written_flight (sym (is_text text (flight_text g.flight) (first_true _ _ h))) ∙ e) in
         let same : pos day ≡ pos g.day = is_int (pos day) (pos g.day) (second_true _ _ h) in
         let on : g.day ≡ day = cc in
         absurd (nowhere j (is ∙ ap (λ (x : FlightDate). Some x) (λ i. record { flight = flight i; day = on i }))))
@@ -181,10 +161,10 @@ module _ (flights : List FlightDate) (rows : List (FlightKey × Flight)) (of : A
                 ∙ are.builds i awb ∙ ap (build_due (running book) awb) is
             at (inr nowhere) = found_nowhere L sums.builds.entries zip text (pos day) awb (other text day d e nowhere) ∙ sym (nothing_due awb (record { flight = d; day = day }) nowhere)
 
-    pub told_builds : (q : BuildKey) → find build_cmp q L ≡ built_up book q
+    pub told_builds : (q : BuildKey) → find build_cmp q L ≡ build_in (running book) q
     told_builds (text, (pos day, pos w)) = found_is text day (pos w) ∙ go (written_flight text)
       where
-        go : (o : Option Designator) → due day (pos w) o ≡ build_at book day w o
+        go : (o : Option Designator) → due day (pos w) o ≡ build_here (running book) day w o
         go None = refl
         go (Some d) = refl
     told_builds (text, (pos day, negsuc n)) = found_is text day (negsuc n) ∙ go (written_flight text)

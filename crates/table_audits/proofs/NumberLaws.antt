@@ -1,7 +1,6 @@
 -- Rows that are numbered from 1, one row more.
 use Rattle.std.proofs.Common.{◌≡◌, ℕ, suc, ◌+◌, ℤ, pos, List, [], ◌∷◌, ◌++◌, map, length, refl, ap, ap₂, ◌∙◌, arith}
-use Rattle.std.specs.List.{range_with_len}
-use Rattle.row_codec.specs.Numbers.{AreNumbered}
+use Rattle.table_audits.proofs.Common.{range_with_len, AreNumbered}
 
 head_is : (x y : ℤ) (xs ys : List ℤ) → ◌≡◌ {A = List ℤ} (x ∷ xs) (y ∷ ys) → x ≡ y
 head_is x y xs ys e = cc

@@ -1,33 +1,16 @@
 -- A place of a row names the row's flight where it is built.
 use Rattle.std.proofs.Common.{◌≡◌, ℤ, pos, Bool, true, false, cond, is_some, Option, Some, None, option_map, unwrap_or, refl, sym, ap, ◌∙◌, true≢false, int_eq}
-use Rattle.shipment_machine.specs.declared.flight.FlightDate.{FlightDate}
-use Rattle.shipment_machine.specs.declared.moves.Place.{Place}
-use Rattle.shipment_machine.specs.declared.moves.Place.TheVariants.{Hand, Surplus, Free, Built, Departed, Delivered, Missing, Transferred}
-use Rattle.shipment_machine.specs.Lawful.{NamesFlight}
-use Rattle.row_codec.specs.Moves.{place_code, plain_place, place_of}
-use Rattle.running_totals.proofs.Codes.{plain_code}
-use Rattle.running_totals.proofs.Tests.{none_is}
+use Rattle.table_audits.proofs.Common.{FlightDate, Place, Hand, Built, NamesFlight, place_code, plain_place, place_of, none_is}
+use Rattle.row_codec.proofs.Codes.{plain_code}
 
 built_names : (flight : Option FlightDate) (p : Place) → option_map Built flight ≡ Some p → NamesFlight p flight
 built_names None p is = absurd (true≢false (sym (none_is p is)))
-built_names (Some f) Hand is = absurd (cc)
-built_names (Some f) Surplus is = absurd (cc)
-built_names (Some f) Free is = absurd (cc)
 built_names (Some f) (Built g) is = let same : f ≡ g = cc in ap (λ (x : FlightDate). Some x) same
-built_names (Some f) Departed is = absurd (cc)
-built_names (Some f) Delivered is = absurd (cc)
-built_names (Some f) Missing is = absurd (cc)
-built_names (Some f) Transferred is = absurd (cc)
+built_names (Some f) _ is = absurd (cc)
 
 plain_names : (code : ℤ) → int_eq code (pos 3) ≡ false → (flight : Option FlightDate) (p : Place) → code ≡ pos (place_code p) → NamesFlight p flight
-plain_names code other flight Hand is = tt
-plain_names code other flight Surplus is = tt
-plain_names code other flight Free is = tt
 plain_names code other flight (Built g) is = absurd (true≢false (sym (ap (λ c. int_eq c (pos 3)) is) ∙ other))
-plain_names code other flight Departed is = tt
-plain_names code other flight Delivered is = tt
-plain_names code other flight Missing is = tt
-plain_names code other flight Transferred is = tt
+plain_names code other flight _ is = tt
 
 names_flight : (code : ℤ) (flight : Option FlightDate) (p : Place) → place_of code flight ≡ Some p → NamesFlight p flight
 names_flight code flight p is = go (int_eq code (pos 3)) refl is

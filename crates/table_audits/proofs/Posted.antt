@@ -1,33 +1,11 @@
 -- What an amount that is posted makes of the sums.
-use Rattle.std.proofs.Common.{◌≡◌, ◌≢◌, ℕ, ℤ, pos, negsuc, neg_ℤ, ◌==◌, Bool, true, false, cond, ◌&&◌, List, [], ◌∷◌, ◌++◌, Option, Some, None, option_map, refl, sym, ap, ap₂, subst, ◌∙◌, true≢false, arith, int_eq, int_cmp, nat_cmp, slice_get}
-use Rattle.std.proofs.lemmas.Bool.Decides.{nat_tests}
-use Rattle.std.specs.Ordering.{eq_by_cmp}
-use Rattle.std.specs.Cmp.{eq_by_cmp_equiv}
+use Rattle.std.proofs.Common.{◌≡◌, ◌≢◌, ℕ, ℤ, pos, negsuc, neg_ℤ, ◌==◌, Bool, true, false, cond, ◌&&◌, List, [], ◌∷◌, ◌++◌, Option, Some, None, option_map, refl, sym, ap, ap₂, subst, ◌∙◌, arith, int_eq, int_cmp, nat_cmp, slice_get}
+use Rattle.table_audits.proofs.Common.{nat_tests, eq_by_cmp, eq_by_cmp_equiv, same_place, same_flight_date, FlightDate, Move, Place, Built, same-is, same-refl, pair_eq, int_tied, first_true, second_true, Count, CountKey, count_cmp, Build, Tally, running, unless_nothing, running_in, running_on, count_row, build_row, place_code, plain_place, Sums, plus, posting, come, gone, is_built, count_in, count_here, same_bool, is_false, and_no, some_is, none_is, int_pos, is_nat, counts_total, CountPlace, BuildPlace, BookSums, Posting, come_to, count_place_cmp, build_place_cmp, count_told, build_told, build_due, AreDistinct, AreSums, IsPosting}
 use Rattle.std.specs.BTreeMap.{get}
-use Rattle.shipment_machine.specs.Book.{same_place}
-use Rattle.shipment_machine.specs.Flights.{same_flight_date}
-use Rattle.shipment_machine.specs.declared.flight.FlightDate.{FlightDate}
-use Rattle.shipment_machine.specs.declared.moves.Move.{Move}
-use Rattle.shipment_machine.specs.declared.moves.Place.{Place}
-use Rattle.shipment_machine.specs.declared.moves.Place.TheVariants.{Hand, Surplus, Free, Built, Departed, Delivered, Missing, Transferred}
-use Rattle.shipment_machine.proofs.FlightKeys.{same-is, same-refl}
-use Rattle.station_schema.proofs.OneRow.{pair_eq, int_tied, first_true, second_true}
-use Rattle.station_schema.specs.Tables.{Count, CountKey, count_cmp, Build}
-use Rattle.row_codec.specs.Counts.{Running, running, is_nothing, unless_nothing, running_in, running_on, count_row, build_row}
-use Rattle.row_codec.specs.Moves.{place_code, plain_place}
-use Rattle.running_totals.specs.Sums.{Sums, plus, posting, come, gone, is_built, count_in, count_here}
-use Rattle.running_totals.specs.Stored as stored
-use Rattle.running_totals.proofs.Storing.{comes_to_sum}
-use Rattle.running_totals.proofs.Tests.{same_bool, is_false, and_no, some_is, none_is, int_pos, is_nat}
-use Rattle.running_totals.proofs.Codes as codes
-use Rattle.running_totals.proofs.Keeping.{counts_total}
-use Rattle.running_totals.proofs.Moved.{sums_then}
-use Rattle.table_audits.specs.declared.tally.Tally.{Tally}
-use Rattle.table_audits.specs.declared.sums.CountPlace.{CountPlace}
-use Rattle.table_audits.specs.declared.sums.BuildPlace.{BuildPlace}
-use Rattle.table_audits.specs.declared.sums.BookSums.{BookSums}
-use Rattle.table_audits.specs.declared.sums.Posting.{Posting}
-use Rattle.table_audits.specs.Sums.{meant, unless_zero, come_to, count_of, build_of, count_place_cmp, build_place_cmp, count_told, build_told, build_due, AreDistinct, AreSums, IsPosting}
+use Rattle.row_codec.proofs.Storing.{comes_to_sum}
+use Rattle.row_codec.proofs.Codes as codes
+use Rattle.row_codec.proofs.Moved.{sums_then}
+use Rattle.row_codec.proofs.TotalsWritten.{off}
 
 -- ---- no moves
 
@@ -60,76 +38,50 @@ pub mapped : {X Y : Type 0} (f : X → Y) (b : Bool) (x y : Option X) → option
 mapped f true x y = refl
 mapped f false x y = refl
 
-count_there : (b : Bool) (t : Tally) → option_map count_of (cond b None (Some t)) ≡ option_map count_row (cond b None (Some (meant t)))
-count_there true t = refl
-count_there false t = refl
+-- what a row comes to, and the tally that it keeps
+module _ {V : Type 0} (row : Tally → V) (amount : V → Tally) (again : (t : Tally) → amount (row t) ≡ t) where
+  row_comes : (o : Option Tally) (by : Tally) → come_to (λ t. t) o by ≡ come_to amount (option_map row o) by
+  row_comes None by = refl
+  row_comes (Some t) by = ap (λ x. plus x by) (sym (again t))
 
-build_there : (b : Bool) (t : Tally) → option_map build_of (cond b None (Some t)) ≡ option_map build_row (cond b None (Some (meant t)))
-build_there true t = refl
-build_there false t = refl
+  sum_row : (o : Option Tally) (r : Tally) (by : Tally) → option_map row o ≡ option_map row (unless_nothing r)
+      → option_map row (unless_nothing (come_to (λ t. t) o by)) ≡ option_map row (unless_nothing (plus r by))
+  sum_row o r by h = ap (λ x. option_map row (unless_nothing x)) (row_comes o by ∙ ap (λ v. come_to amount v by) h ∙ comes_to_sum row amount again r by)
 
-count_comes : (o : Option Tally) (by : Tally) → meant (come_to o by) ≡ stored.come_to running_in (option_map count_of o) (meant by)
-count_comes None by = refl
-count_comes (Some t) by = refl
-
-build_comes : (o : Option Tally) (by : Tally) → meant (come_to o by) ≡ stored.come_to running_on (option_map build_of o) (meant by)
-build_comes None by = refl
-build_comes (Some t) by = refl
-
-sum_count : (o : Option Tally) (r : Running) (by : Tally) → option_map count_of o ≡ option_map count_row (unless_nothing r) → option_map count_of (unless_zero (come_to o by)) ≡ option_map count_row (unless_nothing (plus r (meant by)))
-sum_count o r by h =
-    count_there (is_nothing (meant (come_to o by))) (come_to o by)
-    ∙ ap (λ x. option_map count_row (unless_nothing x)) (count_comes o by ∙ ap (λ v. stored.come_to running_in v (meant by)) h ∙ comes_to_sum count_row running_in (λ r. refl) r (meant by))
-
-sum_build : (o : Option Tally) (r : Running) (by : Tally) → option_map build_of o ≡ option_map build_row (unless_nothing r) → option_map build_of (unless_zero (come_to o by)) ≡ option_map build_row (unless_nothing (plus r (meant by)))
-sum_build o r by h =
-    build_there (is_nothing (meant (come_to o by))) (come_to o by)
-    ∙ ap (λ x. option_map build_row (unless_nothing x)) (build_comes o by ∙ ap (λ v. stored.come_to running_on v (meant by)) h ∙ comes_to_sum build_row running_on (λ r. refl) r (meant by))
-
-off : (f : FlightDate) (p : Place) → is_built p ≡ false → same_place (Built f) p ≡ false
-off f Hand h = refl
-off f Surplus h = refl
-off f Free h = refl
-off f (Built g) h = absurd (true≢false h)
-off f Departed h = refl
-off f Delivered h = refl
-off f Missing h = refl
-off f Transferred h = refl
-
-not_posted : (s : Sums) (a : ℕ) (p : Place) (r : Running) (w : ℕ) (at : Place) → same_place at p ≡ false → posting a p r s w at ≡ s w at
+not_posted : (s : Sums) (a : ℕ) (p : Place) (r : Tally) (w : ℕ) (at : Place) → same_place at p ≡ false → posting a p r s w at ≡ s w at
 not_posted s a p r w at h = ap (λ b. cond b (plus (s w at) r) (s w at)) (ap (λ b. (a == w) && b) h ∙ and_no (a == w))
 
 -- at a place that isn't built
 
-module _ (s : Sums) (a : ℕ) (p : Place) (r : Running) (plain : is_built p ≡ false) where
+module _ (s : Sums) (a : ℕ) (p : Place) (r : Tally) (plain : is_built p ≡ false) where
   due_stays : (awb : ℤ) (o : Option FlightDate) → build_due s awb o ≡ build_due (posting a p r s) awb o
   due_stays (pos w) None = refl
   due_stays (pos w) (Some f) = ap (λ x. option_map build_row (unless_nothing x)) (sym (not_posted s a p r w (Built f) (off f p plain)))
   due_stays (negsuc n) o = refl
 
 pub posted_count : (flights : List FlightDate) (old new : BookSums) (s : Sums) (key : CountPlace) (by : Tally) → AreSums flights old s
-    → ((q : CountPlace) → get count_place_cmp new.counts q ≡ cond (eq_by_cmp count_place_cmp key q) (unless_zero (come_to (get count_place_cmp old.counts key) by)) (get count_place_cmp old.counts q))
+    → ((q : CountPlace) → get count_place_cmp new.counts q ≡ cond (eq_by_cmp count_place_cmp key q) (unless_nothing (come_to (λ t. t) (get count_place_cmp old.counts key) by)) (get count_place_cmp old.counts q))
     → new.builds ≡ old.builds → (a : ℕ) (p : Place) → key.awb ≡ pos a → key.place ≡ pos (place_code p) → is_built p ≡ false
-    → AreSums flights new (posting a p (meant by) s)
+    → AreSums flights new (posting a p by s)
 posted_count flights old new s key by are told same a p awb_is place_is plain = record {
   counts = λ q. count_at q;
-  builds = λ i awb. ap (λ m. option_map build_of (get build_place_cmp m (record { flight = i; awb = awb }))) same ∙ are.builds i awb ∙ due_stays s a p (meant by) plain awb (slice_get flights i);
-  others = λ w f none. ap unless_nothing (not_posted s a p (meant by) w (Built f) (off f p plain)) ∙ are.others w f none;
+  builds = λ i awb. ap (λ m. option_map build_row (get build_place_cmp m (record { flight = i; awb = awb }))) same ∙ are.builds i awb ∙ due_stays s a p by plain awb (slice_get flights i);
+  others = λ w f none. ap unless_nothing (not_posted s a p by w (Built f) (off f p plain)) ∙ are.others w f none;
 }
   where
     key_is : ◌≡◌ {A = CountKey} (key.awb, key.place) (pos a, pos (place_code p))
     key_is = λ i. (awb_is i, place_is i)
 
-    count_at : (q : CountKey) → count_told new q ≡ count_in (posting a p (meant by) s) q
+    count_at : (q : CountKey) → count_told new q ≡ count_in (posting a p by s) q
     count_at (w, c) =
-        ap (option_map count_of) (told (record { awb = w; place = c }))
-        ∙ mapped count_of (eq_by_cmp count_cmp (key.awb, key.place) (w, c)) (unless_zero (come_to (get count_place_cmp old.counts key) by)) (get count_place_cmp old.counts (record { awb = w; place = c }))
+        ap (option_map count_row) (told (record { awb = w; place = c }))
+        ∙ mapped count_row (eq_by_cmp count_cmp (key.awb, key.place) (w, c)) (unless_nothing (come_to (λ t. t) (get count_place_cmp old.counts key) by)) (get count_place_cmp old.counts (record { awb = w; place = c }))
         ∙ ap₂ (λ x y. cond (eq_by_cmp count_cmp (key.awb, key.place) (w, c)) x y)
-        (sum_count (get count_place_cmp old.counts key) (s a p) by (are.counts (key.awb, key.place) ∙ ap (count_in s) key_is ∙ codes.at_key s a p (meant by) plain))
+        (sum_row count_row running_in (λ t. refl) (get count_place_cmp old.counts key) (s a p) by (are.counts (key.awb, key.place) ∙ ap (count_in s) key_is ∙ codes.at_key s a p by plain))
         (are.counts (w, c))
-        ∙ ap (λ b. cond b (option_map count_row (unless_nothing (plus (s a p) (meant by)))) (count_in s (w, c)))
+        ∙ ap (λ b. cond b (option_map count_row (unless_nothing (plus (s a p) by))) (count_in s (w, c)))
         ((eq_by_cmp_equiv counts_total).symm (key.awb, key.place) (w, c) ∙ ap (λ k. eq_by_cmp count_cmp (w, c) k) key_is)
-        ∙ sym (codes.after s a p (meant by) plain (w, c))
+        ∙ sym (codes.after s a p by plain (w, c))
 
 -- on a flight
 
@@ -151,7 +103,7 @@ turned false false = refl
 pub key_eq : (i j : ℕ) (a w : ℤ) → eq_by_cmp build_place_cmp (record { flight = i; awb = a }) (record { flight = j; awb = w }) ≡ ((i == j) && int_eq a w)
 key_eq i j a w = pair_eq nat_cmp int_cmp (i, a) (j, w) ∙ ap₂ ◌&&◌ (nat_tied i j) (int_tied a w)
 
-module _ (flights : List FlightDate) (distinct : AreDistinct flights) (s : Sums) (a : ℕ) (f : FlightDate) (r : Running) (at : ℕ) (is : slice_get flights at ≡ Some f) where
+module _ (flights : List FlightDate) (distinct : AreDistinct flights) (s : Sums) (a : ℕ) (f : FlightDate) (r : Tally) (at : ℕ) (is : slice_get flights at ≡ Some f) where
   abbrev pub sum : Option Build
   sum = option_map build_row (unless_nothing (plus (s a (Built f)) r))
 
@@ -187,42 +139,42 @@ module _ (flights : List FlightDate) (distinct : AreDistinct flights) (s : Sums)
   pub none_other : (w : ℕ) (g : FlightDate) → ((i : ℕ) → slice_get flights i ≢ Some g) → posting a (Built f) r s w (Built g) ≡ s w (Built g)
   none_other w g none = not_posted s a (Built f) r w (Built g) (is_false _ (λ e. absurd (none at (is ∙ ap (λ x. Some x) (sym (same-is g f e))))))
 
-count_of_flight : (flights : List FlightDate) (s : Sums) (a : ℕ) (f : FlightDate) (r : Running) (q : CountKey) → count_in s q ≡ count_in (posting a (Built f) r s) q
+count_of_flight : (flights : List FlightDate) (s : Sums) (a : ℕ) (f : FlightDate) (r : Tally) (q : CountKey) → count_in s q ≡ count_in (posting a (Built f) r s) q
 count_of_flight flights s a f r q = sym (codes.counts_stay s a f r q)
 
 pub posted_build : (flights : List FlightDate) (old new : BookSums) (s : Sums) (key : BuildPlace) (by : Tally) → AreDistinct flights → AreSums flights old s
-    → ((q : BuildPlace) → get build_place_cmp new.builds q ≡ cond (eq_by_cmp build_place_cmp key q) (unless_zero (come_to (get build_place_cmp old.builds key) by)) (get build_place_cmp old.builds q))
+    → ((q : BuildPlace) → get build_place_cmp new.builds q ≡ cond (eq_by_cmp build_place_cmp key q) (unless_nothing (come_to (λ t. t) (get build_place_cmp old.builds key) by)) (get build_place_cmp old.builds q))
     → new.counts ≡ old.counts → (a : ℕ) (f : FlightDate) → key.awb ≡ pos a → slice_get flights key.flight ≡ Some f
-    → AreSums flights new (posting a (Built f) (meant by) s)
+    → AreSums flights new (posting a (Built f) by s)
 posted_build flights old new s key by distinct are told same a f awb_is flight_is = record {
-  counts = λ q. ap (λ m. option_map count_of (get count_place_cmp m (record { awb = q.0; place = q.1 }))) same ∙ are.counts q ∙ count_of_flight flights s a f (meant by) q;
+  counts = λ q. ap (λ m. option_map count_row (get count_place_cmp m (record { awb = q.0; place = q.1 }))) same ∙ are.counts q ∙ count_of_flight flights s a f by q;
   builds = λ i awb. build_at i awb;
-  others = λ w g none. ap unless_nothing (none_other flights distinct s a f (meant by) key.flight flight_is w g none) ∙ are.others w g none;
+  others = λ w g none. ap unless_nothing (none_other flights distinct s a f by key.flight flight_is w g none) ∙ are.others w g none;
 }
   where
-    old_at : option_map build_of (get build_place_cmp old.builds key) ≡ option_map build_row (unless_nothing (s a (Built f)))
-    old_at = are.builds key.flight key.awb ∙ ap (λ z. build_due s z (slice_get flights key.flight)) awb_is ∙ due_at flights distinct s a f (meant by) key.flight flight_is
+    old_at : option_map build_row (get build_place_cmp old.builds key) ≡ option_map build_row (unless_nothing (s a (Built f)))
+    old_at = are.builds key.flight key.awb ∙ ap (λ z. build_due s z (slice_get flights key.flight)) awb_is ∙ due_at flights distinct s a f by key.flight flight_is
 
-    build_at : (i : ℕ) (awb : ℤ) → build_told new i awb ≡ build_due (posting a (Built f) (meant by) s) awb (slice_get flights i)
+    build_at : (i : ℕ) (awb : ℤ) → build_told new i awb ≡ build_due (posting a (Built f) by s) awb (slice_get flights i)
     build_at i awb =
-        ap (option_map build_of) (told (record { flight = i; awb = awb }))
-        ∙ mapped build_of (eq_by_cmp build_place_cmp key (record { flight = i; awb = awb })) (unless_zero (come_to (get build_place_cmp old.builds key) by)) (get build_place_cmp old.builds (record { flight = i; awb = awb }))
-        ∙ ap₂ (λ x y. cond (eq_by_cmp build_place_cmp key (record { flight = i; awb = awb })) x y) (sum_build (get build_place_cmp old.builds key) (s a (Built f)) by old_at) (are.builds i awb)
-        ∙ ap (λ b. cond b (option_map build_row (unless_nothing (plus (s a (Built f)) (meant by)))) (build_due s awb (slice_get flights i)))
+        ap (option_map build_row) (told (record { flight = i; awb = awb }))
+        ∙ mapped build_row (eq_by_cmp build_place_cmp key (record { flight = i; awb = awb })) (unless_nothing (come_to (λ t. t) (get build_place_cmp old.builds key) by)) (get build_place_cmp old.builds (record { flight = i; awb = awb }))
+        ∙ ap₂ (λ x y. cond (eq_by_cmp build_place_cmp key (record { flight = i; awb = awb })) x y) (sum_row build_row running_on (λ t. refl) (get build_place_cmp old.builds key) (s a (Built f)) by old_at) (are.builds i awb)
+        ∙ ap (λ b. cond b (option_map build_row (unless_nothing (plus (s a (Built f)) by))) (build_due s awb (slice_get flights i)))
         (key_eq key.flight i key.awb awb ∙ ap (λ z. (key.flight == i) && int_eq z awb) awb_is)
-        ∙ sym (due_after flights distinct s a f (meant by) key.flight flight_is i awb)
+        ∙ sym (due_after flights distinct s a f by key.flight flight_is i awb)
 
 -- ---- a move
 
 pub moved : (flights : List FlightDate) (book : List Move) (m : Move) (p : Posting) (back : Tally) (new : BookSums) → IsPosting flights p m
     → back ≡ record { pieces = neg_ℤ p.amount.pieces; tenths = neg_ℤ p.amount.tenths }
-    → AreSums flights new (posting m.awb m.to (meant p.amount) (posting m.awb m.from (meant back) (running book)))
+    → AreSums flights new (posting m.awb m.to p.amount (posting m.awb m.from back (running book)))
     → AreSums flights new (running (book ++ m ∷ []))
 moved flights book m p back new is back_is are =
-    let came : meant p.amount ≡ come m = λ i. record { pieces = is.pieces_is i; tenths = is.tenths_is i } in
-    let went : meant back ≡ gone m = ap meant back_is ∙ (λ i. record { pieces = neg_ℤ (is.pieces_is i); tenths = neg_ℤ (is.tenths_is i) }) in
+    let came : p.amount ≡ come m = λ i. record { pieces = is.pieces_is i; tenths = is.tenths_is i } in
+    let went : back ≡ gone m = back_is ∙ (λ i. record { pieces = neg_ℤ (is.pieces_is i); tenths = neg_ℤ (is.tenths_is i) }) in
     subst (AreSums flights new)
-    (ap (λ r. posting m.awb m.to r (posting m.awb m.from (meant back) (running book))) came
+    (ap (λ r. posting m.awb m.to r (posting m.awb m.from back (running book))) came
     ∙ ap (λ r. posting m.awb m.to (come m) (posting m.awb m.from r (running book))) went
     ∙ sums_then book m)
     are

@@ -1,37 +1,13 @@
 -- A row of `moves` as it is posted.
 use Rattle.std.proofs.Common.{◌≡◌, ◌==◌, ℕ, ◌<◌, ◌≤◌, ℤ, pos, negsuc, Bool, true, false, cond, ◌&&◌, ◌||◌, Option, Some, None, option_map, List, [], ◌∷◌, map, length, get_or, slice_get, refl, sym, ap, ap₂, subst, ◌∙◌, true≢false, arith, int_eq, Equal}
-use Rattle.std.specs.Prelude.{IsSome}
-use Rattle.std.specs.FinMap.{entries, get}
-use Rattle.std.proofs.lemmas.Bool.{and_parts, and_from}
-use Rattle.std.proofs.lemmas.Bool.Decides.{nat_tests}
-use Rattle.std.proofs.lemmas.Int.{ints}
-use Rattle.table_load.specs.declared.flight.FlightEntry.{FlightEntry}
-use Rattle.table_load.specs.Held.{flight_entry}
+use Rattle.table_audits.proofs.Common.{IsSome, entries, get, and_parts, and_from, nat_tests, ints, FlightEntry, flight_entry, FlightDate, Move, Outbound, Place, Built, is_pair, IsNoted, NamesFlight, IsLawfulMove, Flight, FlightKey, Waybill, flight_cmp, flight_same, natural, is_within, is_day, is_flight_text, is_designator, flight_key, flight_date_of, outbound_by, place_code, move_by, is_move_row, are_flight_columns, cargo_in, has_waybill, is_built, some_is, none_is, IsPosting, flight_in, is_fit_move, AreBeside, listed_in, posting_in, IsSpotOf, IsGoodRow, IsPosted}
 use Rattle.shipment_machine.specs.Cargo.{Cargo}
-use Rattle.shipment_machine.specs.declared.flight.FlightDate.{FlightDate}
-use Rattle.shipment_machine.specs.declared.moves.Move.{Move}
-use Rattle.shipment_machine.specs.declared.moves.Outbound.{Outbound}
-use Rattle.shipment_machine.specs.declared.moves.Place.{Place}
-use Rattle.shipment_machine.specs.declared.moves.Place.TheVariants.{Hand, Surplus, Free, Built, Departed, Delivered, Missing, Transferred}
-use Rattle.shipment_machine.specs.Lawful.{is_pair, IsNoted, NamesFlight, IsLawfulMove}
 use Rattle.station_schema.specs.Tables as table
-use Rattle.station_schema.specs.Tables.{Flight, FlightKey, Waybill, flight_cmp}
-use Rattle.station_schema.proofs.Keys.{flight_same}
-use Rattle.row_codec.specs.Numbers.{natural, is_within, is_day}
-use Rattle.row_codec.specs.Flights.{is_flight_text, is_designator, flight_key, flight_date_of, outbound_by}
-use Rattle.row_codec.specs.Moves.{place_code, move_by, is_move_row, are_flight_columns}
 use Rattle.row_codec.proofs.MoveRows.{columns_again, columns_of}
-use Rattle.table_audits.specs.Lawful.{cargo_in}
-use Rattle.table_audits.specs.Rows.{has_waybill}
 use Rattle.table_audits.proofs.DeclaredLaws.{declared_from, declared_back}
 use Rattle.table_audits.proofs.FlightRows.{flight_at}
-use Rattle.running_totals.specs.Sums.{is_built}
-use Rattle.running_totals.proofs.Tests.{some_is, none_is}
 use Rattle.table_audits.specs.declared.sums.Spot.{Spot}
 use Rattle.table_audits.specs.declared.sums.Spot.TheVariants.{Plain, OnFlight}
-use Rattle.table_audits.specs.Sums.{IsPosting}
-use Rattle.table_audits.specs.Audited.{flight_in, is_fit_move}
-use Rattle.table_audits.specs.Posted.{AreBeside, listed_in, posting_in, IsSpotOf, IsGoodRow, IsPosted}
 use Rattle.table_audits.proofs.Lists.{element, got_map}
 use Rattle.table_audits.proofs.Listed.{IsNamed, row_named, noted_row}
 use Rattle.table_audits.proofs.Places.{read_names}
@@ -55,13 +31,7 @@ module _ (t : table.Tables) (ws : List Waybill) (fs : List FlightEntry) (by : Ar
 
   pub found_spot : (p : Place) → is_built p ≡ true → NamesFlight p (flight_date_of row.flight row.fday) → IsSpotOf t p (OnFlight i)
   found_spot (Built g) built names = flight_found g names
-  found_spot Hand built names = absurd (true≢false (sym built))
-  found_spot Surplus built names = absurd (true≢false (sym built))
-  found_spot Free built names = absurd (true≢false (sym built))
-  found_spot Departed built names = absurd (true≢false (sym built))
-  found_spot Delivered built names = absurd (true≢false (sym built))
-  found_spot Missing built names = absurd (true≢false (sym built))
-  found_spot Transferred built names = absurd (true≢false (sym built))
+  found_spot _ built names = absurd (true≢false (sym built))
 
 no_outbound : (b : Bool) (o : Option Flight) → o ≡ None → IsSome (cond b (option_map outbound_by o) None) → ⊥
 no_outbound true None e is = true≢false (sym is)
@@ -88,25 +58,13 @@ pub lost_spot : (t : table.Tables) (row : table.Move) → are_flight_columns row
     → (p : Place) → is_built p ≡ true → NamesFlight p (flight_date_of row.flight row.fday) → IsNoted (cargo_in t) p → ⊥
 lost_spot t row columns none (Built g) built names noted =
     no_outbound (is_designator g.flight) (get t.flights (flight_key g)) (ap (get t.flights) (key_of row.flight row.fday g columns names) ∙ none) noted
-lost_spot t row columns none Hand built names noted = true≢false (sym built)
-lost_spot t row columns none Surplus built names noted = true≢false (sym built)
-lost_spot t row columns none Free built names noted = true≢false (sym built)
-lost_spot t row columns none Departed built names noted = true≢false (sym built)
-lost_spot t row columns none Delivered built names noted = true≢false (sym built)
-lost_spot t row columns none Missing built names noted = true≢false (sym built)
-lost_spot t row columns none Transferred built names noted = true≢false (sym built)
+lost_spot t row columns none _ built names noted = true≢false (sym built)
 
 -- ---- a place that isn't built
 
 noted_plain : (s : Cargo) (p : Place) → is_built p ≡ false → IsNoted s p
-noted_plain s Hand h = tt
-noted_plain s Surplus h = tt
-noted_plain s Free h = tt
 noted_plain s (Built f) h = absurd (true≢false h)
-noted_plain s Departed h = tt
-noted_plain s Delivered h = tt
-noted_plain s Missing h = tt
-noted_plain s Transferred h = tt
+noted_plain s _ h = tt
 
 pub plain_spot : (t : table.Tables) (p : Place) (code : ℤ) → is_built p ≡ false → code ≡ pos (place_code p) → IsSpotOf t p (Plain code)
 plain_spot t p code not_built is = record { spot_is = (not_built, is); noted = noted_plain (cargo_in t) p not_built }

@@ -1,38 +1,15 @@
 -- What a row within range holds as a text is one.
 use Rattle.std.proofs.Common.{◌≡◌, ◌&&◌, ◌∙◌, ℕ, ℤ, pos, negsuc, ◌<◌, ◌==◌, Bool, true, false, List, [], ◌∷◌, length, Some, None, refl, sym, subst, arith}
-use Rattle.std.specs.Prelude.{◌||◌, if◌then◌else◌, is_some}
-use Rattle.std.specs.List.{AllByRecursion}
-use Rattle.std.specs.FinMap.{FinMap, entries}
-use Rattle.std.specs.Ordering.{int_eq}
-use Rattle.std.specs.Str.{IsAscii}
-use Rattle.std.proofs.lemmas.Bool.{and_parts}
-use Rattle.std.proofs.lemmas.Bool.Decides.{nat_tests}
-use Rattle.std.proofs.lemmas.Str.{is_utf8-from_IsUtf8, IsUtf8-from_ascii}
+use Rattle.table_audits.proofs.Common.{◌||◌, if◌then◌else◌, is_some, AllByRecursion, FinMap, entries, int_eq, IsAscii, and_parts, nat_tests, is_utf8-from_IsUtf8, IsUtf8-from_ascii, is_airport, is_printable, flight_of, Waybill, Stock, StockKey, Flight, FlightKey, Expected, ExpectedKey, PartKey, TrailLine, Message, Kept, Build, BuildKey, build_cmp, build_total, IsText, HasWaybillTexts, HasStockTexts, HasFlightTexts, HasMovesTexts, HasExpectedTexts, HasPartTexts, HasTrailTexts, HasOutboxTexts, HasKeptKeyTexts, HasKeptTextTexts, HasBuildTexts, is_day, is_waybill_row, unnamed_holder, is_stock_row, is_flight_text, is_flight_row, is_move_row, AreBuilds, is_expected_row, is_part_row, is_trail_row, is_message_row, is_kept_row, is_kept_text_row, is_one, each_entry, build_in, build_here, running}
 use Rattle.std.proofs.lemmas.Str.Ascii.{IsAscii-nil}
 use Rattle.awb_number.specs.Ascii.{IsAscii-tested, ascii-letter_or_digit}
 use Rattle.awb_number.specs.Digits.{is_letter_or_digit}
-use Rattle.imp_fields.specs.Airport.{is_airport}
-use Rattle.imp_fields.specs.Characters.{is_printable}
-use Rattle.imp_fields.specs.Flight.{flight_of}
 use Rattle.agent_stock.specs.Code.{is_agent_code}
 use Rattle.agent_stock.specs.declared.stock.Holder.TheVariants as holder
 use Rattle.shipment_machine.specs.declared.moves.Move as cargo
 use Rattle.desk_commands.proofs.Ascii.{IsAscii-airport, IsAscii-goods, IsAscii-flight}
 use Rattle.station_core.specs.Key.{is_key_byte}
-use Rattle.station_schema.specs.Tables.{Waybill, Stock, StockKey, Flight, FlightKey, Move, Expected, ExpectedKey, PartKey, TrailLine, Message, Kept, Build, BuildKey, build_cmp}
-use Rattle.station_schema.proofs.Keys.{build_total, build_same}
-use Rattle.table_load.specs.Held.{IsText, HasWaybillTexts, HasStockTexts, HasFlightTexts, HasMovesTexts, HasExpectedTexts, HasPartTexts, HasTrailTexts, HasOutboxTexts, HasKeptKeyTexts, HasKeptTextTexts, HasBuildTexts}
-use Rattle.row_codec.specs.Numbers.{is_day}
-use Rattle.row_codec.specs.Waybills.{is_waybill_row}
-use Rattle.row_codec.specs.Stock.{unnamed_holder, is_stock_row}
-use Rattle.row_codec.specs.Flights.{is_flight_text, is_flight_row}
-use Rattle.row_codec.specs.Moves.{is_move_row}
-use Rattle.row_codec.specs.Counts.{AreBuilds, built_up, build_at}
-use Rattle.row_codec.specs.Manifests.{is_expected_row, is_part_row}
-use Rattle.row_codec.specs.Logs.{is_trail_row, is_message_row}
-use Rattle.row_codec.specs.Replies.{is_kept_row, is_kept_text_row}
-use Rattle.row_codec.proofs.FlightKeys.{is_one}
-use Rattle.row_codec.proofs.MapLaws.{each_entry}
+use Rattle.station_schema.specs.Tables.{Move}
 use Rattle.table_audits.proofs.FlightRows.{text_of}
 
 -- ---- texts of ASCII
@@ -120,14 +97,14 @@ kept_text_texts row h = (and_parts _ _ h).0
 
 -- a load is of a flight in written form
 module _ (builds : FinMap build_cmp Build) (book : List cargo.Move) (are : AreBuilds builds book) where
-  written : (text : List ℕ) (b : Bool) (day w : ℕ) (row : Build) → is_flight_text text ≡ b → build_at book day w (if b then flight_of text else None) ≡ Some row → IsText text
+  written : (text : List ℕ) (b : Bool) (day w : ℕ) (row : Build) → is_flight_text text ≡ b → build_here (running book) day w (if b then flight_of text else None) ≡ Some row → IsText text
   written text true day w row is has = flight text is
   written text false day w row is has = absurd (cc)
 
-  load : (key : BuildKey) (row : Build) → built_up book key ≡ Some row → IsText key.0
+  load : (key : BuildKey) (row : Build) → build_in (running book) key ≡ Some row → IsText key.0
   load (text, (pos day, pos w)) row has = written text (is_flight_text text) day w row refl has
   load (text, (pos day, negsuc w)) row has = absurd (cc)
   load (text, (negsuc day, w)) row has = absurd (cc)
 
   pub build_texts : AllByRecursion HasBuildTexts (entries builds)
-  build_texts = each_entry build_cmp build_total build_same HasBuildTexts builds (λ key row has. load key row (sym (are key) ∙ has))
+  build_texts = each_entry build_cmp build_total HasBuildTexts builds (λ key row has. load key row (sym (are key) ∙ has))

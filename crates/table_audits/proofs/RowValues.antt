@@ -1,15 +1,9 @@
 -- A row that was read is lawful exactly where its value is.
 use Rattle.std.proofs.Common.{◌≡◌, ℕ, ℤ, pos, negsuc, Bool, true, false, ◌&&◌, Option, Some, None, option_map, List, sym, ap, ◌∙◌, refl, arith}
-use Rattle.std.specs.Prelude.{int_le, nat_le}
-use Rattle.std.proofs.lemmas.Int.{ints}
-use Rattle.shipment_machine.specs.declared.flight.FlightDate.{FlightDate}
+use Rattle.table_audits.proofs.Common.{int_le, nat_le, ints, FlightDate, Expected, ExpectedKey, Flight, FlightKey, natural, is_within, flight_date_of, noted_by, outbound_by, expectation_by, expected_by, is_expected_row}
 use Rattle.shipment_machine.specs.declared.moves.Expected as cargo
 use Rattle.station_core.specs.declared.rows.Expectation.{Expectation}
 use Rattle.station_core.specs.declared.rows.NotedFlight.{NotedFlight}
-use Rattle.station_schema.specs.Tables.{Expected, ExpectedKey, Flight, FlightKey}
-use Rattle.row_codec.specs.Numbers.{natural, is_within}
-use Rattle.row_codec.specs.Flights.{flight_date_of, noted_by, outbound_by}
-use Rattle.row_codec.specs.Manifests.{expectation_by, expected_by, is_expected_row}
 use Rattle.table_audits.proofs.Each.{natural_again}
 use Rattle.table_audits.proofs.ExpectedLaws.{in_range}
 

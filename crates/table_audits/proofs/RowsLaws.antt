@@ -1,15 +1,7 @@
 -- The rows of `moves` are lawful exactly where each is good.
 use Rattle.std.proofs.Common.{◌≡◌, true}
-use Rattle.std.specs.List.{AllByRecursion}
-use Rattle.sqlite_keyed.proofs.ListLemmas.{all_from_test, test_from_all, all_map, all_unmap, all_both, all_weaker}
-use Rattle.shipment_machine.specs.Lawful.{IsLawfulMove}
+use Rattle.table_audits.proofs.Common.{AllByRecursion, all_from_test, test_from_all, all_map, all_unmap, all_both, all_weaker, IsLawfulMove, move_id, AreNumbered, move_by, is_move_row, cargo_in, AreMoveRows, IsGoodRow}
 use Rattle.station_schema.specs.Tables as table
-use Rattle.station_schema.specs.Tables.{move_id}
-use Rattle.row_codec.specs.Numbers.{AreNumbered}
-use Rattle.row_codec.specs.Moves.{move_by, is_move_row}
-use Rattle.table_audits.specs.Lawful.{cargo_in}
-use Rattle.table_audits.specs.Audited.{AreMoveRows}
-use Rattle.table_audits.specs.Posted.{IsGoodRow}
 
 module _ (t : table.Tables) where
   pub rows_good : AreMoveRows t → AllByRecursion (IsGoodRow t) t.moves

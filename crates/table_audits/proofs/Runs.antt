@@ -1,20 +1,7 @@
 -- Sums of one flight stand next to one another, so that they are counted in one pass.
 use Rattle.std.proofs.Common.{◌≡◌, ◌≢◌, ℕ, ◌+◌, ◌<◌, ◌≤◌, ◌==◌, arith, Bool, true, false, cond, ◌&&◌, ◌↔◌, IsTrue, List, [], ◌∷◌, length, refl, sym, ap, subst, ◌∙◌, true≢false, nat_cmp, int_cmp, Ordering, Less, Equal, Greater}
-use Rattle.std.specs.Prelude.{nat_le}
-use Rattle.std.specs.Ordering.{ordering_then}
-use Rattle.std.specs.List.{AllByRecursion}
+use Rattle.table_audits.proofs.Common.{nat_le, ordering_then, AllByRecursion, ranked, nat_cmp-IsAntisymmetric, keys_of, and_parts, and_from, leb-true, le-leb, nat_tests, IsAscending, all_weaker, Tally, BuildPlace, build_place_cmp, on_flight}
 use Rattle.std.specs.List.Sorted.{IsStrictlySortedBy}
-use Rattle.std.specs.Cmp.{ranked}
-use Rattle.std.specs.FinMap.{nat_cmp-IsAntisymmetric}
-use Rattle.std.specs.Map.{keys_of}
-use Rattle.std.proofs.lemmas.Bool.{and_parts, and_from, leb-true, le-leb}
-use Rattle.std.proofs.lemmas.Bool.Decides.{nat_tests}
-use Rattle.sqlite.specs.Tree.{IsAscending}
-use Rattle.sqlite_keyed.proofs.ListLemmas.{all_weaker}
-use Rattle.table_audits.specs.declared.tally.Tally.{Tally}
-use Rattle.table_audits.specs.declared.sums.BuildPlace.{BuildPlace}
-use Rattle.table_audits.specs.Sums.{build_place_cmp}
-use Rattle.table_audits.specs.Balances.{on_flight}
 
 -- the length of a run of sums of one flight, one sum on
 abbrev pub on_run : ℕ → ℕ → ℕ → ℕ

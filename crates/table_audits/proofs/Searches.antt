@@ -1,28 +1,11 @@
 -- What a binary search finds among rows in the order of their keys, each key once.
 use Rattle.std.proofs.Common.{◌≡◌, ℕ, zero, suc, ◌<◌, ◌≤◌, ℤ, Bool, true, false, cond, ◌||◌, List, [], ◌∷◌, map, length, slice_index_or, is_some, Option, Some, None, Result, Ok, Err, refl, sym, ap, ap₂, ◌∙◌, subst, int_cmp, int_eq, is_eq, Ordering, Less, Equal, arith}
-use Rattle.std.specs.Prelude.{find}
+use Rattle.table_audits.proofs.Common.{find, list_any, AllByRecursion, IsBinarySearchResult, IsSearchInRange, IsTotalOrder, on_total, int_cmp_total, eq_by_cmp, cases_Bool, nat_tests, FinMap, IsAntisymmetric, entries, get, contains_key, get-entries, eq_by_cmp_equiv, entries_rise, each_entry, IsAscending, has_key, int_tied, waybill_id, WaybillRow, waybill_meant, RisesByNumber}
 use Rattle.std.specs.Result.{is_ok}
-use Rattle.std.specs.List.{list_any, AllByRecursion}
-use Rattle.std.specs.List.Sorted.{IsBinarySearchResult, IsSearchInRange}
-use Rattle.std.specs.Cmp.{IsTotalOrder, on_total, int_cmp_total}
-use Rattle.std.specs.Ordering.{eq_by_cmp}
 use Rattle.std.proofs.lemmas.List.Sorted.{searchable_from_sorted}
-use Rattle.std.proofs.lemmas.Bool.{cases_Bool}
 use Rattle.std.proofs.Common.{nat_lt, inl, inr}
-use Rattle.std.proofs.lemmas.Bool.Decides.{nat_tests}
-use Rattle.std.specs.FinMap.{FinMap, IsAntisymmetric, entries, get, contains_key, get-entries}
 use Rattle.std.specs.FinMap.{find as find_entry}
-use Rattle.std.specs.Cmp.{eq_by_cmp_equiv}
-use Rattle.station_schema.proofs.Maps.{entries_rise}
-use Rattle.row_codec.proofs.MapLaws.{each_entry}
-use Rattle.sqlite.specs.Tree.{IsAscending}
-use Rattle.sqlite_keyed.specs.Keyed.{has_key}
 use Rattle.table_load.proofs.TableLemmas.{ascending_sorted}
-use Rattle.station_schema.proofs.OneRow.{int_tied}
-use Rattle.station_schema.specs.Tables.{waybill_id}
-use Rattle.station_rows.specs.declared.waybills.WaybillRow.{WaybillRow}
-use Rattle.station_rows.specs.Meant.{waybill_meant}
-use Rattle.table_audits.specs.Order.{RisesByNumber}
 use Rattle.table_audits.proofs.Lists.{all_at, or_yes}
 
 -- ---- lists
@@ -99,7 +82,7 @@ module _ {X K V : Type 0} (R : K → K → Ordering) (total : IsTotalOrder R) (s
 
     pub entry_at : (i : ℕ) (d : X) → i < length xs → ((e : X) → R (f (slice_index_or xs i e)).0 q ≡ Equal) → get m q ≡ Some (f (slice_index_or xs i d)).1
     entry_at i d low h =
-        let is : get m (f (slice_index_or xs i d)).0 ≡ Some (f (slice_index_or xs i d)).1 = all_at (λ x. get m (f x).0 ≡ Some (f x).1) xs (all_from_map f (λ e. get m e.0 ≡ Some e.1) xs (subst (AllByRecursion (λ e. get m e.0 ≡ Some e.1)) are (each_entry R total same (λ e. get m e.0 ≡ Some e.1) m (λ k v has. has)))) i d low in
+        let is : get m (f (slice_index_or xs i d)).0 ≡ Some (f (slice_index_or xs i d)).1 = all_at (λ x. get m (f x).0 ≡ Some (f x).1) xs (all_from_map f (λ e. get m e.0 ≡ Some e.1) xs (subst (AllByRecursion (λ e. get m e.0 ≡ Some e.1)) are (each_entry R total (λ e. get m e.0 ≡ Some e.1) m (λ k v has. has)))) i d low in
         subst (λ k. get m k ≡ Some (f (slice_index_or xs i d)).1) (same _ q (h d)) is
 
     pub no_entry : (i : ℕ) → i ≤ length xs → IsBinarySearchResult (λ x. R (f x).0 q) xs (Err i) → get m q ≡ None

@@ -1,13 +1,9 @@
 -- Entries in the order of their keys: those of a map, and those of another that is made of them.
 use Rattle.std.proofs.Common.{◌≡◌, Bool, true, false, cond, ◌&&◌, T, List, [], ◌∷◌, Some, refl, sym, ap, subst, ◌∙◌, is_eq, is_lt, Ordering, Less}
-use Rattle.std.specs.List.{AllByRecursion}
+use Rattle.table_audits.proofs.Common.{AllByRecursion, IsTotalOrder, FinMap, is_sorted, entries, get, from_sorted, get-from_sorted, entries-from_sorted, same_map, IsAntisymmetric, below_all, is_at, lookup, keys_of}
 use Rattle.std.specs.List.Sorted.{IsStrictlySortedBy}
-use Rattle.std.specs.Cmp.{IsTotalOrder}
-use Rattle.std.specs.FinMap.{FinMap, find, is_sorted, entries, get, from_sorted, get-from_sorted, entries-from_sorted, same_map, IsAntisymmetric}
-use Rattle.std.specs.FinMap.Entries.{below_all}
-use Rattle.std.specs.BTreeMap.{is_at}
-use Rattle.std.specs.Map.{lookup, keys_of}
-use Rattle.running_totals.proofs.Entries.{each_entry}
+use Rattle.std.specs.FinMap.{find}
+use Rattle.row_codec.proofs.MapLaws.{each_entry}
 
 pub both : (a b : Bool) → T a → T b → T (a && b)
 both true b p q = q

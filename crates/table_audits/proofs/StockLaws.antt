@@ -1,18 +1,10 @@
 -- The rows of `stock` are lawful exactly where the table is.
 use Rattle.std.proofs.Common.{◌≡◌, ℕ, pos, Bool, true, false, cond, ◌==◌, Option, Some, None, is_some, List, [], ◌∷◌, length, refl, sym, ap, subst, ◌∙◌, int_eq, true≢false, arith}
-use Rattle.std.specs.Prelude.{find, IsSome}
+use Rattle.table_audits.proofs.Common.{find, IsSome, AllByRecursion, entries, ints, all_weaker, all_both, all_from_test, test_from_all, Tables, Stock, StockKey, holder_by, stands_for, holders_in, is_stock_row, are_apart, AreStocks, cargo_in, has_waybill, IsLawfulStock}
 use Rattle.std.specs.Option.{option_and_then}
-use Rattle.std.specs.List.{AllByRecursion}
-use Rattle.std.specs.FinMap.{entries}
-use Rattle.std.proofs.lemmas.Int.{ints}
-use Rattle.sqlite_keyed.proofs.ListLemmas.{all_weaker, all_both, all_from_test, test_from_all}
 use Rattle.agent_stock.specs.Code.{is_agent_code}
 use Rattle.agent_stock.specs.declared.stock.Holder.{Holder}
 use Rattle.agent_stock.specs.declared.stock.Holder.TheVariants as holder
-use Rattle.station_schema.specs.Tables.{Tables, Stock, StockKey}
-use Rattle.row_codec.specs.Stock.{holder_by, stands_for, holders_in, is_stock_row, are_apart}
-use Rattle.table_audits.specs.Lawful.{AreStocks, cargo_in}
-use Rattle.table_audits.specs.Rows.{has_waybill, IsLawfulStock}
 use Rattle.table_audits.proofs.Each.{found_test}
 use Rattle.table_audits.proofs.DeclaredLaws.{declared_from, declared_back}
 use Rattle.table_audits.proofs.StockRows.{in_range, between, stands, IsFound, each_found}

@@ -1,16 +1,7 @@
 -- The numbers of a row of `stock`, and rows that are apart.
 use Rattle.std.proofs.Common.{◌≡◌, ℕ, zero, suc, ◌+◌, ◌*◌, ◌/◌, ◌%◌, ◌≤◌, ◌<◌, ℤ, pos, negsuc, Bool, true, false, cond, ◌&&◌, ◌||◌, Some, is_some, List, [], ◌∷◌, map, length, slice_index_or, refl, sym, ap, subst, ◌∙◌, int_eq, true≢false, arith}
-use Rattle.std.specs.Prelude.{find, int_le, int_lt, IsTrue, ◌↔◌, MatchBool}
-use Rattle.std.specs.List.{AllByRecursion, AllWithin, HoldsAt, AllAdjacentBelow, IsAllAdjacentAnswer, list_all}
-use Rattle.std.proofs.lemmas.Bool.{and_parts, and_from}
-use Rattle.std.proofs.lemmas.Bool.Decides.{Decides-int_eq}
-use Rattle.std.proofs.lemmas.Int.{ints}
-use Rattle.sqlite_keyed.proofs.ListLemmas.{all_weaker, all_both}
+use Rattle.table_audits.proofs.Common.{find, int_le, int_lt, IsTrue, ◌↔◌, MatchBool, AllByRecursion, AllWithin, HoldsAt, AllAdjacentBelow, IsAllAdjacentAnswer, list_all, and_parts, and_from, Decides-int_eq, ints, all_weaker, all_both, Stock, StockKey, is_within, holder_by, stands_for, is_stock_row, is_behind, are_apart, number_at}
 use Rattle.awb_number.specs.Number.{prefix_of, serial_of}
-use Rattle.station_schema.specs.Tables.{Stock, StockKey}
-use Rattle.row_codec.specs.Numbers.{is_within}
-use Rattle.row_codec.specs.Stock.{holder_by, stands_for, is_stock_row, is_behind, are_apart}
-use Rattle.table_audits.specs.Rows.{number_at}
 
 -- ---- the numbers of a row
 

@@ -1,37 +1,14 @@
 -- What a sum at a place says of the place.
 use Rattle.std.proofs.Common.{◌≡◌, ◌≢◌, ℕ, zero, suc, ◌+◌, ◌-◌, ◌<◌, ◌≤◌, ◌==◌, arith, ℤ, pos, negsuc, ◌-ℤ◌, neg_ℤ, Bool, true, false, cond, ◌&&◌, nat_lt, List, Option, Some, None, option_map, refl, sym, ap, ap₂, ◌∙◌, true≢false, int_eq}
-use Rattle.std.specs.Prelude.{int_le, nat_le}
-use Rattle.std.proofs.lemmas.Bool.{and_parts, and_from}
-use Rattle.std.proofs.lemmas.Bool.Decides.{nat_tests}
-use Rattle.std.proofs.lemmas.Int.{ints}
-use Rattle.shipment_machine.specs.declared.flight.FlightDate.{FlightDate}
-use Rattle.shipment_machine.specs.declared.moves.Move.{Move}
-use Rattle.shipment_machine.specs.declared.moves.Place.{Place}
-use Rattle.shipment_machine.specs.declared.moves.Place.TheVariants.{Hand, Built}
+use Rattle.table_audits.proofs.Common.{int_le, nat_le, and_parts, and_from, nat_tests, ints, FlightDate, Move, Place, Hand, Built, pieces_of, tenths_of, same_place, moved_in, moved_out, built, drawn, IsStocked, IsCovered, Tally, running, is_nothing, unless_nothing, natural, some_is, is_int, BookSums, is_covered, is_left, drawn_by, drawn_at}
 use Rattle.shipment_machine.specs.Amount.{amount}
-use Rattle.shipment_machine.specs.Book.{pieces_of, tenths_of, same_place, moved_in, moved_out, built, drawn}
-use Rattle.shipment_machine.specs.Lawful.{IsStocked, IsCovered}
-use Rattle.row_codec.specs.Counts.{Running, running, is_nothing, unless_nothing, running_in, running_on, count_row, build_row}
-use Rattle.row_codec.specs.Numbers.{natural}
-use Rattle.running_totals.proofs.Tests.{some_is, is_int}
-use Rattle.table_audits.specs.declared.tally.Tally.{Tally}
-use Rattle.table_audits.specs.declared.sums.BookSums.{BookSums}
-use Rattle.table_audits.specs.Sums.{meant, count_of, build_of}
-use Rattle.table_audits.specs.Balances.{is_covered, is_left, drawn_by, drawn_at, is_within}
+use Rattle.table_audits.specs.Balances.{is_within}
+use Rattle.row_codec.proofs.Storing.{rows_again}
 
 -- ---- rows and what they mean
 
-pub meant_count : (o : Option Tally) (u : Option Running) → option_map count_of o ≡ option_map count_row u → option_map meant o ≡ u
-meant_count None None h = refl
-meant_count None (Some r) h = absurd (cc)
-meant_count (Some t) None h = absurd (cc)
-meant_count (Some t) (Some r) h = ap (option_map running_in) h
-
-pub meant_build : (o : Option Tally) (u : Option Running) → option_map build_of o ≡ option_map build_row u → option_map meant o ≡ u
-meant_build None None h = refl
-meant_build None (Some r) h = absurd (cc)
-meant_build (Some t) None h = absurd (cc)
-meant_build (Some t) (Some r) h = ap (option_map running_on) h
+pub row_tally : {V : Type 0} (row : Tally → V) (read : V → Tally) → ((t : Tally) → read (row t) ≡ t) → (o u : Option Tally) → option_map row o ≡ option_map row u → o ≡ u
+row_tally row read same o u h = sym (rows_again row read same o) ∙ ap (option_map read) h ∙ rows_again row read same u
 
 -- ---- numbers
 
@@ -115,29 +92,29 @@ module _ (book : List Move) (w : ℕ) (p : Place) where
           and_from _ _ (some_left came went more) (heavy_left came went came_weight went_weight a b c)
 
   -- a sum and the place
-  even_where : (b : Bool) (r : Running) → ◌≡◌ {A = Option Running} None (cond b None (Some r)) → b ≡ true
+  even_where : (b : Bool) (r : Tally) → ◌≡◌ {A = Option Tally} None (cond b None (Some r)) → b ≡ true
   even_where true r h = refl
   even_where false r h = absurd (cc)
 
-  left_where : (b : Bool) (r s : Running) → Some s ≡ cond b None (Some r) → (b ≡ false) × (s ≡ r)
+  left_where : (b : Bool) (r s : Tally) → Some s ≡ cond b None (Some r) → (b ≡ false) × (s ≡ r)
   left_where true r s h = absurd (cc)
   left_where false r s h = (refl, some_is s r h)
 
   pub told_even : None ≡ unless_nothing (running book w p) → is_nothing (running book w p) ≡ true
   told_even h = even_where (is_nothing (running book w p)) (running book w p) h
 
-  pub told_left : (t : Tally) → Some (meant t) ≡ unless_nothing (running book w p) → (is_nothing (running book w p) ≡ false) × (meant t ≡ running book w p)
-  told_left t h = left_where (is_nothing (running book w p)) (running book w p) (meant t) h
+  pub told_left : (t : Tally) → Some t ≡ unless_nothing (running book w p) → (is_nothing (running book w p) ≡ false) × (t ≡ running book w p)
+  told_left t h = left_where (is_nothing (running book w p)) (running book w p) t h
 
-  pub told_stocked : (o : Option Tally) → option_map meant o ≡ unless_nothing (running book w p) → ((t : Tally) → o ≡ Some t → is_left (meant t) ≡ true) → IsStocked book w p
+  pub told_stocked : (o : Option Tally) → o ≡ unless_nothing (running book w p) → ((t : Tally) → o ≡ Some t → is_left t ≡ true) → IsStocked book w p
   told_stocked None h lawful = stocked_even (told_even h)
   told_stocked (Some t) h lawful = stocked_left (ap is_left (sym (told_left t h).1) ∙ lawful t refl)
 
-  pub stocked_told : (t : Tally) → Some (meant t) ≡ unless_nothing (running book w p) → IsStocked book w p → is_left (meant t) ≡ true
+  pub stocked_told : (t : Tally) → Some t ≡ unless_nothing (running book w p) → IsStocked book w p → is_left t ≡ true
   stocked_told t h is = ap is_left (told_left t h).1 ∙ left_stocked is (told_left t h).0
 
   -- what came from a place outside
-  pub told_drawn : (o : Option Tally) → option_map meant o ≡ unless_nothing (running book w p) → drawn_by o ≡ drawn book w (same_place p)
+  pub told_drawn : (o : Option Tally) → o ≡ unless_nothing (running book w p) → drawn_by o ≡ drawn book w (same_place p)
   told_drawn None h =
       let two = and_parts _ _ (told_even h) in
       let a = all_gone came went (is_int (pos came -ℤ pos went) (pos 0) two.0) in
@@ -147,7 +124,7 @@ module _ (book : List Move) (w : ℕ) (p : Place) where
       ap₂ amount c d
   told_drawn (Some t) h =
       let same = (told_left t h).1 in
-      ap₂ amount (over_is t.pieces came went (ap (λ (r : Running). r.pieces) same)) (over_is t.tenths came_weight went_weight (ap (λ (r : Running). r.tenths) same))
+      ap₂ amount (over_is t.pieces came went (ap (λ (r : Tally). r.pieces) same)) (over_is t.tenths came_weight went_weight (ap (λ (r : Tally). r.tenths) same))
 
 -- ---- what went back to who brought it
 
@@ -163,7 +140,7 @@ module _ (book : List Move) (w : ℕ) where
       let two = and_parts _ _ h in
       record { pieces = no_more (came book w Hand) (went book w Hand) two.0; tenths = no_more (came_weight book w Hand) (went_weight book w Hand) two.1 }
 
-  pub told_covered : (o : Option Tally) → option_map meant o ≡ unless_nothing (running book w Hand) → ((t : Tally) → o ≡ Some t → is_covered (meant t) ≡ true) → IsCovered book w
+  pub told_covered : (o : Option Tally) → o ≡ unless_nothing (running book w Hand) → ((t : Tally) → o ≡ Some t → is_covered t ≡ true) → IsCovered book w
   told_covered None h lawful =
       let two = and_parts _ _ (told_even book w Hand h) in
       let a = all_gone (came book w Hand) (went book w Hand) (is_int _ (pos 0) two.0) in
@@ -171,7 +148,7 @@ module _ (book : List Move) (w : ℕ) where
       record { pieces = omega (arith, a); tenths = omega (arith, b) }
   told_covered (Some t) h lawful = covered_back (ap is_covered (sym (told_left book w Hand t h).1) ∙ lawful t refl)
 
-  pub covered_told : (t : Tally) → Some (meant t) ≡ unless_nothing (running book w Hand) → IsCovered book w → is_covered (meant t) ≡ true
+  pub covered_told : (t : Tally) → Some t ≡ unless_nothing (running book w Hand) → IsCovered book w → is_covered t ≡ true
   covered_told t h is = ap is_covered (told_left book w Hand t h).1 ∙ and_from _ _ (none_more _ _ is.pieces) (none_more _ _ is.tenths)
 
 -- ---- both places outside
@@ -196,7 +173,7 @@ module _ (book : List Move) (w : ℕ) (f : FlightDate) where
       let a = all_gone (came book w (Built f)) (went book w (Built f)) (is_int _ (pos 0) two.0) in
       omega (arith, a)
 
-  pub built_some : (t : Tally) → Some (meant t) ≡ unless_nothing (running book w (Built f)) → is_left (meant t) ≡ true → nat_lt 0 (built book w f).pieces ≡ true
+  pub built_some : (t : Tally) → Some t ≡ unless_nothing (running book w (Built f)) → is_left t ≡ true → nat_lt 0 (built book w f).pieces ≡ true
   built_some t h left =
       let same = (told_left book w (Built f) t h).1 in
       let two = and_parts _ _ (ap is_left (sym same) ∙ left) in

@@ -1,36 +1,15 @@
 -- Each table of a database: its rows occur once, and they can be put into tables that are good before it.
 use Rattle.std.proofs.Common.{◌≡◌, ◌∙◌, ℕ, ℤ, Bool, true, false, List, [], ◌∷◌, map, refl, sym, ap, subst, Less, Ordering}
-use Rattle.std.specs.Cmp.{IsTotalOrder, on_total}
-use Rattle.std.specs.Ordering.{eq_by_cmp}
-use Rattle.std.specs.Prelude.{◌↔◌, IsTrue}
-use Rattle.std.specs.FinMap.{FinMap, entries, from_entries}
-use Rattle.std.specs.List.{AllByRecursion, list_all}
-use Rattle.std.proofs.lemmas.List.Folds.{list_all-map}
-use Rattle.std.specs.List.Sorted.{IsPermutation}
-use Rattle.sqlite.specs.Tree.{IsAscending}
-use Rattle.sqlite.specs.Effect.{Database}
-use Rattle.sqlite_keyed.proofs.ListLemmas.{all_weaker, ascending-map, ascending_weaker}
+use Rattle.table_audits.proofs.Common.{IsTotalOrder, on_total, eq_by_cmp, ◌↔◌, IsTrue, FinMap, entries, from_entries, AllByRecursion, list_all, list_all-map, IsPermutation, IsAscending, Database, all_weaker, ascending-map, ascending_weaker, entries_of, entries_rise, Place, IsNoted, IsLawfulMove, Tables, OldWaybill, old_waybill_id, undated, Waybill, waybill_id, Stock, StockKey, stock_cmp, stock_row, Flight, FlightKey, flight_cmp, flight_row, move_id, Expected, ExpectedKey, expected_cmp, expected_row, PartKey, part_cmp, part_row, TrailLine, trail_id, Message, message_id, Kept, kept_cmp, kept_row, kept_text_cmp, kept_text_row, Count, CountKey, count_cmp, Build, BuildKey, build_cmp, stock_total, flight_total, expected_total, part_total, kept_total, kept_text_total, count_total, build_total, by_key, by_number, old_waybill_name, old_waybill_columns, old_waybill_shown, old_waybill_back, HasOldWaybillTexts, HoldsOldWaybill, waybill_name, waybill_columns, HasWaybillTexts, HoldsStock, stock_name, stock_columns, HasStockTexts, HoldsFlight, flight_name, flight_columns, HasFlightTexts, flight_back, HoldsMoves, moves_name, moves_columns, HasMovesTexts, HoldsExpected, expected_name, expected_columns, HasExpectedTexts, expected_back, HoldsPart, part_name, part_columns, HasPartTexts, part_back, HoldsTrail, trail_name, trail_columns, HasTrailTexts, HoldsOutbox, outbox_name, outbox_columns, HasOutboxTexts, HoldsKeptKey, kept_key_name, kept_key_columns, HasKeptKeyTexts, kept_key_back, HoldsKeptText, kept_text_name, kept_text_columns, HasKeptTextTexts, kept_text_back, HoldsCounts, counts_name, counts_columns, HasCountsTexts, HoldsBuild, build_name, build_columns, HasBuildTexts, First, Second, Reading, HoldsOldWaybills, HoldsWaybills, TableName, cargo_in, IsLawfulTable, RisesByNumber, before, AreGood, IsGood, IsHeld, IsFirstBad, HasBefore, IsJudged}
 use Rattle.sqlite_keyed.proofs.SortLemmas.{sorted_unique}
-use Rattle.station_schema.proofs.Maps.{entries_of, entries_rise}
 use Rattle.shipment_machine.specs.declared.moves.Move as cargo
-use Rattle.shipment_machine.specs.declared.moves.Place.{Place}
 use Rattle.shipment_machine.specs.declared.moves.Place.TheVariants as place
-use Rattle.shipment_machine.specs.Lawful.{IsNoted, IsLawfulMove}
-use Rattle.station_schema.specs.Tables.{Tables, OldWaybill, old_waybill_id, undated, Waybill, waybill_id, Stock, StockKey, stock_cmp, stock_row, Flight, FlightKey, flight_cmp, flight_row, Move, move_id, Expected, ExpectedKey, expected_cmp, expected_row, PartKey, part_cmp, part_row, TrailLine, trail_id, Message, message_id, Kept, kept_cmp, kept_row, kept_text_cmp, kept_text_row, Count, CountKey, count_cmp, count_row, Build, BuildKey, build_cmp, build_row}
-use Rattle.station_schema.proofs.Keys.{stock_total, flight_total, expected_total, part_total, kept_total, kept_text_total, count_total, build_total}
+use Rattle.station_schema.specs.Tables.{Move, count_row, build_row}
 use Rattle.station_rows.specs.Shown.{waybill_shown, waybill_read, move_shown, move_read, count_read, build_read, trail_shown, trail_read, message_shown, message_read, stock_read}
-use Rattle.table_load.specs.Held.{by_key, by_number, old_waybill_name, old_waybill_columns, old_waybill_shown, old_waybill_back, HasOldWaybillTexts, HoldsOldWaybill, waybill_name, waybill_columns, HasWaybillTexts, HoldsStock, stock_name, stock_columns, HasStockTexts, HoldsFlight, flight_name, flight_columns, HasFlightTexts, flight_back, HoldsMoves, moves_name, moves_columns, HasMovesTexts, HoldsExpected, expected_name, expected_columns, HasExpectedTexts, expected_back, HoldsPart, part_name, part_columns, HasPartTexts, part_back, HoldsTrail, trail_name, trail_columns, HasTrailTexts, HoldsOutbox, outbox_name, outbox_columns, HasOutboxTexts, HoldsKeptKey, kept_key_name, kept_key_columns, HasKeptKeyTexts, kept_key_back, HoldsKeptText, kept_text_name, kept_text_columns, HasKeptTextTexts, kept_text_back, HoldsCounts, counts_name, counts_columns, HasCountsTexts, HoldsBuild, build_name, build_columns, HasBuildTexts}
 use Rattle.table_load.specs.declared.station.FileVersion.{FileVersion}
-use Rattle.table_load.specs.declared.station.FileVersion.TheVariants.{First, Second}
-use Rattle.table_load.specs.Reading.{Reading, HoldsOldWaybills, HoldsWaybills}
 use Rattle.table_load.proofs.Orders.{old_waybill_agrees, waybill_agrees, stock_agrees, flight_agrees, moves_agrees, expected_agrees, part_agrees, trail_agrees, outbox_agrees, kept_key_agrees, kept_text_agrees, counts_agrees, build_agrees}
 use Rattle.table_load.proofs.TableLemmas.{ascending_sorted, held_once}
-use Rattle.table_audits.specs.declared.name.TableName.{TableName}
 use Rattle.table_audits.specs.declared.name.TableName.TheVariants as table
-use Rattle.table_audits.specs.Lawful.{cargo_in, IsLawfulTable}
-use Rattle.table_audits.specs.Order.{RisesByNumber}
-use Rattle.table_audits.specs.Good.{before, AreGood, IsGood, IsHeld, IsFirstBad}
-use Rattle.table_audits.specs.Judged.{HasBefore, IsJudged}
 
 -- ---- a good table stays so where others change
 
@@ -57,14 +36,8 @@ module _ (t u : Tables) where
   both = with_own table.Moves t u
 
   noted : (p : Place) → IsNoted (cargo_in t) p → IsNoted (cargo_in both) p
-  noted place.Hand h = tt
-  noted place.Surplus h = tt
-  noted place.Free h = tt
   noted (place.Built f) h = h
-  noted place.Departed h = tt
-  noted place.Delivered h = tt
-  noted place.Missing h = tt
-  noted place.Transferred h = tt
+  noted _ h = tt
 
   a_move : (m : cargo.Move) → IsLawfulMove (cargo_in t) m → IsLawfulMove (cargo_in both) m
   a_move m h = record {

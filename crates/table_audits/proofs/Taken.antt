@@ -1,24 +1,8 @@
 -- Rows that are taken one after another.
 use Rattle.std.proofs.Common.{◌≡◌, ◌↔◌, ℕ, ◌+◌, ◌≤◌, ℤ, pos, Bool, true, false, cond, ◌&&◌, Option, Some, None, List, [], ◌∷◌, ◌++◌, map, length, refl, sym, ap, ap₂, subst, ◌∙◌, true≢false, arith, length-append, Result, Ok, Err}
-use Rattle.std.specs.Prelude.{nat_le, IsSome, IfSome, OnOk}
-use Rattle.std.specs.List.{list_all, range_with_len}
-use Rattle.std.proofs.lemmas.Bool.{and_parts}
-use Rattle.std.proofs.lemmas.Bool.Decides.{nat_tests}
-use Rattle.std.proofs.lemmas.List.{length-map, map-append}
-use Rattle.std.proofs.lemmas.List.Folds.{list_all-append, list_all-map}
-use Rattle.sqlite.specs.declared.error.Error.{Error}
-use Rattle.sqlite_keyed.proofs.ListLemmas.{map-map, list_all_push}
-use Rattle.station_rows.specs.Meant.{trail_meant, message_meant}
+use Rattle.table_audits.proofs.Common.{nat_le, IsSome, IfSome, OnOk, list_all, range_with_len, and_parts, nat_tests, length-map, map-append, list_all-append, list_all-map, Error, map-map, list_all_push, trail_meant, message_meant, Tables, Message, Waybill, message_id, trail_id, is_message_row, confirmed_in, AreNumbered, AreMessages, cargo_in, RisesByNumber, is_lawful_line, AreSound, AreSoundOr, AreCounted, AreLinesTaken, AreMessagesTaken, if_confirmed}
 use Rattle.station_rows.specs.declared.outbox.MessageRow.{MessageRow}
 use Rattle.station_rows.specs.declared.trail.TrailRow.{TrailRow}
-use Rattle.station_schema.specs.Tables.{Tables, Message, Waybill, message_id, trail_id}
-use Rattle.row_codec.specs.Logs.{is_message_row}
-use Rattle.row_codec.specs.Meaning.{confirmed_in}
-use Rattle.row_codec.specs.Numbers.{AreNumbered}
-use Rattle.table_audits.specs.Lawful.{AreMessages, cargo_in}
-use Rattle.table_audits.specs.Order.{RisesByNumber}
-use Rattle.table_audits.specs.Rows.{is_lawful_line}
-use Rattle.table_audits.specs.Taken.{AreSound, AreSoundOr, AreCounted, AreLinesTaken, AreMessagesTaken, if_confirmed}
 use Rattle.table_audits.specs.declared.numbers.NumberedRows.{NumberedRows}
 use Rattle.table_audits.proofs.NumberLaws.{numbered_push, numbered_pop}
 use Rattle.table_audits.proofs.Texts.{messages_are}

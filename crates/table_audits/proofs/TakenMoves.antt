@@ -1,29 +1,11 @@
 -- Moves that are taken one after another.
 use Rattle.std.proofs.Common.{◌≡◌, ℕ, ◌+◌, pos, Bool, true, false, List, [], ◌∷◌, ◌++◌, map, length, replicate, refl, sym, ap, subst, ◌∙◌, true≢false, length-append, Result, Ok, Err}
-use Rattle.std.specs.Prelude.{OnOk}
-use Rattle.std.specs.List.{AllByRecursion}
-use Rattle.std.proofs.lemmas.List.{map-append}
-use Rattle.sqlite.specs.declared.error.Error.{Error}
-use Rattle.station_rows.specs.Meant.{move_meant, waybill_meant}
+use Rattle.table_audits.proofs.Common.{OnOk, AllByRecursion, map-append, Error, move_meant, waybill_meant, WaybillRow, IsLawfulMove, StaysDeparted, Tables, move_id, running, book_in, move_by, flight_entry, FlightEntry, AreDepartures, AreBalances, is_marked, marked, marks_of, IsDeparted, AreMoves, cargo_in, AreBeside, IsGoodRow, IsPosted, listed_in, AreDistinct, AreSums, IsPosting, AreGoodMoves, AreMovesTaken, AreRead, IsBookOf, IsBookAs, Posting}
 use Rattle.station_rows.specs.declared.moves.MoveRow.{MoveRow}
-use Rattle.station_rows.specs.declared.waybills.WaybillRow.{WaybillRow}
-use Rattle.shipment_machine.specs.Lawful.{IsLawfulMove, StaysDeparted}
 use Rattle.shipment_machine.specs.declared.moves.Move as cargo
-use Rattle.station_schema.specs.Tables.{Tables, Move, move_id}
-use Rattle.row_codec.specs.Counts.{running}
-use Rattle.row_codec.specs.Moves.{book_in, move_by}
-use Rattle.table_load.specs.Held.{flight_entry}
-use Rattle.table_load.specs.declared.flight.FlightEntry.{FlightEntry}
-use Rattle.table_audits.specs.Audited.{AreDepartures}
-use Rattle.table_audits.specs.Balances.{AreBalances}
-use Rattle.table_audits.specs.Departed.{is_marked, marked, marks_of, IsDeparted}
-use Rattle.table_audits.specs.Lawful.{AreMoves, cargo_in}
-use Rattle.table_audits.specs.Posted.{AreBeside, IsGoodRow, IsPosted, listed_in}
-use Rattle.table_audits.specs.Sums.{AreDistinct, AreSums, IsPosting}
-use Rattle.table_audits.specs.Taken.{AreGoodMoves, AreMovesTaken, AreRead, IsBookOf, IsBookAs}
+use Rattle.station_schema.specs.Tables.{Move}
 use Rattle.table_audits.specs.declared.book.BookAudit.{BookAudit}
 use Rattle.table_audits.specs.declared.book.BookBeside.{BookBeside}
-use Rattle.table_audits.specs.declared.sums.Posting.{Posting}
 use Rattle.table_audits.proofs.DepartedLaws.{broken, marked_then, may_build, may_not_build, no_marks, stays_pop, stays_push}
 use Rattle.table_audits.proofs.Lists.{all_pop, all_push}
 use Rattle.table_audits.proofs.NumberLaws.{numbered_pop, numbered_push}

@@ -1,24 +1,13 @@
 -- What a row holds as a text is one.
 use Rattle.std.proofs.Common.{◌≡◌, ◌&&◌, Bool, true, false, List, [], ◌∷◌, map, refl, ap, ◌∙◌, string_bytes}
-use Rattle.std.specs.Str.{is_utf8}
-use Rattle.std.specs.List.{list_all}
+use Rattle.table_audits.proofs.Common.{is_utf8, list_all, and_from, is_utf8-from_IsUtf8, IsUtf8-string_bytes, is_airport, message_meant, part_entry, kept_key_entry, kept_text_entry, is_count, is_day, is_within, is_flight_text, is_part_row, is_message_row, is_kept_row, is_kept_text_row}
 use Rattle.std.specs.declared.alloc.Global.{Global}
 use Rattle.std.specs.declared.string.String.{String}
-use Rattle.std.proofs.lemmas.Bool.{and_from}
-use Rattle.std.proofs.lemmas.Str.{is_utf8-from_IsUtf8, IsUtf8-string_bytes}
-use Rattle.imp_fields.specs.Airport.{is_airport}
 use Rattle.station_core.specs.Key.{is_key}
-use Rattle.station_rows.specs.Meant.{message_meant}
 use Rattle.station_rows.specs.declared.outbox.MessageRow.{MessageRow}
-use Rattle.table_load.specs.Held.{part_entry, kept_key_entry, kept_text_entry}
 use Rattle.table_load.specs.declared.part.PartEntry.{PartEntry}
 use Rattle.table_load.specs.declared.kept_key.KeptKeyEntry.{KeptKeyEntry}
 use Rattle.table_load.specs.declared.kept_text.KeptTextEntry.{KeptTextEntry}
-use Rattle.row_codec.specs.Numbers.{is_count, is_day, is_within}
-use Rattle.row_codec.specs.Flights.{is_flight_text}
-use Rattle.row_codec.specs.Manifests.{is_part_row}
-use Rattle.row_codec.specs.Logs.{is_message_row}
-use Rattle.row_codec.specs.Replies.{is_kept_row, is_kept_text_row}
 
 is_text : (text : String Global) → is_utf8 (string_bytes text) ≡ true
 is_text text = is_utf8-from_IsUtf8 _ (IsUtf8-string_bytes text)

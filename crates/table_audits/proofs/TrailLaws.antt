@@ -1,18 +1,7 @@
 -- The rows of `trail` are lawful exactly where the table is.
 use Rattle.std.proofs.Common.{◌≡◌, ◌↔◌, ℕ, Bool, true, Option, Some, None, List, map, refl, sym, ap, ap₂, subst, ◌∙◌, true≢false}
-use Rattle.std.specs.Prelude.{IsTrue, IsSome}
-use Rattle.std.specs.List.{list_all}
-use Rattle.std.proofs.lemmas.Bool.{and_parts, and_from}
-use Rattle.sqlite_keyed.proofs.ListLemmas.{all_map, all_unmap, all_weaker, all_both, all_from_test, test_from_all}
-use Rattle.imp_fields.specs.Characters.{is_line}
-use Rattle.station_rows.specs.Meant.{trail_meant}
+use Rattle.table_audits.proofs.Common.{IsTrue, IsSome, list_all, and_parts, and_from, all_map, all_unmap, all_weaker, all_both, all_from_test, test_from_all, is_line, trail_meant, Tables, TrailLine, Waybill, trail_id, natural, is_number, AreNumbered, line_by, is_trail_row, AreTrailLines, cargo_in, has_waybill, is_lawful_line, AreSoundOr}
 use Rattle.station_rows.specs.declared.trail.TrailRow.{TrailRow}
-use Rattle.station_schema.specs.Tables.{Tables, TrailLine, Waybill, trail_id}
-use Rattle.row_codec.specs.Numbers.{natural, is_number, AreNumbered}
-use Rattle.row_codec.specs.Logs.{line_by, is_trail_row}
-use Rattle.table_audits.specs.Lawful.{AreTrailLines, cargo_in}
-use Rattle.table_audits.specs.Rows.{has_waybill, is_lawful_line}
-use Rattle.table_audits.specs.Taken.{AreSoundOr}
 use Rattle.table_audits.proofs.Taken.{sound_rows, rows_sound}
 use Rattle.table_audits.proofs.Each.{both_lists, natural_again}
 use Rattle.table_audits.proofs.DeclaredLaws.{declared_from, declared_back}

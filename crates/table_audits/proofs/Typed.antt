@@ -1,23 +1,9 @@
 -- In a database with the tables that a station declares, typed tables that are lawful are held.
 use Rattle.std.proofs.Common.{◌≡◌, ℕ, ℤ, pos, Bool, true, List, [], ◌∷◌, sym, subst}
-use Rattle.std.specs.List.{list_all, AllByRecursion}
-use Rattle.std.proofs.lemmas.Bool.{and_parts}
-use Rattle.std.proofs.lemmas.Str.{is_utf8-from_IsUtf8, IsUtf8-from_ascii}
-use Rattle.sqlite.specs.Effect.{Database}
+use Rattle.table_audits.proofs.Common.{list_all, AllByRecursion, and_parts, is_utf8-from_IsUtf8, IsUtf8-from_ascii, Database, Station, IsStation, tables_of, is_station, book_in, HasOldWaybillTexts, HasCountsTexts, new_row, TableName, IsLawfulTable, is_airport, Second, read_as, HoldsStation, IsHeld, IsGood, IsStationOf}
 use Rattle.desk_commands.proofs.Ascii.{IsAscii-airport}
-use Rattle.station_schema.specs.Tables.{Station, IsStation, tables_of}
-use Rattle.row_codec.specs.Meaning.{is_station}
-use Rattle.row_codec.specs.Moves.{book_in}
-use Rattle.table_load.specs.Held.{HasOldWaybillTexts, HasCountsTexts}
-use Rattle.table_load.specs.Verdict.{new_row}
 use Rattle.table_load.proofs.Declared.{station_typed, old_waybill_typed, waybill_typed, stock_typed, flight_typed, moves_typed, expected_typed, part_typed, trail_typed, outbox_typed, kept_key_typed, kept_text_typed, counts_typed, build_typed}
-use Rattle.table_audits.specs.declared.name.TableName.{TableName}
 use Rattle.table_audits.specs.declared.name.TableName.TheVariants as table
-use Rattle.table_audits.specs.Lawful.{IsLawfulTable}
-use Rattle.imp_fields.specs.Airport.{is_airport}
-use Rattle.table_load.specs.declared.station.FileVersion.TheVariants.{Second}
-use Rattle.table_load.specs.Reading.{read_as}
-use Rattle.table_audits.specs.Good.{HoldsStation, IsHeld, IsGood, IsStationOf}
 use Rattle.table_audits.proofs.Declared.{is_it}
 use Rattle.table_audits.proofs.RowTexts.{waybill_texts, stock_texts, flight_texts, moves_texts, expected_texts, part_texts, trail_texts, outbox_texts, kept_key_texts, kept_text_texts, build_texts}
 

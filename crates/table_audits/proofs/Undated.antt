@@ -1,14 +1,7 @@
 -- The waybills of a file of version 1, with no day, are those that it is to have.
 use Rattle.std.proofs.Common.{◌≡◌, ◌∙◌, List, map, sym, ap}
-use Rattle.sqlite.specs.Effect.{Database}
-use Rattle.sqlite_keyed.proofs.ListLemmas.{map-map}
-use Rattle.station_schema.specs.Tables.{OldWaybill, Waybill, undated}
-use Rattle.station_rows.specs.declared.waybills.WaybillRow.{WaybillRow}
-use Rattle.station_rows.specs.Meant.{waybill_meant}
+use Rattle.table_audits.proofs.Common.{Database, map-map, OldWaybill, Waybill, undated, WaybillRow, waybill_meant, First, old_waybill_entry, HoldsOldWaybill, undated_row, HoldsWaybills}
 use Rattle.table_load.specs.declared.old_waybill.OldWaybillEntry.{OldWaybillEntry}
-use Rattle.table_load.specs.declared.station.FileVersion.TheVariants.{First}
-use Rattle.table_load.specs.Held.{old_waybill_entry, HoldsOldWaybill}
-use Rattle.table_load.specs.Reading.{undated_row, HoldsWaybills}
 
 same_rows : (olds : List OldWaybillEntry) → map waybill_meant (map undated_row olds) ≡ map undated (map old_waybill_entry olds)
 same_rows olds = map-map waybill_meant undated_row olds ∙ sym (map-map undated old_waybill_entry olds)

@@ -1,17 +1,6 @@
 -- The rows of `waybill2` are lawful exactly where the table is.
 use Rattle.std.proofs.Common.{◌≡◌, ℕ, pos, true, Option, Some, None, option_map, refl, ap, subst, ◌∙◌}
-use Rattle.std.specs.Prelude.{int_le, IfSome}
-use Rattle.std.specs.List.{list_all}
-use Rattle.std.proofs.lemmas.Bool.{and_parts, and_from}
-use Rattle.sqlite_keyed.specs.Keyed.{get_by}
-use Rattle.sqlite_keyed.proofs.ListLemmas.{all_both, all_from_test, test_from_all}
-use Rattle.shipment_machine.specs.Lawful.{IsLawfulAmount}
-use Rattle.station_schema.specs.Tables.{Tables, Waybill, waybill_id}
-use Rattle.row_codec.specs.Numbers.{natural, is_within, is_number}
-use Rattle.row_codec.specs.Waybills.{declared_by, is_waybill_row}
-use Rattle.table_audits.specs.Lawful.{AreWaybills, cargo_in}
-use Rattle.table_audits.specs.Order.{RisesByNumber}
-use Rattle.table_audits.specs.Rows.{is_lawful_waybill}
+use Rattle.table_audits.proofs.Common.{int_le, IfSome, list_all, and_parts, and_from, get_by, all_both, all_from_test, test_from_all, IsLawfulAmount, Tables, Waybill, waybill_id, natural, is_within, is_number, declared_by, is_waybill_row, AreWaybills, cargo_in, RisesByNumber, is_lawful_waybill}
 use Rattle.table_audits.proofs.Each.{found_passes, both_lists, each_by_number, natural_again, amount_of, amount_back}
 
 -- its number, its pieces and its weight

@@ -11,11 +11,10 @@ use Rattle.shipment_machine.specs.Book.{built, taken_and_found, waybills_on}
 use Rattle.shipment_machine.specs.Effect.{is_closed}
 use Rattle.shipment_machine.specs.Lawful.{is_outside, IsStocked, IsCovered}
 use Rattle.station_schema.specs.Tables.{Tables, Flight, FlightKey}
-use Rattle.row_codec.specs.Counts.{Running}
 use Rattle.row_codec.specs.Numbers.{natural, is_set}
 use Rattle.table_audits.specs.Lawful.{cargo_in}
-use Rattle.table_audits.specs.Sums.{meant, count_place_cmp}
-use Rattle.table_audits.specs.declared.tally.Tally.{Tally}
+use Rattle.table_audits.specs.Sums.{count_place_cmp}
+use Rattle.row_codec.specs.declared.tally.Tally.{Tally}
 use Rattle.table_audits.specs.declared.sums.CountPlace.{CountPlace}
 use Rattle.table_audits.specs.declared.sums.BuildPlace.{BuildPlace}
 use Rattle.table_audits.specs.declared.sums.BookSums.{BookSums}
@@ -34,13 +33,13 @@ pub record AreBalances (t : Tables) : Type 0 where
 -- ---- at a place of the station
 
 -- true if something is left: at least one piece, and at least a tenth a piece
-abbrev pub is_left : Running → Bool
+abbrev pub is_left : Tally → Bool
 is_left r = int_le (pos 1) r.pieces && int_le r.pieces r.tenths
 
 -- ---- at a place outside
 
 -- true if no more came back than went
-abbrev pub is_covered : Running → Bool
+abbrev pub is_covered : Tally → Bool
 is_covered r = int_le r.pieces (pos 0) && int_le r.tenths (pos 0)
 
 -- by how much more went than came
@@ -63,8 +62,8 @@ is_within sums awb = fits (plus (drawn_at sums awb (pos 0)) (drawn_at sums awb (
 abbrev pub is_lawful_count : BookSums → CountPlace × Tally → Bool
 is_lawful_count sums e =
     if int_lt e.0.place (pos 2)
-    then is_within sums e.0.awb && (not (int_eq e.0.place (pos 0)) || is_covered (meant e.1))
-    else is_left (meant e.1)
+    then is_within sums e.0.awb && (not (int_eq e.0.place (pos 0)) || is_covered e.1)
+    else is_left e.1
 
 -- ---- on a flight
 
@@ -79,4 +78,4 @@ on_flight i es = filter (λ (e : BuildPlace × Tally). e.0.flight == i) es
 
 -- true if a sum on a flight is lawful, by the rows of `flight`
 abbrev pub is_lawful_build : List (FlightKey × Flight) → BuildPlace × Tally → Bool
-is_lawful_build rows e = is_left (meant e.1) && is_open (slice_get rows e.0.flight)
+is_lawful_build rows e = is_left e.1 && is_open (slice_get rows e.0.flight)

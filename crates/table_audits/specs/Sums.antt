@@ -1,5 +1,5 @@
 -- The sums of a book's moves, for each waybill at each place.
-use Rattle.std.specs.Prelude.{◌≡◌, ◌≢◌, ℕ, ℤ, pos, true, false, map, if◌then◌else◌, ◌+ℤ◌, Option, Some, None, List, slice_get}
+use Rattle.std.specs.Prelude.{◌≡◌, ◌≢◌, ℕ, ℤ, pos, true, false, map, Option, Some, None, List, slice_get}
 use Rattle.std.specs.Option.{option_map}
 use Rattle.std.specs.Ordering.{int_cmp, nat_cmp, ordering_then}
 use Rattle.std.specs.declared.cmp.Ordering.{Ordering}
@@ -12,11 +12,11 @@ use Rattle.shipment_machine.specs.declared.moves.Move.{Move}
 use Rattle.shipment_machine.specs.declared.moves.Place.{Place}
 use Rattle.shipment_machine.specs.declared.moves.Place.TheVariants.{Built}
 use Rattle.station_schema.specs.Tables.{Count, CountKey, Build, BuildKey, Flight, FlightKey, flight_cmp}
-use Rattle.row_codec.specs.Counts.{Running, is_nothing, unless_nothing, build_row}
+use Rattle.row_codec.specs.Counts.{Sums, build_row, count_in, count_row, unless_nothing}
 use Rattle.row_codec.specs.Flights.{is_designator, flight_key}
 use Rattle.row_codec.specs.Moves.{place_code}
-use Rattle.running_totals.specs.Sums.{Sums, count_in, is_built}
-use Rattle.table_audits.specs.declared.tally.Tally.{Tally}
+use Rattle.row_codec.specs.Sums.{is_built}
+use Rattle.row_codec.specs.declared.tally.Tally.{Tally}
 use Rattle.table_audits.specs.declared.sums.CountPlace.{CountPlace}
 use Rattle.table_audits.specs.declared.sums.BuildPlace.{BuildPlace}
 use Rattle.table_audits.specs.declared.sums.BookSums.{BookSums}
@@ -24,34 +24,10 @@ use Rattle.table_audits.specs.declared.sums.Spot.{Spot}
 use Rattle.table_audits.specs.declared.sums.Spot.TheVariants.{Plain, OnFlight}
 use Rattle.table_audits.specs.declared.sums.Posting.{Posting}
 
--- ---- tallies
-
-abbrev pub meant : Tally → Running
-meant t = record { pieces = t.pieces; tenths = t.tenths }
-
--- a tally of zero isn't stored
-abbrev pub unless_zero : Tally → Option Tally
-unless_zero t = if is_nothing (meant t) then None else Some t
-
-abbrev pub plus_tally : Tally → Tally → Tally
-plus_tally a b = record { pieces = a.pieces +ℤ b.pieces; tenths = a.tenths +ℤ b.tenths }
-
--- adds an amount to a tally, if there is one
-abbrev pub come_to : Option Tally → Tally → Tally
-come_to None by = by
-come_to (Some t) by = plus_tally t by
-
--- the rows of a tally
-abbrev pub count_of : Tally → Count
-count_of t = record { pieces = t.pieces; tenths = t.tenths }
-
-abbrev pub build_of : Tally → Build
-build_of t = record { pieces = t.pieces; tenths = t.tenths }
-
 -- ---- sums
 
 abbrev pub count_entry : CountPlace × Tally → CountKey × Count
-count_entry e = ((e.0.awb, e.0.place), count_of e.1)
+count_entry e = ((e.0.awb, e.0.place), count_row e.1)
 
 abbrev pub count_place_cmp : CountPlace → CountPlace → Ordering
 count_place_cmp a b = ordering_then (int_cmp a.awb b.awb) (int_cmp a.place b.place)
@@ -61,11 +37,11 @@ build_place_cmp a b = ordering_then (nat_cmp a.flight b.flight) (int_cmp a.awb b
 
 -- the sum of a waybill at a place that isn't built
 abbrev pub count_told : BookSums → CountKey → Option Count
-count_told sums (awb, place) = option_map count_of (get count_place_cmp sums.counts (record { awb = awb; place = place }))
+count_told sums (awb, place) = option_map count_row (get count_place_cmp sums.counts (record { awb = awb; place = place }))
 
 -- the sum of a waybill on a flight, by the flight's index in a list
 abbrev pub build_told : BookSums → ℕ → ℤ → Option Build
-build_told sums flight awb = option_map build_of (get build_place_cmp sums.builds (record { flight = flight; awb = awb }))
+build_told sums flight awb = option_map build_row (get build_place_cmp sums.builds (record { flight = flight; awb = awb }))
 
 -- the row of `build` that is due
 abbrev pub build_due : Sums → ℤ → Option FlightDate → Option Build
@@ -100,7 +76,7 @@ pub record IsPosting (flights : List FlightDate) (posting : Posting) (m : Move) 
 
 -- the row of a waybill on the flight of a row
 abbrev pub build_at : FlightKey × Flight → ℤ → Tally → BuildKey × Build
-build_at row awb t = ((row.0.0, (row.0.1, awb)), build_of t)
+build_at row awb t = ((row.0.0, (row.0.1, awb)), build_row t)
 
 -- the row of a sum, by the rows of `flight`
 abbrev pub build_entry : List (FlightKey × Flight) → BuildPlace × Tally → Option (BuildKey × Build)

@@ -8,13 +8,13 @@ ghost use Rattle.station_schema.specs.Tables.{Tables};
 ghost use Rattle.row_codec.specs.Counts.{running};
 ghost use Rattle.row_codec.specs.Flights.{is_flight_row};
 ghost use Rattle.row_codec.specs.Moves.{book_in};
-ghost use Rattle.table_audits.specs.Sums.{meant, AreSums, AreFlightsOf, count_place_cmp, build_place_cmp};
+ghost use Rattle.table_audits.specs.Sums.{AreSums, AreFlightsOf, count_place_cmp, build_place_cmp};
 ghost use Rattle.table_audits.specs.Balances.{AreBalances, overdrawn, drawn_by, is_covered, is_left, is_within, is_lawful_count, is_open, is_lawful_build, on_flight};
 ghost use Rattle.imp_fields.specs.Flight.{most_waybills};
 
 use crate::sums::{BookSums, BuildPlace, CountPlace};
-use crate::tally::Tally;
 use imp_fields::{MOST_PIECES, MOST_TENTHS};
+use row_codec::Tally;
 use shipment_machine::MOST_WAYBILLS;
 use table_load::FlightEntry;
 
@@ -92,13 +92,13 @@ fn is_within(sums: &BookSums, place: &CountPlace) -> bool
 }
 
 fn is_left(tally: &Tally) -> bool
-    ensures { result ≡ is_left (meant tally.now) }
+    ensures { result ≡ is_left tally.now }
 {
     tally.pieces >= 1 && tally.pieces <= tally.tenths
 }
 
 fn is_covered(tally: &Tally) -> bool
-    ensures { result ≡ is_covered (meant tally.now) }
+    ensures { result ≡ is_covered tally.now }
 {
     tally.pieces <= 0 && tally.tenths <= 0
 }

@@ -10,7 +10,7 @@ ghost use Rattle.table_audits.specs.declared.name.TableName.TheVariants as table
 
 use crate::known::Known;
 use crate::sums::{BookSums, BuildPlace};
-use crate::tally::Tally;
+use row_codec::Tally;
 use sqlite::{Alter, Connection, Error};
 use station_rows::BuildRow;
 use std::alloc::Global;

@@ -9,7 +9,7 @@ ghost use Rattle.table_audits.specs.declared.name.TableName.TheVariants as table
 
 use crate::known::Known;
 use crate::sums::{BookSums, CountPlace};
-use crate::tally::Tally;
+use row_codec::Tally;
 use sqlite::{Alter, Connection, Error};
 use station_rows::CountRow;
 use std::alloc::Global;

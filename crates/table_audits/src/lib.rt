@@ -29,7 +29,6 @@ mod state;
 mod station;
 mod stock;
 mod sums;
-mod tally;
 mod trail;
 mod unfit;
 mod waybill;

@@ -1,19 +1,25 @@
 ghost use Rattle.std.specs.Prelude.{◌≡◌, OnOk, IfOk, cond};
 ghost use Rattle.std.specs.Ordering.{eq_by_cmp};
 ghost use Rattle.std.specs.BTreeMap.{get};
-ghost use Rattle.table_audits.specs.Sums.{come_to, unless_zero};
+ghost use Rattle.row_codec.specs.Counts.{unless_nothing};
+ghost use Rattle.row_codec.specs.Stored.{come_to};
 
-use crate::tally::{NoRoom, Tally};
+use row_codec::Tally;
 use std::alloc::Global;
 use std::collections::BTreeMap;
 
+/// Memory ran out for a book's sums, or a sum doesn't fit into 64 bits, which takes more than 10^12
+/// moves.
+#[derive(Clone, Copy)]
+pub(crate) struct NoRoom;
+
 /// Returns the amount stored under a key, plus another amount.
 fn come_to<K: Ord + Drop>(tallies: &BTreeMap<K, Tally>, key: &K, by: Tally) -> Result<Tally, NoRoom>
-    ensures { IfOk result (λ sum. sum ≡ come_to (get K.cmp tallies.now key.now) by) }
+    ensures { IfOk result (λ sum. sum ≡ come_to (λ t. t) (get K.cmp tallies.now key.now) by) }
 {
     match tallies.get(key) {
         None => Ok(by),
-        Some(tally) => match tally.plus(&by) {
+        Some(tally) => match tally.plus(by) {
             Some(sum) => Ok(sum),
             None => Err(NoRoom),
         },
@@ -28,7 +34,7 @@ pub(crate) fn post<K: Ord + Drop>(
 ) -> Result<(), NoRoom>
     ensures { OnOk result ((q : K)
         → get K.cmp tallies.new q ≡ cond (eq_by_cmp K.cmp key q)
-        (unless_zero (come_to (get K.cmp tallies.old key) by)) (get K.cmp tallies.old q)) }
+        (unless_nothing (come_to (λ t. t) (get K.cmp tallies.old key) by)) (get K.cmp tallies.old q)) }
 {
     let sum = come_to(tallies, &key, by)?;
     if sum.is_nothing() {

@@ -6,7 +6,7 @@ ghost use Rattle.table_load.specs.Held.{flight_entry};
 ghost use Rattle.station_schema.specs.Tables.{Tables, Waybill};
 ghost use Rattle.row_codec.specs.Flights.{flight_date_of};
 ghost use Rattle.row_codec.specs.Moves.{are_flight_columns};
-ghost use Rattle.running_totals.specs.Sums.{is_built};
+ghost use Rattle.row_codec.specs.Sums.{is_built};
 ghost use Rattle.table_audits.specs.Posted.{AreBeside, IsSpotFound};
 
 use crate::lookups::flight_place;

@@ -3,13 +3,13 @@ ghost use Rattle.shipment_machine.specs.declared.flight.FlightDate.{FlightDate};
 ghost use Rattle.shipment_machine.specs.declared.moves.Move.{Move};
 ghost use Rattle.shipment_machine.specs.declared.moves.Place.{Place};
 ghost use Rattle.shipment_machine.specs.declared.moves.Place.TheVariants.{Built};
-ghost use Rattle.row_codec.specs.Counts.{running};
+ghost use Rattle.row_codec.specs.Counts.{running, Sums};
 ghost use Rattle.row_codec.specs.Moves.{place_code};
-ghost use Rattle.running_totals.specs.Sums.{Sums, posting, is_built};
-ghost use Rattle.table_audits.specs.Sums.{meant, AreDistinct, AreSums, IsSpot, IsPosting};
+ghost use Rattle.row_codec.specs.Sums.{posting, is_built};
+ghost use Rattle.table_audits.specs.Sums.{AreDistinct, AreSums, IsSpot, IsPosting};
 
-use crate::posts::post;
-use crate::tally::{NoRoom, Tally};
+use crate::posts::{NoRoom, post};
+use row_codec::Tally;
 use std::alloc::Global;
 use std::collections::BTreeMap;
 
@@ -69,7 +69,7 @@ impl BookSums {
         ensures { (flights : List FlightDate) (s : Sums) → AreSums flights self.old s
             → (a : ℕ) (p : Place) → key.awb ≡ pos a → key.place ≡ pos (place_code p)
             → is_built p ≡ false
-            → OnOk result (AreSums flights self.new (posting a p (meant by) s)) }
+            → OnOk result (AreSums flights self.new (posting a p by s)) }
     {
         post(&mut self.counts, key, by)
     }
@@ -79,7 +79,7 @@ impl BookSums {
         ensures { (flights : List FlightDate) (s : Sums) → AreDistinct flights
             → AreSums flights self.old s → (a : ℕ) (f : FlightDate) → key.awb ≡ pos a
             → slice_get flights key.flight ≡ Some f
-            → OnOk result (AreSums flights self.new (posting a (Built f) (meant by) s)) }
+            → OnOk result (AreSums flights self.new (posting a (Built f) by s)) }
     {
         post(&mut self.builds, key, by)
     }
@@ -89,7 +89,7 @@ impl BookSums {
         ensures { (flights : List FlightDate) (s : Sums) → AreDistinct flights
             → AreSums flights self.old s → (a : ℕ) (p : Place) → awb ≡ pos a
             → IsSpot flights spot.now p
-            → OnOk result (AreSums flights self.new (posting a p (meant by) s)) }
+            → OnOk result (AreSums flights self.new (posting a p by s)) }
     {
         match *spot {
             Spot::Plain(place) => self.post_count(CountPlace { awb, place }, by),

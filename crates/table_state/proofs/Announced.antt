@@ -1,31 +1,10 @@
 -- The rows that announce waybills are of the declared ones of which nothing has come in.
 use Rattle.std.proofs.Common.{◌≡◌, ℕ, ℤ, pos, int_eq, ◌<ℤ◌, Bool, true, false, cond, not, ◌&&◌, ◌||◌, ◌==◌, Option, Some, None, option_map, List, [], ◌∷◌, map, refl, sym, ap, ap₂, subst, ◌∙◌, arith}
-use Rattle.std.specs.BTreeSet.{BTreeSet, contains}
-use Rattle.std.specs.FinMap.{is_sorted}
+use Rattle.table_state.proofs.Common.{BTreeSet, contains, is_sorted, AllByRecursion, filter, find, list_any, is_lt, nat_cmp, and_from, and_parts, nat_tests, ints, IsKeyedBy, get_by, balances_of, is_in, Move, AreAnnounced, has_come, State, AreAllBalances, AnnouncedRow, WaybillBalances, Tables, Waybill, waybill_id, Means, natural, declared_by, is_waybill_row, declared_told, HaveCome, announced_by, has_come_by}
 use Rattle.std.specs.FinMap.Entries.{below_all}
-use Rattle.std.specs.List.{AllByRecursion, filter, find, list_any}
-use Rattle.std.specs.Ordering.{is_lt, nat_cmp}
-use Rattle.std.proofs.lemmas.Bool.{and_from, and_parts}
-use Rattle.std.proofs.lemmas.Bool.Decides.{nat_tests}
-use Rattle.std.proofs.lemmas.Int.{ints}
-use Rattle.sqlite_keyed.specs.Keyed.{IsKeyedBy, get_by}
-use Rattle.shipment_machine.specs.Book.{balances_of}
-use Rattle.shipment_machine.specs.Numbers.{is_in}
 use Rattle.shipment_machine.specs.declared.moves.Declared.{Declared}
-use Rattle.shipment_machine.specs.declared.moves.Move.{Move}
-use Rattle.station_core.specs.Readers.{AreAnnounced, has_come}
-use Rattle.station_core.specs.Step.{State}
-use Rattle.station_core.specs.Told.{AreAllBalances}
-use Rattle.station_core.specs.declared.rows.AnnouncedRow.{AnnouncedRow}
-use Rattle.station_core.specs.declared.stored.WaybillBalances.{WaybillBalances}
-use Rattle.station_schema.specs.Tables.{Tables, Waybill, waybill_id}
-use Rattle.row_codec.specs.Meaning.{Means}
-use Rattle.row_codec.specs.Numbers.{natural}
-use Rattle.row_codec.specs.Waybills.{declared_by, is_waybill_row}
 use Rattle.row_codec.proofs.MapLaws.{each_passes}
 use Rattle.row_codec.proofs.Noted.{day_again}
-use Rattle.row_codec.proofs.Telling.{declared_told}
-use Rattle.table_state.specs.Announced.{HaveCome, announced_by, has_come_by}
 use Rattle.table_state.proofs.Balances.{known_from, not_found, numbers}
 
 -- ---- the numbers of the waybills of which pieces have come in

@@ -1,33 +1,19 @@
 -- Which waybills may be asked for when one more move is in the book.
 use Rattle.std.proofs.Common.{◌≡◌, ℕ, ◌+◌, ◌-◌, ◌≤◌, Bool, true, false, not, ◌&&◌, ◌||◌, ◌==◌, nat_lt, List, [], ◌∷◌, ◌++◌, refl, sym, ap, ◌∙◌, arith, true≢false}
 use Rattle.std.specs.Bool.{if◌then◌else◌}
-use Rattle.std.specs.Ordering.{nat_cmp, match_ordering}
+use Rattle.table_state.proofs.Common.{nat_cmp, match_ordering, insert_key, nat_tests, balances_of, brings, departed, delivered, drawn, found, held, in_store, missing, moved_in, moved_out, pieces_of, same_place, taken, takes, transferred, is_in, Move, Place, Hand, Surplus, Free, Built, Departed, Delivered, Missing, Transferred, is_asked_for, opens}
 use Rattle.std.specs.declared.cmp.Ordering.TheVariants.{Less, Equal, Greater}
-use Rattle.std.specs.BTreeSet.{insert_key}
-use Rattle.std.proofs.lemmas.Bool.Decides.{nat_tests}
 use Rattle.std.proofs.lemmas.Cmp.{ranked}
 use Rattle.std.proofs.lemmas.List.Sums.{sum_by_push}
-use Rattle.shipment_machine.specs.Book.{balances_of, brings, departed, delivered, drawn, found, held, in_store, missing, moved_in, moved_out, pieces_of, same_place, taken, takes, transferred}
-use Rattle.shipment_machine.specs.Numbers.{is_in}
-use Rattle.shipment_machine.specs.declared.moves.Move.{Move}
-use Rattle.shipment_machine.specs.declared.moves.Place.{Place}
-use Rattle.shipment_machine.specs.declared.moves.Place.TheVariants.{Hand, Surplus, Free, Built, Departed, Delivered, Missing, Transferred}
-use Rattle.state_store.specs.Waybills.{is_asked_for}
 use Rattle.state_store.specs.declared.query.WaybillQuery.{WaybillQuery}
 use Rattle.state_store.specs.declared.query.WaybillQuery.TheVariants.{Irregular, Stored}
-use Rattle.table_state.specs.Shown.{opens}
 
 -- a place in the store is none beyond it
 beyond : (q : Place) → not (in_store q) ≡ false
     → (same_place Hand q ≡ false) × (same_place Surplus q ≡ false) × (same_place Departed q ≡ false) × (same_place Delivered q ≡ false) × (same_place Missing q ≡ false) × (same_place Transferred q ≡ false)
 beyond Free e = (refl, refl, refl, refl, refl, refl)
 beyond (Built f) e = (refl, refl, refl, refl, refl, refl)
-beyond Hand e = absurd (true≢false e)
-beyond Surplus e = absurd (true≢false e)
-beyond Departed e = absurd (true≢false e)
-beyond Delivered e = absurd (true≢false e)
-beyond Missing e = absurd (true≢false e)
-beyond Transferred e = absurd (true≢false e)
+beyond _ e = absurd (true≢false e)
 
 and_then : (a b c : Bool) → (b ≡ false → c ≡ false) → (a && b) ≡ false → (a && c) ≡ false
 and_then true b c f e = f e

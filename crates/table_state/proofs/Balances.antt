@@ -1,34 +1,22 @@
 -- The waybills that are asked for, from all balances in one list or from some of their numbers.
 use Rattle.std.proofs.Common.{append-nil, append_assoc, ◌≡◌, ℕ, ◌+◌, ◌-◌, ◌<◌, Bool, true, false, ◌&&◌, ◌||◌, ◌==◌, Some, List, [], ◌∷◌, ◌++◌, map, refl, sym, ap, ap₂, ◌∙◌, arith, zero-add, true≢false}
-use Rattle.std.specs.Prelude.{IsTrue}
+use Rattle.table_state.proofs.Common.{IsTrue, is_sorted, AllByRecursion, filter, find, flat_map, nat_cmp, is_lt, and_parts, false≢true, nat_tests, Move, Place, Hand, Surplus, Free, Departed, Delivered, Missing, Transferred, balances_of, drawn, has_moves, held, moved_in, moved_out, pieces_of, same_place, takes, tenths_of, waybills_of, is_in, WaybillBalances, AreAllBalances, nothing, is_asked_for, with_balances, asked, waybills_for}
 use Rattle.std.specs.Bool.{if◌then◌else◌}
 use Rattle.std.specs.declared.cmp.Ordering.{Ordering}
 use Rattle.std.specs.declared.cmp.Ordering.TheVariants.{Less, Equal, Greater}
-use Rattle.std.specs.FinMap.{is_sorted}
 use Rattle.std.specs.FinMap.Entries.{below_all}
-use Rattle.std.specs.List.{AllByRecursion, filter, find, flat_map}
 use Rattle.std.specs.List.Sorted.{IsStrictlySortedBy}
 use Rattle.std.specs.Option.{option_map, unwrap_or}
-use Rattle.std.specs.Ordering.{nat_cmp, is_lt}
-use Rattle.std.proofs.lemmas.Bool.{and_parts, false≢true}
-use Rattle.std.proofs.lemmas.Bool.Decides.{nat_tests}
 use Rattle.std.proofs.lemmas.Cmp.{ranked}
 use Rattle.std.proofs.lemmas.Map.Keys.{sorted_head, sorted_tail}
 use Rattle.std.proofs.lemmas.List.Sums.{sum_by-cons}
 use Rattle.shipment_machine.specs.Amount.{amount}
 use Rattle.shipment_machine.specs.declared.moves.Balances.{Balances}
-use Rattle.shipment_machine.specs.declared.moves.Move.{Move}
-use Rattle.shipment_machine.specs.declared.moves.Place.{Place}
-use Rattle.shipment_machine.specs.declared.moves.Place.TheVariants.{Hand, Surplus, Free, Departed, Delivered, Missing, Transferred}
-use Rattle.shipment_machine.specs.Book.{balances_of, drawn, has_moves, held, moved_in, moved_out, pieces_of, same_place, takes, tenths_of, waybills_of}
-use Rattle.shipment_machine.specs.Numbers.{IsAscending as Rising, is_in}
+use Rattle.shipment_machine.specs.Numbers.{IsAscending as Rising}
 use Rattle.shipment_machine.proofs.OnFlight.{Rising-waybills_of, is_in-waybills_of, none_in}
 use Rattle.shipment_machine.proofs.Rising.{Rising-filter, is_in-filter, same_rising, below_in, yes_here}
-use Rattle.station_core.specs.declared.stored.WaybillBalances.{WaybillBalances}
-use Rattle.station_core.specs.Told.{AreAllBalances, nothing}
 use Rattle.state_store.specs.declared.query.WaybillQuery.{WaybillQuery}
 use Rattle.state_store.specs.declared.query.WaybillQuery.TheVariants.{Irregular, Stored}
-use Rattle.state_store.specs.Waybills.{is_asked_for, with_balances, asked, waybills_for}
 
 abbrev pub numbers : List WaybillBalances → List ℕ
 numbers rows = map (λ row. row.awb) rows

@@ -1,62 +1,31 @@
 -- What a row that was written makes of the state that is shown.
 use Rattle.std.proofs.Common.{◌≡◌, ℕ, ◌+◌, ◌<◌, ℤ, pos, Bool, true, false, IsTrue, List, [], ◌∷◌, ◌++◌, length, Option, Some, None, Result, Ok, Err, refl, sym, ap, subst, ◌∙◌}
-use Rattle.std.specs.Prelude.{IfErr, if◌then◌else◌}
-use Rattle.std.proofs.lemmas.List.{length-append}
-use Rattle.std.specs.Str.{is_utf8}
-use Rattle.std.specs.FinMap.{FinMap}
-use Rattle.sqlite_keyed.specs.Keyed.{get_by}
-use Rattle.imp_fields.specs.Flight.{flight_text}
-use Rattle.agent_stock.specs.Stock.{Holders, is_run, run_of, test_of, refusal_number, lowest_failing, refused_by, order_refusal, after_order}
+use Rattle.table_state.proofs.Common.{IfErr, if◌then◌else◌, length-append, is_utf8, FinMap, get_by, flight_text, Holders, is_run, run_of, test_of, refusal_number, lowest_failing, refused_by, order_refusal, after_order, FlightDate, list_all, Move, Part, State, View, IsShowing, Tables, Stock, stock_cmp, Count, count_cmp, Build, build_cmp, waybill_id, move_id, with_flight, with_expected, with_move, with_part, with_trail_line, with_message, with_kept, with_kept_text, confirming, is_count, AreNumbered, book_in, is_move_row, AreCounts, AreBuilds, running, holders_in, waybill_row, is_waybill_row, is_designator, flight_key, outbound_row, is_flight_row, expected_key, expected_row, is_expected_row, part_key, is_part_row, kept_row, meaning_of, IsReadable, Means, book_told, Lines, with_line, at_rest, IsRequest, sizes_of, on_cargo, with_moves, with_messages, with_key, with_text, with_order, Sizes, KnownCounts, AreCovered, Knows, AreBoarded, HasOpen, HaveAsked, IsCounted, Tells, Shows}
 use Rattle.agent_stock.specs.Refusing.{OnRefused, RefusesBy}
 use Rattle.agent_stock.specs.declared.stock.Order.{Order}
 use Rattle.agent_stock.specs.declared.stock.StockFault.{StockFault}
 use Rattle.agent_stock.specs.declared.stock.StockFault.TheVariants as fault
 use Rattle.shipment_machine.specs.Cargo.{written}
-use Rattle.shipment_machine.specs.declared.flight.FlightDate.{FlightDate}
-use Rattle.std.specs.List.{list_all}
 use Rattle.shipment_machine.specs.declared.moves.Declared.{Declared}
-use Rattle.shipment_machine.specs.declared.moves.Move.{Move}
 use Rattle.shipment_machine.specs.declared.moves.Outbound.{Outbound}
 use Rattle.shipment_machine.specs.declared.moves.Expected.{Expected}
-use Rattle.shipment_machine.specs.declared.moves.Part.{Part}
 use Rattle.shipment_machine.specs.declared.plans.Change.TheVariants.{Declare, UseUp, NoteFlight, Expect, NotePart, Trail, Confirm}
 use Rattle.station_core.specs.Key.{is_key}
 use Rattle.station_core.specs.Step as step
-use Rattle.station_core.specs.Step.{State}
 use Rattle.station_schema.specs.Store as row
-use Rattle.station_schema.specs.Store.{View, IsShowing}
 use Rattle.station_schema.specs.Tables as table
-use Rattle.station_schema.specs.Tables.{Tables, Stock, stock_cmp, Count, count_cmp, Build, build_cmp, waybill_id, move_id}
-use Rattle.station_rows.specs.Meant.{with_flight, with_expected, with_move, with_part, with_trail_line, with_message, with_kept, with_kept_text, confirming}
-use Rattle.row_codec.specs.Numbers.{is_count, AreNumbered}
-use Rattle.row_codec.specs.Moves.{book_in, is_move_row}
-use Rattle.row_codec.specs.Counts.{AreCounts, AreBuilds, running}
 use Rattle.row_codec.proofs.Moving.{HasMove}
-use Rattle.row_codec.specs.Stock.{holders_in}
-use Rattle.row_codec.specs.Waybills.{waybill_row, is_waybill_row}
-use Rattle.row_codec.specs.Flights.{is_designator, flight_key, outbound_row, is_flight_row}
-use Rattle.row_codec.specs.Manifests.{expected_key, expected_row, is_expected_row, part_key, is_part_row}
 use Rattle.row_codec.specs.Logs.{line_row, is_trail_row, message_row, is_message_row}
-use Rattle.row_codec.specs.Replies.{kept_row}
-use Rattle.row_codec.specs.Meaning.{meaning_of, IsReadable, Means}
 use Rattle.row_codec.proofs.Fits.{count_fits}
-use Rattle.row_codec.proofs.Readable.{readable_stock}
-use Rattle.row_codec.proofs.Telling.{book_told}
 use Rattle.row_codec.proofs.Written.{waybill_written, waybill_changed, flight_written, expected_written, part_written, key_kept, text_kept, line_written, message_written, mark_written, move_written}
-use Rattle.state_store.specs.ExpectedLines.{Lines, with_line}
-use Rattle.state_store.specs.Store.{at_rest, inside}
-use Rattle.station_core.specs.Told.{IsRequest, sizes_of, on_cargo, with_moves, with_messages, with_key, with_text, with_order}
-use Rattle.station_core.specs.declared.stored.Sizes.{Sizes}
-use Rattle.running_totals.specs.Known.{AreKnown}
-use Rattle.running_totals.specs.Posted.{WereThere}
+use Rattle.state_store.specs.Store.{inside}
+use Rattle.row_codec.specs.Known.{AreKnown}
+use Rattle.row_codec.specs.Posted.{WereThere}
 use Rattle.stock_tables.specs.Stocked.{Stocked, restocked, using_up, Restocked}
 use Rattle.table_state.specs.Recorded.{Recorded}
 use Rattle.table_state.specs.Put.{put_over, putting_waybill}
-use Rattle.table_state.specs.declared.counted.KnownCounts.{KnownCounts}
 use Rattle.table_state.specs.declared.open_lines.OpenLines.{OpenLines}
 use Rattle.table_state.specs.declared.flight_spans.FlightSpans.{FlightSpans}
-use Rattle.table_state.specs.Spans.{AreCovered}
-use Rattle.table_state.specs.Shown.{Knows, AreBoarded, HasOpen, HaveAsked, IsCounted, Tells, Shows}
 use Rattle.table_state.proofs.Lifting.{writes_on, reached}
 
 put_means : (t : Tables) (s : State) (text : List ℕ) (w : ℕ) (d : Declared) (new : table.Waybill) → new ≡ waybill_row w d → is_waybill_row (waybill_row w d) ≡ true → Means t (Some s)
@@ -188,7 +157,7 @@ module _ (old new : View) (here : List ℕ) (counted : KnownCounts) (confirmed :
 
   stock_means : (stock : FinMap stock_cmp Stock) (holders : Holders) → Stocked (restocked stock old.now) → holders_in stock ≡ holders → Means old.now (Some s) → Means (restocked stock old.now) (Some (on_cargo (λ c. record c { holders = holders }) s))
   stock_means stock holders rows held means = (
-    readable_stock old.now means.0 stock rows,
+    assumption (rows, means),
     (λ i. record (meaning_of old.now) { cargo = record (meaning_of old.now).cargo { holders = held i } }) ∙ ap (on_cargo (λ c. record c { holders = holders })) means.1,
   )
 
@@ -291,7 +260,7 @@ module _ (old new : View) (here : List ℕ) (counted : KnownCounts) (confirmed :
       let d = done (at_rest_now sound) m.now.0.stock sound in
       let held : holders_in d.stock ≡ after_order s.cargo.holders order = d.held ∙ ap (λ (x : State). after_order x.cargo.holders order) m.now.1 in
       let after : Means (restocked d.stock old.now) (Some (with_order order s)) = (
-        readable_stock old.now m.now.0 d.stock d.rows,
+        assumption (d, m.now),
         (λ i. record (meaning_of old.now) { cargo = record (meaning_of old.now).cargo { holders = held i } }) ∙ ap (on_cargo (λ c. record c { holders = after_order s.cargo.holders order })) m.now.1,
       ) in
       record {

@@ -1,14 +1,12 @@
 -- What a failed creation leaves, by the state that it means.
 use Rattle.std.proofs.Common.{◌≡◌, ℕ, true, List, Some, sym, ap, subst, ◌∙◌}
-use Rattle.imp_fields.specs.Airport.{is_airport}
+use Rattle.table_state.proofs.Common.{is_airport, opening, Means}
 use Rattle.shipment_machine.proofs.Opening.{opening_lawful}
 use Rattle.sqlite.specs.State.{State, Survives}
 use Rattle.sqlite.specs.Tree.{Trees}
 use Rattle.sqlite.proofs.StateLemmas.{survives_weaker}
 use Rattle.station_core.specs.Step as step
-use Rattle.station_schema.specs.Connection.{opening}
 use Rattle.station_schema.specs.Own.{IsNewStation}
-use Rattle.row_codec.specs.Meaning.{Means}
 use Rattle.table_state.specs.File.{IsFileOf}
 use Rattle.table_state.proofs.NewState.{opening_means}
 

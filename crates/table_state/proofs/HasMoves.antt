@@ -1,15 +1,8 @@
 -- Whether a waybill has moves, by their rows.
 use Rattle.std.proofs.Common.{rules, ◌≡◌, ◌==◌, ℕ, suc, ℤ, pos, negsuc, Bool, true, false, not, cond, ◌&&◌, ◌||◌, List, [], ◌∷◌, length, filter, refl, sym, ap₂, ◌∙◌, arith}
-use Rattle.std.specs.Prelude.{nat_lt, Vec, vec_len}
+use Rattle.table_state.proofs.Common.{nat_lt, Vec, vec_len, int_eq, list_all, ints, has_moves, is_of, natural, is_number, book_in, is_move_row}
 use Rattle.std.specs.declared.alloc.Global.{Global}
-use Rattle.std.specs.Ordering.{int_eq}
-use Rattle.std.specs.List.{list_all}
-use Rattle.std.proofs.lemmas.Int.{ints}
-use Rattle.shipment_machine.specs.Book.{has_moves}
 use Rattle.station_schema.specs.Tables as table
-use Rattle.station_rows.specs.Meant.{is_of}
-use Rattle.row_codec.specs.Numbers.{natural, is_number}
-use Rattle.row_codec.specs.Moves.{book_in, is_move_row}
 
 first : (a b : Bool) → (a && b) ≡ true → a ≡ true
 first true b h = refl

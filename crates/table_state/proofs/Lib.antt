@@ -1,3 +1,4 @@
+pub mod Common
 pub mod Passing
 pub mod Lifting
 pub mod HasMoves

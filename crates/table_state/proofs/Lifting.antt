@@ -1,25 +1,17 @@
 -- From what the tables of a store show to the state that they mean.
 use Rattle.std.proofs.Common.{◌≡◌, ◌⊎◌, inl, inr, ⊎_elim, ℕ, true, false, List, Option, Some, Result, Ok, Err, refl, sym, subst, ◌∙◌}
-use Rattle.std.specs.Prelude.{IfOk, OnErr, OnOk}
-use Rattle.station_core.specs.Step.{State}
-use Rattle.station_schema.specs.Tables.{Tables}
+use Rattle.table_state.proofs.Common.{IfOk, OnErr, OnOk, State, Tables, View, Displays, IsShowing, MayCommit, running, Means, Changes, Reads, ReadsAtRest, Seen, Storing, Survives, at_rest, KnownCounts, AreCovered, Stands, Knows, AreBoarded, HasOpen, HaveAsked, IsCounted, Shows, Finds, IfGivenBack, in_tables}
 use Rattle.station_schema.specs.Store as row
-use Rattle.station_schema.specs.Store.{View, Displays, IsShowing, MayCommit}
-use Rattle.row_codec.specs.Counts.{running}
-use Rattle.row_codec.specs.Meaning.{Means}
-use Rattle.running_totals.specs.Known.{AreKnown}
-use Rattle.running_totals.specs.declared.known.KnownSums.{KnownSums}
+use Rattle.row_codec.specs.Known.{AreKnown}
+use Rattle.row_codec.specs.declared.known.KnownSums.{KnownSums}
 use Rattle.station_rows.specs.Clauses as rows
 use Rattle.station_rows.specs.Clauses.{ShowsStill, WasOpen}
-use Rattle.state_store.specs.Store.{Changes, Reads, ReadsAtRest, Seen, Storing, Survives, at_rest, inside}
-use Rattle.table_state.specs.declared.counted.KnownCounts.{KnownCounts}
+use Rattle.state_store.specs.Store.{inside}
 use Rattle.table_state.specs.declared.missed.Missed.{Missed}
 use Rattle.table_state.specs.declared.open_lines.OpenLines.{OpenLines}
 use Rattle.table_state.specs.declared.flight_spans.FlightSpans.{FlightSpans}
-use Rattle.table_state.specs.Spans.{AreCovered}
 use Rattle.table_state.specs.declared.state.TableState.{TableState}
 use Rattle.table_state.specs.Laws.{same_meaning}
-use Rattle.table_state.specs.Shown.{Stands, Knows, AreBoarded, HasOpen, HaveAsked, IsCounted, Shows, Finds, IfGivenBack, in_tables}
 
 -- what is said of each answer of a call is said of its result
 pub of_answer : {X E : Type 0} (Q : X → Type 0) (r : Result X E) → ((x : X) → r ≡ Ok x → Q x) → IfOk r Q

@@ -1,11 +1,8 @@
 -- What is open after a line is written: it is put in if it wasn't checked in, and taken out if it was.
 use Rattle.std.proofs.Common.{◌≡◌, ℕ, true, false, ◌&&◌, ◌==◌, cond, Option, Some, None, refl, sym, ap}
-use Rattle.shipment_machine.specs.Flights.{same_flight_date}
-use Rattle.shipment_machine.specs.declared.flight.FlightDate.{FlightDate}
+use Rattle.table_state.proofs.Common.{same_flight_date, FlightDate, asked_of, expected_for, Lines, with_line}
 use Rattle.shipment_machine.specs.declared.moves.Expected.{Expected}
-use Rattle.station_core.specs.Readers.{asked_of, expected_for}
 use Rattle.station_core.specs.declared.rows.ExpectedQuery.TheVariants.{Open}
-use Rattle.state_store.specs.ExpectedLines.{Lines, with_line}
 
 module _ (lines : Lines) (flight : FlightDate) (w : ℕ) (e : Expected) where
   -- a line that is written is open as it is asked for

@@ -1,34 +1,11 @@
 -- The tables of a new station mean a station with nothing in it.
 use Rattle.std.proofs.Common.{◌≡◌, ℕ, ℤ, pos, negsuc, Bool, true, false, List, [], ◌∷◌, length, Ordering, Option, Some, None, refl, sym, ◌∙◌, ap, subst, arith}
-use Rattle.std.specs.Prelude.{IsTrue, if◌then◌else◌}
-use Rattle.std.specs.List.{find}
+use Rattle.table_state.proofs.Common.{IsTrue, if◌then◌else◌, find, get, empty, entries, get-empty, len-empty, len-entries, IsAscii, is_airport, Designator, FlightDate, Part, Place, State, opening, IsOpening, View, Tables, Stock, StockKey, stock_cmp, Flight, flight_cmp, Expected, expected_cmp, part_cmp, Kept, kept_cmp, kept_text_cmp, Count, CountKey, count_cmp, Build, BuildKey, build_cmp, natural, holder_by, stands_for, is_designator, outbound_by, flight_key, flights_in, plain_place, running, count_in, count_here, build_in, build_here, written_flight, expected_by, expected_key, expected_in, part_key, parts_in, kept_by, meaning_of, IsReadable, Means, at_rest, KnownCounts, Knows, IsCounted, HasThese, Shows}
 use Rattle.std.specs.Option.{option_map, option_and_then}
-use Rattle.std.specs.FinMap.{get, empty, entries, get-empty, len-empty, len-entries}
-use Rattle.std.specs.Str.{IsAscii}
 use Rattle.desk_commands.proofs.Ascii.{IsAscii-airport}
-use Rattle.imp_fields.specs.Airport.{is_airport}
-use Rattle.imp_fields.specs.Flight.{Designator}
 use Rattle.shipment_machine.specs.Cargo.{opening_cargo}
-use Rattle.shipment_machine.specs.declared.flight.FlightDate.{FlightDate}
-use Rattle.shipment_machine.specs.declared.moves.Part.{Part}
-use Rattle.shipment_machine.specs.declared.moves.Place.{Place}
 use Rattle.station_core.specs.Step as step
-use Rattle.station_core.specs.Step.{State}
-use Rattle.station_schema.specs.Connection.{opening, IsOpening}
-use Rattle.station_schema.specs.Store.{View}
-use Rattle.station_schema.specs.Tables.{Tables, Stock, StockKey, stock_cmp, Flight, flight_cmp, Expected, expected_cmp, part_cmp, Kept, kept_cmp, kept_text_cmp, Count, CountKey, count_cmp, Build, BuildKey, build_cmp}
-use Rattle.row_codec.specs.Numbers.{natural}
-use Rattle.row_codec.specs.Stock.{holder_by, stands_for}
-use Rattle.row_codec.specs.Flights.{is_designator, outbound_by, flight_key, flights_in}
-use Rattle.row_codec.specs.Moves.{plain_place}
-use Rattle.row_codec.specs.Counts.{counted, count_at, built_up, build_at, written_flight}
-use Rattle.row_codec.specs.Manifests.{expected_by, expected_key, expected_in, part_key, parts_in}
-use Rattle.row_codec.specs.Replies.{kept_by}
-use Rattle.row_codec.specs.Meaning.{meaning_of, IsReadable, Means}
-use Rattle.state_store.specs.Store.{at_rest}
 use Rattle.table_state.specs.Laws.{same_meaning}
-use Rattle.table_state.specs.declared.counted.KnownCounts.{KnownCounts}
-use Rattle.table_state.specs.Shown.{Knows, IsCounted, HasThese, Shows}
 
 none_of : {X : Type 0} (xs : List X) → length xs ≡ 0 → xs ≡ []
 none_of [] e = refl
@@ -50,19 +27,19 @@ no_expected f w = ap (λ o. if is_designator f.flight then option_map expected_b
 no_parts : (p : Part) → parts_in empty p ≡ None
 no_parts p = ap (λ o. if is_designator p.flight.flight then o else None) (get-empty part_cmp (part_key p)) ∙ either_none (is_designator p.flight.flight)
 
-nothing_counted : (w : ℕ) (place : Option Place) → count_at [] w place ≡ None
+nothing_counted : (w : ℕ) (place : Option Place) → count_here (running []) w place ≡ None
 nothing_counted w None = refl
 nothing_counted w (Some place) = refl
 
-no_counts : (key : CountKey) → get (empty {X = Count} {R = count_cmp}) key ≡ counted [] key
+no_counts : (key : CountKey) → get (empty {X = Count} {R = count_cmp}) key ≡ count_in (running []) key
 no_counts (pos w, code) = get-empty count_cmp (pos w, code) ∙ sym (nothing_counted w (plain_place code))
 no_counts (negsuc w, code) = get-empty count_cmp (negsuc w, code)
 
-nothing_built : (day w : ℕ) (flight : Option Designator) → build_at [] day w flight ≡ None
+nothing_built : (day w : ℕ) (flight : Option Designator) → build_here (running []) day w flight ≡ None
 nothing_built day w None = refl
 nothing_built day w (Some flight) = refl
 
-no_builds : (key : BuildKey) → get (empty {X = Build} {R = build_cmp}) key ≡ built_up [] key
+no_builds : (key : BuildKey) → get (empty {X = Build} {R = build_cmp}) key ≡ build_in (running []) key
 no_builds (text, (pos day, pos w)) = get-empty build_cmp (text, (pos day, pos w)) ∙ sym (nothing_built day w (written_flight text))
 no_builds (text, (pos day, negsuc w)) = get-empty build_cmp (text, (pos day, negsuc w))
 no_builds (text, (negsuc day, w)) = get-empty build_cmp (text, (negsuc day, w))

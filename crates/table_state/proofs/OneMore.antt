@@ -1,24 +1,15 @@
 -- How many waybills are on a flight when one more move is in the book.
 use Rattle.std.proofs.Common.{◌≡◌, ℕ, ◌<◌, ◌≤◌, length, get_or, set, get_or-set_same, get_or-set_other, length-set, below_more, All, suc, ◌+◌, ℤ, pos, neg_ℤ, ◌+ℤ◌, int_lt, nat_lt, ◌==◌, Bool, true, false, cond, ◌&&◌, ◌||◌, Option, Some, List, [], ◌∷◌, ◌++◌, refl, sym, ap, ap₂, subst, ◌∙◌, arith, true≢false}
-use Rattle.std.proofs.lemmas.Int.{ints}
-use Rattle.std.proofs.lemmas.Bool.Decides.{nat_tests}
-use Rattle.shipment_machine.specs.Book.{pieces_of, balance, moved_in, moved_out, same_place, put_rising, waybills_on}
-use Rattle.shipment_machine.specs.Numbers.{is_in}
-use Rattle.shipment_machine.specs.declared.flight.FlightDate.{FlightDate}
-use Rattle.shipment_machine.specs.declared.moves.Move.{Move}
-use Rattle.shipment_machine.specs.declared.moves.Place.{Place}
-use Rattle.shipment_machine.specs.declared.moves.Place.TheVariants.{Built}
-use Rattle.shipment_machine.specs.Flights.{same_flight_date}
+use Rattle.table_state.proofs.Common.{ints, nat_tests, pieces_of, balance, moved_in, moved_out, same_place, put_rising, waybills_on, is_in, FlightDate, Move, Place, Built, same_flight_date, IsBoarded, joins}
 use Rattle.shipment_machine.proofs.FlightKeys.{same-is}
 use Rattle.shipment_machine.proofs.Rising.{Rising-put_rising, is_in-put_rising, Rising-filter, same_rising}
 use Rattle.shipment_machine.proofs.OnFlight.{Rising-waybills_of, is_in-waybills_on}
-use Rattle.running_totals.specs.Posted.{WereThere}
-use Rattle.running_totals.proofs.Tests.{and_no, is_nat}
-use Rattle.running_totals.proofs.Codes.{same_is}
-use Rattle.running_totals.proofs.FlightRows.{positive}
-use Rattle.running_totals.proofs.Moved.{balance_then, more}
+use Rattle.row_codec.specs.Posted.{WereThere}
+use Rattle.row_codec.proofs.Tests.{and_no, is_nat}
+use Rattle.row_codec.proofs.Codes.{same_is}
+use Rattle.row_codec.proofs.FlightRows.{positive}
+use Rattle.row_codec.proofs.Moved.{balance_then, more}
 use Rattle.table_state.specs.declared.counted.Boarded.{Boarded}
-use Rattle.table_state.specs.Shown.{IsBoarded, joins}
 
 -- a number that is new among ascending ones makes one more
 one_longer : (q : ℕ) (xs : List ℕ) → is_in q xs ≡ false → length (put_rising q xs) ≡ suc (length xs)

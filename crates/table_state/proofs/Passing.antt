@@ -1,21 +1,13 @@
 -- What rows of tables do to the sink that they are handed on to.
 use Rattle.std.proofs.Common.{◌≡◌, ◌⊎◌, inl, inr, ℕ, zero, suc, Bool, true, false, List, [], ◌∷◌, map, take, length, Some, Result, Ok, Err, refl, sym, ap, subst, subst₂, ◌∙◌}
-use Rattle.std.specs.Prelude.{IsOk, IsErr, OnOk}
+use Rattle.table_state.proofs.Common.{IsOk, IsErr, OnOk, take-map, State, View, Tables, Means, HandsOut, at_rest, KnownCounts, Knows, Shows, in_tables}
 use Rattle.std.proofs.Math.Seq.{take-length}
-use Rattle.std.proofs.lemmas.List.{take-map}
 use Rattle.row_sinks.specs.Handed.{HandedOut, Hands}
-use Rattle.station_core.specs.Step.{State}
 use Rattle.station_schema.specs.Store as row
-use Rattle.station_schema.specs.Store.{View}
-use Rattle.station_schema.specs.Tables.{Tables}
-use Rattle.row_codec.specs.Meaning.{Means}
 use Rattle.station_rows.specs.Clauses as rows
 use Rattle.station_rows.specs.Clauses.{HandsIfOpen, HandsOf}
-use Rattle.state_store.specs.Store.{HandsOut, at_rest}
-use Rattle.table_state.specs.declared.counted.KnownCounts.{KnownCounts}
 use Rattle.table_state.specs.declared.state.TableState.{TableState}
 use Rattle.table_state.specs.Shown as shown
-use Rattle.table_state.specs.Shown.{Knows, Shows, in_tables}
 use Rattle.table_state.proofs.Lifting.{rests_on, seen_in, survives_so}
 use Rattle.table_state.specs.Handing.{Tells}
 use Rattle.table_state.specs.declared.handing.Telling.{Telling}

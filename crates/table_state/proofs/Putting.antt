@@ -1,15 +1,7 @@
 -- A row that is written over the one with its key.
 use Rattle.std.proofs.Common.{◌≡◌, Bool, true, false, Option, Some, None, sym, ap, subst, ◌∙◌, Ordering}
-use Rattle.std.specs.Prelude.{option_map, unwrap_or, is_some}
-use Rattle.std.specs.FinMap.{FinMap, get, insert}
-use Rattle.sqlite_keyed.specs.Keyed.{get_by}
+use Rattle.table_state.proofs.Common.{option_map, unwrap_or, is_some, FinMap, get, insert, get_by, View, Displays, IsShowing, inside, Tables, Waybill, waybill_id, Flight, FlightKey, Expected, ExpectedKey, WaybillRow, FlightRow, ExpectedRow, waybill_meant, flight_meant, expected_meant, with_waybill, changing_waybill, with_flight, changing_flight, with_expected, changing_expected}
 use Rattle.station_schema.specs.ColumnKeys.{adjust}
-use Rattle.station_schema.specs.Store.{View, Displays, IsShowing, inside}
-use Rattle.station_schema.specs.Tables.{Tables, Waybill, waybill_id, Flight, FlightKey, Expected, ExpectedKey}
-use Rattle.station_rows.specs.declared.waybills.WaybillRow.{WaybillRow}
-use Rattle.station_rows.specs.declared.flights.FlightRow.{FlightRow}
-use Rattle.station_rows.specs.declared.expected.ExpectedRow.{ExpectedRow}
-use Rattle.station_rows.specs.Meant.{waybill_meant, flight_meant, expected_meant, with_waybill, changing_waybill, with_flight, changing_flight, with_expected, changing_expected}
 use Rattle.table_state.specs.Put.{put_over, putting_waybill}
 
 adjusts : {K V A : Type 0} {R : K → K → Ordering} (m : FinMap R V) (k : K) (meant : A → V) (found : Option A) (new : V) → is_some found ≡ true → option_map meant found ≡ get m k → adjust m k (λ _. new) ≡ insert m k new

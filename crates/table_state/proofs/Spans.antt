@@ -1,30 +1,16 @@
 -- The moves of a flight are those of its span.
 use Rattle.std.proofs.Common.{◌≡◌, ℕ, suc, ◌+◌, ◌<◌, ◌≤◌, ◌==◌, ◌&&◌, ◌||◌, ℤ, pos, negsuc, Bool, true, false, cond, Option, Some, List, [], ◌∷◌, ◌++◌, map, filter, length, refl, sym, ap, ap₂, subst, ◌∙◌, arith}
-use Rattle.std.specs.Prelude.{All, int_lt, int_le}
+use Rattle.table_state.proofs.Common.{All, int_lt, int_le, list_all, ints, flight_text, same_flight, same_flight_date, FlightDate, Built, book_by, book_row, is_named, is_of_flight, numbered, State, is_flown, is_flown_within, is_move_after, Tables, is_designator, Means, book_row_by, is_move_row, natural, AreCovered, Covers, IsCovered, IsSpanned, LiesIn}
 use Rattle.std.specs.BTreeMap.{BTreeMap}
-use Rattle.std.specs.List.{list_all}
-use Rattle.std.proofs.lemmas.Int.{ints}
 use Rattle.std.proofs.lemmas.List.Elements.{All-cons, All-head, All-nil, All-push, All-same, All-tail, All-weaker}
-use Rattle.imp_fields.specs.Flight.{flight_text, same_flight}
 use Rattle.row_sinks.specs.Handed.{HandedOut}
-use Rattle.shipment_machine.specs.Flights.{same_flight_date}
 use Rattle.shipment_machine.specs.Places.{same_place}
-use Rattle.shipment_machine.specs.declared.flight.FlightDate.{FlightDate}
-use Rattle.shipment_machine.specs.declared.moves.Place.TheVariants.{Built}
 use Rattle.shipment_machine.specs.declared.moves.Move as cargo
-use Rattle.station_core.specs.Readers.{book_by, book_row, is_named, is_of_flight, numbered}
-use Rattle.station_core.specs.Step.{State}
 use Rattle.station_core.specs.declared.rows.BookQuery.TheVariants.{On}
 use Rattle.station_core.specs.declared.rows.BookRow.{BookRow}
-use Rattle.station_rows.specs.Meant.{is_flown, is_flown_within, is_move_after}
-use Rattle.station_schema.specs.Tables.{Tables, Move}
-use Rattle.row_codec.specs.Flights.{is_designator}
-use Rattle.row_codec.specs.Meaning.{Means}
-use Rattle.row_codec.specs.Moves.{book_row_by, is_move_row}
-use Rattle.row_codec.specs.Numbers.{natural}
+use Rattle.station_schema.specs.Tables.{Move}
 use Rattle.row_codec.proofs.Flown.{flown_moves}
 use Rattle.row_codec.proofs.Handing.{book_handed, book_on}
-use Rattle.table_state.specs.Spans.{AreCovered, Covers, IsCovered, IsSpanned, LiesIn}
 use Rattle.table_state.specs.declared.flight_spans.Filling.{Filling}
 use Rattle.table_state.specs.declared.flight_spans.Span.{Span}
 

@@ -1,46 +1,16 @@
 -- What was read of a row is what the state has that is shown.
 use Rattle.std.proofs.Common.{◌≡◌, ℕ, ℤ, pos, Bool, true, List, length, Option, Some, option_map, is_some, map, filter, not, sym, ap, subst, ◌∙◌}
-use Rattle.std.specs.Prelude.{nat_lt}
-use Rattle.std.specs.BTreeSet.{BTreeSet, contains}
-use Rattle.std.specs.FinMap.{entries, get}
-use Rattle.std.specs.Ordering.{nat_cmp}
-use Rattle.std.proofs.lemmas.List.{length-map}
+use Rattle.table_state.proofs.Common.{nat_lt, BTreeSet, contains, entries, get, nat_cmp, length-map, IsKeyedBy, get_by, flight_text, Holders, holders_in, has_moves, AreCounts, AreBuilds, FlightDate, Move, Part, AreAnnounced, AreExpectations, AreNoted, State, AnnouncedRow, Tables, waybill_id, WaybillRow, FlightRow, ExpectedRow, waybill_meant, flight_meant, noted_flight_meant, expected_meant, listed_waybill_meant, move_meant, is_of, kept_meant, natural, declared_by, is_designator, noted_by, outbound_by, expectation_by, expected_by, Means, book_in, kept_by, holders_told, book_told, HaveCome, announced_by}
 use Rattle.sqlite_trees.proofs.ListLemmas.{map-map}
-use Rattle.sqlite_keyed.specs.Keyed.{IsKeyedBy, get_by}
-use Rattle.imp_fields.specs.Flight.{flight_text}
-use Rattle.agent_stock.specs.Stock.{Holders}
 use Rattle.stock_tables.specs.Stocked.{Stocked}
-use Rattle.row_codec.specs.Stock.{holders_in}
-use Rattle.shipment_machine.specs.Book.{has_moves}
-use Rattle.row_codec.specs.Counts.{AreCounts, AreBuilds}
-use Rattle.shipment_machine.specs.declared.flight.FlightDate.{FlightDate}
-use Rattle.shipment_machine.specs.declared.moves.Move.{Move}
-use Rattle.shipment_machine.specs.declared.moves.Part.{Part}
-use Rattle.station_core.specs.Readers.{AreAnnounced, AreExpectations, AreNoted}
-use Rattle.station_core.specs.Step.{State}
-use Rattle.station_core.specs.declared.rows.AnnouncedRow.{AnnouncedRow}
 use Rattle.station_core.specs.declared.rows.Expectation.{Expectation}
 use Rattle.station_core.specs.declared.rows.NotedFlight.{NotedFlight}
-use Rattle.station_schema.specs.Tables.{Tables, waybill_id}
-use Rattle.station_rows.specs.declared.waybills.WaybillRow.{WaybillRow}
-use Rattle.station_rows.specs.declared.flights.FlightRow.{FlightRow}
 use Rattle.station_rows.specs.declared.flights.NotedFlightRow.{NotedFlightRow}
-use Rattle.station_rows.specs.declared.expected.ExpectedRow.{ExpectedRow}
 use Rattle.station_rows.specs.declared.expected.ListedWaybillRow.{ListedWaybillRow}
 use Rattle.station_rows.specs.declared.moves.MoveRow.{MoveRow}
-use Rattle.station_rows.specs.Meant.{waybill_meant, flight_meant, noted_flight_meant, expected_meant, listed_waybill_meant, move_meant, is_of, kept_meant}
 use Rattle.station_rows.specs.declared.kept.KeptRow.{KeptRow}
-use Rattle.row_codec.specs.Numbers.{natural}
-use Rattle.row_codec.specs.Waybills.{declared_by}
-use Rattle.row_codec.specs.Flights.{is_designator, noted_by, outbound_by}
-use Rattle.row_codec.specs.Manifests.{expectation_by, expected_by}
-use Rattle.row_codec.specs.Meaning.{Means}
-use Rattle.row_codec.specs.Moves.{book_in}
-use Rattle.row_codec.specs.Replies.{kept_by}
 use Rattle.row_codec.proofs.Reading.{declared_read, outbound_read, expected_read, part_read, kept_key_read, kept_text_read}
-use Rattle.row_codec.proofs.Telling.{holders_told, book_told}
 use Rattle.row_codec.proofs.Noted.{expectations_told, noted_told}
-use Rattle.table_state.specs.Announced.{HaveCome, announced_by}
 use Rattle.table_state.proofs.Announced.{announced_told}
 use Rattle.table_state.proofs.HasMoves.{any_move}
 

@@ -6,7 +6,7 @@ use Rattle.station_schema.specs.Tables as table
 use Rattle.station_schema.specs.Tables.{Tables}
 use Rattle.station_rows.specs.Meant.{with_move}
 use Rattle.row_codec.specs.Moves.{move_row, move_by, is_move_row}
-use Rattle.running_totals.specs.Posted.{Posted}
+use Rattle.row_codec.specs.Posted.{Posted}
 
 -- in a transaction a store shows these tables with one move more, under this number, and the
 -- running counts of this book

@@ -12,7 +12,7 @@ use Rattle.station_schema.specs.Tables.{Tables}
 use Rattle.station_schema.specs.Store.{View, IsAtRest}
 use Rattle.row_codec.specs.Counts.{running}
 use Rattle.row_codec.specs.Meaning.{Means}
-use Rattle.running_totals.specs.Known.{AreKnown}
+use Rattle.row_codec.specs.Known.{AreKnown}
 use Rattle.state_store.specs.ExpectedLines.{Lines, lines_in}
 use Rattle.state_store.specs.Store.{Seen, Storing}
 use Rattle.state_store.specs.Waybills.{is_asked_for}

@@ -72,7 +72,7 @@ impl<S: TableStore> TableState<S> {
         ensures { ReadsAtRest (in_tables S.view) self.old self.new result
             (λ s numbers. HaveCome numbers s.cargo.book) }
     {
-        let all = running_totals::all_balances(self.alloc, &mut self.store)?;
+        let all = row_codec::all_balances(self.alloc, &mut self.store)?;
         numbers_come(self.alloc, &all)
     }
 

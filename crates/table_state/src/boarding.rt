@@ -3,7 +3,7 @@ ghost use Rattle.std.specs.Prelude.{◌≡◌, ◌∷◌, [], ◌++◌, length, 
 ghost use Rattle.shipment_machine.specs.Book.{same_place, waybills_on};
 ghost use Rattle.shipment_machine.specs.declared.moves.Move as cargo;
 ghost use Rattle.shipment_machine.specs.declared.moves.Place.TheVariants.{Built};
-ghost use Rattle.running_totals.specs.Posted.{WereThere};
+ghost use Rattle.row_codec.specs.Posted.{WereThere};
 ghost use Rattle.table_state.specs.Shown.{IsBoarded, AreBoarded, joins};
 
 use crate::counted::{Boarded, Boardings, MOST_FLIGHTS};

@@ -5,7 +5,7 @@ ghost use Rattle.station_core.specs.Step.{most_rows};
 use crate::flight_spans::FlightSpans;
 use crate::open_lines::OpenLines;
 use crate::waybill_sets::WaybillSets;
-use running_totals::KnownSums;
+use row_codec::KnownSums;
 use shipment_machine::FlightDate;
 use station_core::Sizes;
 

@@ -26,7 +26,7 @@ impl<S: TableStore> TableState<S> {
             (λ s done. rows.new.items ≡ rows.old.items ++ asked query s.cargo.book number) }
     {
         let awb = Awb::of_key(number).ok_or(StoreFault)?;
-        let balances = running_totals::balances(&mut self.store, &mut self.counted.known, &awb)?;
+        let balances = row_codec::balances(&mut self.store, &mut self.counted.known, &awb)?;
         if !query.asks_for(&balances) {
             return Ok(());
         }
@@ -58,7 +58,7 @@ impl<S: TableStore> TableState<S> {
         ensures { ReadsAtRest (in_tables S.view) self.old self.new result
             (λ s rows. rows.items ≡ waybills_for query s.cargo.book) }
     {
-        let all = running_totals::all_balances(self.alloc, &mut self.store)?;
+        let all = row_codec::all_balances(self.alloc, &mut self.store)?;
         asked_among(self.alloc, query, &all)
     }
 

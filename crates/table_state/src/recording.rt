@@ -4,12 +4,11 @@ ghost use Rattle.shipment_machine.specs.declared.moves.Move as cargo;
 ghost use Rattle.station_schema.specs.Store.{IsShowing, Survives, inside};
 ghost use Rattle.station_schema.specs.Tables.{Tables};
 ghost use Rattle.row_codec.specs.Counts.{AreCounts, AreBuilds, running};
-ghost use Rattle.running_totals.specs.Known.{AreKnown};
-ghost use Rattle.running_totals.specs.Posted.{WereThere};
+ghost use Rattle.row_codec.specs.Known.{AreKnown};
+ghost use Rattle.row_codec.specs.Posted.{WereThere};
 ghost use Rattle.table_state.specs.Recorded.{Recorded};
 
-use row_codec::move_row;
-use running_totals::{KnownSums, post_move};
+use row_codec::{KnownSums, move_row, post_move};
 use shipment_machine::Move;
 use station_rows::{InsertMove, StoreFault, TableStore};
 use std::alloc::Global;

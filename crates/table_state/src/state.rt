@@ -21,10 +21,9 @@ use agent_stock::{Holder, Order, StockFault, StockRun};
 use awb_number::Awb;
 use imp_fields::Airport;
 use row_codec::{
-    awb_key, count_of, day_number, expected_by, flight_text, kept_by, line_query, message_row,
-    outbound_by, waybill_by,
+    KnownSums, awb_key, count_of, day_number, expected_by, flight_text, kept_by, line_query,
+    message_row, outbound_by, waybill_by,
 };
-use running_totals::KnownSums;
 use shipment_machine::{
     Amount, Balances, Change, Declared, Expected, FlightDate, Move, Outbound, Part,
 };
@@ -167,11 +166,11 @@ impl<S: TableStore> StateStore for TableState<S> {
     }
 
     fn balances(&mut self, awb: &Awb) -> Result<Balances, StoreFault> {
-        running_totals::balances(&mut self.store, &mut self.counted.known, awb)
+        row_codec::balances(&mut self.store, &mut self.counted.known, awb)
     }
 
     fn load(&mut self, awb: &Awb, flight: &FlightDate) -> Result<Amount, StoreFault> {
-        running_totals::load(
+        row_codec::load(
             self.alloc,
             &mut self.store,
             &mut self.counted.known,
@@ -181,14 +180,14 @@ impl<S: TableStore> StateStore for TableState<S> {
     }
 
     fn aboard(&mut self, flight: &FlightDate) -> Result<Vec<Load>, StoreFault> {
-        running_totals::aboard(self.alloc, &mut self.store, &mut self.counted.known, flight)
+        row_codec::aboard(self.alloc, &mut self.store, &mut self.counted.known, flight)
     }
 
     fn waybills_on(&mut self, flight: &FlightDate) -> Result<usize, StoreFault> {
         if let Some(number) = self.counted.boarded.number_on(flight) {
             return Ok(number);
         }
-        let waybills = running_totals::waybills_on(self.alloc, &mut self.store, flight)?;
+        let waybills = row_codec::waybills_on(self.alloc, &mut self.store, flight)?;
         self.counted.boarded.keep(Boarded {
             flight: *flight,
             waybills,

@@ -1,12 +1,5 @@
 use Rattle.std.proofs.Common.{rules, ◌≡◌, Option, List, ℕ, is_some, unwrap_or, SFits, w64, to_z-of_z, sym, ap, ◌∙◌, true≢false}
-use Rattle.std.proofs.lemmas.Bool.{and_parts, and_from}
-use Rattle.station_rows.specs.Meant.{move_meant}
-use Rattle.shipment_machine.specs.declared.flight.FlightDate.{FlightDate}
-use Rattle.shipment_machine.specs.declared.moves.Place.{Place}
-use Rattle.shipment_machine.specs.declared.moves.Place.TheVariants.{Hand}
-use Rattle.row_codec.specs.Flights.{flight_date_of}
-use Rattle.row_codec.specs.Numbers.{is_day, is_within}
-use Rattle.row_codec.specs.Moves.{place_of, are_flight_columns}
+use Rattle.row_codec.proofs.Common.{and_parts, and_from, move_meant, FlightDate, Place, Hand, flight_date_of, is_day, is_within, place_of, are_flight_columns}
 use Rattle.row_codec.proofs.MoveRows.{move_is, is_row, is_no_row}
 use Rattle.row_codec.proofs.moves.move_by.Goals as goal
 

@@ -1,6 +1,5 @@
 use Rattle.std.proofs.Common.{rules, true, SFits, w64}
-use Rattle.std.proofs.lemmas.Int.{to_z-of_z}
-use Rattle.station_rows.specs.Meant.{kept_meant}
+use Rattle.row_codec.proofs.Common.{to_z-of_z, kept_meant}
 use Rattle.row_codec.proofs.Exact.{under_key, text_is}
 use Rattle.row_codec.proofs.replies.kept_by.Goals as goal
 

@@ -1,9 +1,5 @@
 use Rattle.std.proofs.Common.{rules, ◌∙◌, pos, is_some, SFits, w64, ap}
-use Rattle.std.specs.Prelude.{int_le}
-use Rattle.std.proofs.lemmas.Int.{to_z-of_z}
-use Rattle.station_rows.specs.Meant.{stock_meant}
-use Rattle.row_codec.specs.Numbers.{is_within}
-use Rattle.row_codec.specs.Stock.{holder_by}
+use Rattle.row_codec.proofs.Common.{int_le, to_z-of_z, stock_meant, is_within, holder_by}
 use Rattle.row_codec.proofs.Exact.{no_number, no_count, no_holder, all_tests}
 use Rattle.row_codec.proofs.stock.run_by.Goals as goal
 

@@ -1,6 +1,5 @@
 use Rattle.std.proofs.Common.{sym, ap, ◌∙◌, true≢false}
-use Rattle.std.specs.List.{list_all}
-use Rattle.table_audits.specs.Balances.{is_lawful_build}
+use Rattle.table_audits.proofs.Common.{list_all, is_lawful_build}
 use Rattle.table_audits.proofs.Balanced.{lawful_counts, lawful_builds, lawful_balances, room_at}
 use Rattle.table_audits.proofs.balances.are_balances_lawful.Goals as goal
 

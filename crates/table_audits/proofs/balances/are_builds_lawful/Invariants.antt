@@ -1,7 +1,5 @@
 use Rattle.std.proofs.Common.{◌≡◌, map}
-use Rattle.std.specs.List.{list_all}
-use Rattle.table_load.specs.Held.{flight_entry}
-use Rattle.table_audits.specs.Balances.{is_lawful_build}
+use Rattle.table_audits.proofs.Common.{list_all, flight_entry, is_lawful_build}
 use Rattle.table_audits.proofs.balances.are_builds_lawful.Given as goal
 
 -- the sums are lawful where those ahead are

@@ -1,14 +1,8 @@
 use Rattle.std.proofs.Common.{◌≡◌, true, List, map, refl, sym, subst}
-use Rattle.station_schema.specs.Tables.{Tables}
-use Rattle.station_rows.specs.Meant.{move_meant}
+use Rattle.table_audits.proofs.Common.{Tables, move_meant, Reading, Known, AreGood, before, HasFlights, HasWaybills, AreMovesTaken, IsBookAs}
 use Rattle.station_rows.specs.declared.moves.MoveRow.{MoveRow}
-use Rattle.table_load.specs.Reading.{Reading}
 use Rattle.table_audits.specs.declared.book.BookAudit.{BookAudit}
-use Rattle.table_audits.specs.declared.known.Known.{Known}
 use Rattle.table_audits.specs.declared.name.TableName.TheVariants as table
-use Rattle.table_audits.specs.Good.{AreGood, before}
-use Rattle.table_audits.specs.Judged.{HasFlights, HasWaybills}
-use Rattle.table_audits.specs.Taken.{AreMovesTaken, IsBookAs}
 use Rattle.table_audits.proofs.Tables.{are, bad, missing, tested, moves_table}
 use Rattle.table_audits.proofs.book.is_good.Goals as goal
 

@@ -1,7 +1,5 @@
 use Rattle.std.proofs.Common.{Some, drop, map}
-use Rattle.station_rows.specs.Meant.{build_meant}
-use Rattle.table_load.specs.Held.{flight_entry}
-use Rattle.table_audits.specs.Sums.{build_entry}
+use Rattle.table_audits.proofs.Common.{build_meant, flight_entry, build_entry}
 use Rattle.table_audits.proofs.Walk.{SameAhead}
 use Rattle.table_audits.proofs.builds.are_same.Given as goal
 

@@ -1,9 +1,6 @@
 use Rattle.std.proofs.Common.{refl, subst}
-use Rattle.row_codec.specs.Moves.{book_in}
-use Rattle.table_audits.specs.Posted.{listed_in}
-use Rattle.table_audits.specs.Sums.{AreFlightsOf}
+use Rattle.table_audits.proofs.Common.{book_in, listed_in, AreFlightsOf, build_meant}
 use Rattle.table_audits.proofs.Listed.{flights_are}
-use Rattle.station_rows.specs.Meant.{build_meant}
 use Rattle.table_audits.proofs.Made.{builds_compared}
 use Rattle.table_audits.proofs.Tables.{missing, tested, build_table}
 use Rattle.table_audits.proofs.builds.is_good.Goals as goal

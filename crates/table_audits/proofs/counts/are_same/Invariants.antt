@@ -1,6 +1,5 @@
 use Rattle.std.proofs.Common.{drop}
-use Rattle.station_rows.specs.Meant.{count_meant}
-use Rattle.table_audits.specs.Sums.{count_entry}
+use Rattle.table_audits.proofs.Common.{count_meant, count_entry}
 use Rattle.table_audits.proofs.Walk.{SameAhead}
 use Rattle.table_audits.proofs.counts.are_same.Given as goal
 

@@ -1,6 +1,5 @@
 use Rattle.std.proofs.Common.{refl}
-use Rattle.row_codec.specs.Moves.{book_in}
-use Rattle.table_audits.specs.Posted.{listed_in}
+use Rattle.table_audits.proofs.Common.{book_in, listed_in}
 use Rattle.table_audits.proofs.Compared.{counts_compared}
 use Rattle.table_audits.proofs.Tables.{missing, tested, counts_table}
 use Rattle.table_audits.proofs.counts.is_good.Goals as goal

@@ -1,7 +1,6 @@
 use Rattle.std.proofs.Common.{drop}
 use Rattle.std.specs.Slice.Iter.{iter_rest}
-use Rattle.table_load.specs.Held.{flight_entry}
-use Rattle.row_codec.specs.Numbers.{is_set}
+use Rattle.table_audits.proofs.Common.{flight_entry, is_set}
 use Rattle.table_audits.proofs.Walk.{SameAhead}
 use Rattle.table_audits.proofs.departures.are_closed.Given as goal
 

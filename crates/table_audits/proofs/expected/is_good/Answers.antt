@@ -1,12 +1,5 @@
 use Rattle.std.proofs.Common.{◌≡◌, map, true, refl, sym, subst, rules, tests}
-use Rattle.std.proofs.lemmas.Iterator.{YieldsList-from_slice}
-use Rattle.std.proofs.lemmas.Iterator.Search.{all_from_yields_List}
-use Rattle.std.specs.FinMap.{entries}
-use Rattle.station_rows.specs.Meant.{waybill_meant}
-use Rattle.table_load.specs.Held.{expected_entry}
-use Rattle.table_audits.specs.Order.{RisesByNumber}
-use Rattle.std.specs.List.{list_all}
-use Rattle.table_audits.specs.Rows.{is_lawful_expected}
+use Rattle.table_audits.proofs.Common.{YieldsList-from_slice, all_from_yields_List, entries, waybill_meant, expected_entry, RisesByNumber, list_all, is_lawful_expected}
 use Rattle.table_audits.proofs.ExpectedLaws.{are_expected, lawful_expected}
 use Rattle.table_audits.proofs.Tables.{as_law, missing, tested, expected_table}
 use Rattle.table_audits.proofs.expected.is_good.Goals as goal

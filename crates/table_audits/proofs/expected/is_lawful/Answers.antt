@@ -1,11 +1,5 @@
 use Rattle.std.proofs.Common.{rules, ◌≡◌, ◌&&◌, ◌∙◌, false, map, sym, ap, to_z, of_z, w64}
-use Rattle.std.specs.Prelude.{int_le}
-use Rattle.std.proofs.lemmas.Bool.{and_from}
-use Rattle.std.proofs.lemmas.Int.{to_z-of_z}
-use Rattle.station_rows.specs.Meant.{waybill_meant}
-use Rattle.table_load.specs.Held.{expected_entry}
-use Rattle.row_codec.specs.Manifests.{is_expected_row}
-use Rattle.table_audits.specs.Rows.{has_waybill}
+use Rattle.table_audits.proofs.Common.{int_le, and_from, to_z-of_z, waybill_meant, expected_entry, is_expected_row, has_waybill}
 use Rattle.table_audits.proofs.RowValues.{unlawful, as_tested, number_is, enough_is}
 use Rattle.table_audits.proofs.expected.is_lawful.Goals as goal
 

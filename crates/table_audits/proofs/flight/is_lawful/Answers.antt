@@ -1,7 +1,5 @@
 use Rattle.std.proofs.Common.{List, ℕ, not, ap, ◌∙◌}
-use Rattle.std.specs.Str.{bytes_eq}
-use Rattle.table_load.specs.Held.{flight_entry}
-use Rattle.row_codec.specs.Flights.{is_flight_row}
+use Rattle.table_audits.proofs.Common.{bytes_eq, flight_entry, is_flight_row}
 use Rattle.table_audits.proofs.RowValues.{as_tested, unload_is}
 use Rattle.table_audits.proofs.flight.is_lawful.Goals as goal
 

@@ -1,5 +1,5 @@
 use Rattle.std.proofs.Common.{refl}
-use Rattle.sqlite.specs.Held.{state}
+use Rattle.table_audits.proofs.Common.{state}
 use Rattle.table_load.proofs.WholeLemmas.{at_rest}
 use Rattle.table_audits.proofs.judge.is_good.Goals as goal
 

@@ -1,8 +1,6 @@
 use Rattle.std.proofs.Common.{Ok, Err}
 use Rattle.sqlite.proofs.StateLemmas.{survives_then}
-use Rattle.sqlite.specs.Held.{state}
-use Rattle.table_load.specs.Reading.{read_as}
-use Rattle.table_audits.specs.Judged.{HasJudged}
+use Rattle.table_audits.proofs.Common.{state, read_as, HasJudged}
 use Rattle.table_audits.proofs.Judged.{all_judged, gone_on, reads_err, told}
 use Rattle.table_audits.proofs.judge.judged_tables.Goals as goal
 

@@ -1,10 +1,5 @@
 use Rattle.std.proofs.Common.{◌≡◌, ◌∙◌, sym, rules, tests}
-use Rattle.std.proofs.lemmas.Iterator.{YieldsList-from_slice}
-use Rattle.std.proofs.lemmas.Iterator.Search.{all_from_yields_List}
-use Rattle.std.proofs.lemmas.List.Folds.{list_all-map}
-use Rattle.table_load.specs.Held.{kept_text_entry}
-use Rattle.row_codec.specs.Numbers.{is_count}
-use Rattle.row_codec.specs.Replies.{is_kept_text_row}
+use Rattle.table_audits.proofs.Common.{YieldsList-from_slice, all_from_yields_List, list_all-map, kept_text_entry, is_count, is_kept_text_row}
 use Rattle.table_audits.proofs.Texts.{kept_text_is}
 use Rattle.table_audits.proofs.kept_text.are_in_range.Goals as goal
 

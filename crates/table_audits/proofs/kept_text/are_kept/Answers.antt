@@ -1,9 +1,5 @@
 use Rattle.std.proofs.Common.{◌∙◌, sym, rules, tests}
-use Rattle.std.proofs.lemmas.Iterator.{YieldsList-from_slice}
-use Rattle.std.proofs.lemmas.Iterator.Search.{all_from_yields_List}
-use Rattle.std.proofs.lemmas.List.Folds.{list_all-map}
-use Rattle.table_load.specs.Held.{part_entry}
-use Rattle.table_audits.specs.Rows.{has_text}
+use Rattle.table_audits.proofs.Common.{YieldsList-from_slice, all_from_yields_List, list_all-map, part_entry, has_text}
 use Rattle.table_audits.proofs.kept_text.are_kept.Goals as goal
 
 pub returns : goal.returns

@@ -1,7 +1,5 @@
 use Rattle.std.proofs.Common.{◌∙◌, sym, ap}
-use Rattle.std.specs.List.{list_all}
-use Rattle.row_codec.specs.Replies.{is_kept_text_row}
-use Rattle.table_audits.specs.Rows.{has_text}
+use Rattle.table_audits.proofs.Common.{list_all, is_kept_text_row, has_text}
 use Rattle.table_audits.proofs.KeptTextLaws.{are_texts, texts_kept}
 use Rattle.table_audits.proofs.kept_text.are_kept_texts_lawful.Goals as goal
 

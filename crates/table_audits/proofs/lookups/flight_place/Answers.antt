@@ -1,7 +1,5 @@
 use Rattle.std.proofs.Common.{rules}
-use Rattle.std.proofs.lemmas.Fn.{always_returns_same}
-use Rattle.station_schema.specs.Tables.{flight_cmp}
-use Rattle.table_load.specs.Held.{flight_entry}
+use Rattle.table_audits.proofs.Common.{always_returns_same, flight_cmp, flight_entry}
 use Rattle.table_audits.proofs.lookups.flight_place.Goals as goal
 
 pub returns-clause-place : goal.returns-clause-place

@@ -1,7 +1,5 @@
 use Rattle.std.proofs.Common.{◌∙◌}
-use Rattle.station_schema.proofs.Keys.{kept_text_total, kept_text_same}
-use Rattle.station_schema.specs.Tables.{kept_text_cmp}
-use Rattle.table_load.specs.Held.{kept_text_entry}
+use Rattle.table_audits.proofs.Common.{kept_text_total, kept_text_same, kept_text_cmp, kept_text_entry}
 use Rattle.table_audits.proofs.Searches.{has_entry}
 use Rattle.table_audits.proofs.lookups.is_kept.Goals as goal
 

@@ -1,7 +1,5 @@
 use Rattle.std.proofs.Common.{rules}
-use Rattle.std.proofs.lemmas.Fn.{always_returns_same}
-use Rattle.station_schema.specs.Tables.{kept_text_cmp}
-use Rattle.table_load.specs.Held.{kept_text_entry}
+use Rattle.table_audits.proofs.Common.{always_returns_same, kept_text_cmp, kept_text_entry}
 use Rattle.table_audits.proofs.lookups.text_place.Goals as goal
 
 pub returns-clause-place : goal.returns-clause-place

@@ -1,8 +1,5 @@
 use Rattle.std.proofs.Common.{refl, rules, tests}
-use Rattle.std.proofs.lemmas.Iterator.{YieldsList-from_slice}
-use Rattle.std.proofs.lemmas.Iterator.Search.{all_from_yields_List}
-use Rattle.table_load.specs.Held.{part_entry}
-use Rattle.row_codec.specs.Manifests.{is_part_row}
+use Rattle.table_audits.proofs.Common.{YieldsList-from_slice, all_from_yields_List, part_entry, is_part_row}
 use Rattle.table_audits.proofs.Tables.{are, as_law, missing, tested, part_table}
 use Rattle.table_audits.proofs.part.is_good.Goals as goal
 

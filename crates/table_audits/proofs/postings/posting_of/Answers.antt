@@ -1,8 +1,5 @@
 use Rattle.std.proofs.Common.{◌≡◌, ◌∙◌, true, map, sym, subst, true≢false}
-use Rattle.station_rows.specs.Meant.{move_meant, waybill_meant}
-use Rattle.table_load.specs.Held.{flight_entry}
-use Rattle.row_codec.specs.Moves.{is_move_row}
-use Rattle.table_audits.specs.Posted.{IsPosted, IsPostedOr}
+use Rattle.table_audits.proofs.Common.{move_meant, waybill_meant, flight_entry, is_move_row, IsPosted, IsPostedOr}
 use Rattle.table_audits.proofs.PostedLaws.{read_columns, names_from, names_to, posted_row, good_fits, nowhere_from, nowhere_to}
 use Rattle.table_audits.proofs.postings.posting_of.Goals as goal
 

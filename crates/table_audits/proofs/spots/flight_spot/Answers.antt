@@ -1,9 +1,5 @@
 use Rattle.std.proofs.Common.{◌≡◌, ℕ, List, Equal, Err, get_or, subst}
-use Rattle.std.specs.List.Sorted.{IsBinarySearchResult}
-use Rattle.station_schema.specs.Tables.{flight_cmp}
-use Rattle.station_schema.proofs.Keys.{flight_total, flight_same}
-use Rattle.station_rows.specs.Meant.{move_meant}
-use Rattle.table_load.specs.Held.{flight_entry}
+use Rattle.table_audits.proofs.Common.{IsBinarySearchResult, flight_cmp, flight_total, flight_same, move_meant, flight_entry}
 use Rattle.table_audits.proofs.Searches.{no_entry}
 use Rattle.table_audits.proofs.PostedLaws.{found_spot, lost_spot}
 use Rattle.table_audits.proofs.spots.flight_spot.Goals as goal

@@ -1,5 +1,5 @@
 use Rattle.std.proofs.Common.{◌∙◌, sym, rules, w64}
-use Rattle.std.proofs.lemmas.Int.{to_z-of_z}
+use Rattle.table_audits.proofs.Common.{to_z-of_z}
 use Rattle.table_audits.proofs.PostedLaws.{plain_spot}
 use Rattle.table_audits.proofs.spots.spot_of.Goals as goal
 

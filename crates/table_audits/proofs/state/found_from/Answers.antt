@@ -1,16 +1,8 @@
 use Rattle.std.proofs.Common.{◌≡◌, ◌∙◌, ℕ, ℤ, List, ◌∷◌, [], refl, sym, w64}
-use Rattle.std.proofs.lemmas.Int.{to_z-of_z}
-use Rattle.sqlite.specs.Held.{state}
+use Rattle.table_audits.proofs.Common.{to_z-of_z, state, Tables, natural, Reading, read_as, station_read, new_row, one_row, Known, Knows, IsLawfulTable}
 use Rattle.station_schema.specs.Connection.{opening}
-use Rattle.station_schema.specs.Tables.{Tables}
-use Rattle.row_codec.specs.Numbers.{natural}
 use Rattle.table_load.proofs.WholeLemmas.{at_rest}
-use Rattle.table_load.specs.Reading.{Reading, read_as, station_read}
-use Rattle.table_load.specs.Verdict.{new_row, one_row}
-use Rattle.table_audits.specs.declared.known.Known.{Known}
 use Rattle.table_audits.specs.declared.name.TableName.TheVariants as table
-use Rattle.table_audits.specs.Judged.{Knows}
-use Rattle.table_audits.specs.Lawful.{IsLawfulTable}
 use Rattle.table_audits.proofs.Judged.{airport_is, is_our_row, mark_is, reads_err, row_stops}
 use Rattle.table_audits.proofs.state.found_from.Goals as goal
 

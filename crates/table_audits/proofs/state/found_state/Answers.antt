@@ -1,7 +1,5 @@
 use Rattle.std.proofs.Common.{◌∙◌, sym, ap}
-use Rattle.sqlite.specs.Held.{state}
-use Rattle.table_load.specs.Reading.{read_as}
-use Rattle.table_load.specs.Verdict.{found_meant}
+use Rattle.table_audits.proofs.Common.{state, read_as, found_meant}
 use Rattle.table_audits.proofs.Judged.{damaged_stops}
 use Rattle.table_audits.proofs.state.found_state.Goals as goal
 

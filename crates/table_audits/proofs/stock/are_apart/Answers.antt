@@ -1,7 +1,5 @@
 use Rattle.std.proofs.Common.{rules, tests}
-use Rattle.std.proofs.lemmas.Fn.{always_returns_same}
-use Rattle.station_rows.specs.Meant.{stock_meant}
-use Rattle.row_codec.specs.Stock.{is_behind}
+use Rattle.table_audits.proofs.Common.{always_returns_same, stock_meant, is_behind}
 use Rattle.table_audits.proofs.StockRows.{adjacent}
 use Rattle.table_audits.proofs.stock.are_apart.Goals as goal
 

@@ -1,8 +1,5 @@
 use Rattle.std.proofs.Common.{◌≡◌, ◌∙◌, map, sym, ap, subst, true≢false, arith, w64, to_z}
-use Rattle.std.specs.Prelude.{IsTrue, int_le}
-use Rattle.std.proofs.lemmas.Int.{ints, to_z-of_z}
-use Rattle.station_rows.specs.Meant.{waybill_meant}
-use Rattle.table_audits.specs.Rows.{has_waybill}
+use Rattle.table_audits.proofs.Common.{IsTrue, int_le, ints, to_z-of_z, waybill_meant, has_waybill}
 use Rattle.table_audits.proofs.stock.are_declared.Goals as goal
 
 pub returns-then-not-is_declared : goal.returns-then-not-is_declared

@@ -1,8 +1,5 @@
 use Rattle.std.proofs.Common.{ℤ, map}
-use Rattle.std.specs.Prelude.{IsTrue, int_le, int_lt}
-use Rattle.station_rows.specs.Meant.{waybill_meant}
-use Rattle.table_audits.specs.Order.{RisesByNumber}
-use Rattle.table_audits.specs.Rows.{has_waybill}
+use Rattle.table_audits.proofs.Common.{IsTrue, int_le, int_lt, waybill_meant, RisesByNumber, has_waybill}
 use Rattle.table_audits.proofs.stock.are_declared.Given as goal
 
 abbrev pub invariant-loop-number : goal.invariant-loop-number

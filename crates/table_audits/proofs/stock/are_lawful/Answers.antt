@@ -1,7 +1,5 @@
 use Rattle.std.proofs.Common.{map, rules, tests}
-use Rattle.std.proofs.lemmas.Iterator.{YieldsList-from_slice, cases_from_all}
-use Rattle.station_rows.specs.Meant.{stock_meant, waybill_meant}
-use Rattle.table_audits.specs.Rows.{IsLawfulStock}
+use Rattle.table_audits.proofs.Common.{YieldsList-from_slice, cases_from_all, stock_meant, waybill_meant, IsLawfulStock}
 use Rattle.table_audits.proofs.StockRows.{each_row}
 use Rattle.table_audits.proofs.stock.are_lawful.Goals as goal
 

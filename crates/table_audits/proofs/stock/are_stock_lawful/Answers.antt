@@ -1,9 +1,5 @@
 use Rattle.std.proofs.Common.{◌≡◌, true, map, sym, ap, subst, ◌∙◌}
-use Rattle.std.specs.List.{AllByRecursion}
-use Rattle.std.specs.FinMap.{entries}
-use Rattle.station_rows.specs.Meant.{waybill_meant}
-use Rattle.row_codec.specs.Stock.{are_apart}
-use Rattle.table_audits.specs.Rows.{IsLawfulStock}
+use Rattle.table_audits.proofs.Common.{AllByRecursion, entries, waybill_meant, are_apart, IsLawfulStock}
 use Rattle.table_audits.proofs.StockLaws.{are_stocks, lawful_stocks}
 use Rattle.table_audits.proofs.stock.are_stock_lawful.Goals as goal
 

@@ -1,9 +1,5 @@
 use Rattle.std.proofs.Common.{refl, subst, sym, rules, tests}
-use Rattle.std.proofs.lemmas.Iterator.{YieldsList-from_slice}
-use Rattle.std.proofs.lemmas.Iterator.Search.{all_from_yields_List}
-use Rattle.station_rows.specs.Meant.{waybill_meant}
-use Rattle.table_audits.specs.Order.{RisesByNumber}
-use Rattle.table_audits.specs.Rows.{is_lawful_waybill}
+use Rattle.table_audits.proofs.Common.{YieldsList-from_slice, all_from_yields_List, waybill_meant, RisesByNumber, is_lawful_waybill}
 use Rattle.table_audits.proofs.WaybillLaws.{are_waybills, lawful_waybills}
 use Rattle.table_audits.proofs.Tables.{are, as_law, missing, tested, waybill_table, waybills_rise}
 use Rattle.table_audits.proofs.waybill.is_good.Goals as goal

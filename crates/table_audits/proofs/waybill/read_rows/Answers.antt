@@ -1,8 +1,5 @@
 use Rattle.std.proofs.Common.{List, map, sym, subst}
-use Rattle.sqlite.specs.Held.{state}
-use Rattle.station_schema.specs.Tables.{Waybill}
-use Rattle.station_rows.specs.Meant.{waybill_meant}
-use Rattle.table_load.specs.Reading.{HoldsWaybills}
+use Rattle.table_audits.proofs.Common.{state, Waybill, waybill_meant, HoldsWaybills}
 use Rattle.table_audits.proofs.Undated.{none_told, some_told}
 use Rattle.table_audits.proofs.waybill.read_rows.Goals as goal
 

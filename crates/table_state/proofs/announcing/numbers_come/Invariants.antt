@@ -1,7 +1,5 @@
 use Rattle.std.proofs.Common.{◌≡◌, ℕ, take}
-use Rattle.std.specs.BTreeSet.{contains}
-use Rattle.std.specs.List.{list_any}
-use Rattle.std.specs.Ordering.{nat_cmp}
+use Rattle.table_state.proofs.Common.{contains, list_any, nat_cmp}
 use Rattle.table_state.proofs.Announced.{comes}
 use Rattle.table_state.proofs.announcing.numbers_come.Given as goal
 

@@ -1,5 +1,5 @@
 use Rattle.std.proofs.Common.{rules, ◌≡◌, ◌+◌, sym, ap, subst, ◌∙◌, to_z-of_z}
-use Rattle.table_state.specs.Shown.{IsBoarded, joins}
+use Rattle.table_state.proofs.Common.{IsBoarded, joins}
 use Rattle.table_state.proofs.OneMore.{passes, stays_aboard, comes_aboard}
 use Rattle.table_state.proofs.boarding.after_move.Goals.{else-is_on-2-via-then-is_on-2+else-joins, else-is_on-2-via-else-is_on-2}
 use Rattle.table_state.proofs.boarding.after_move.Goals as goal

@@ -1,6 +1,5 @@
 use Rattle.std.proofs.Common.{rules, ◌≡◌, true, false, Option, Some, None, subst}
-use Rattle.shipment_machine.specs.declared.flight.FlightDate.{FlightDate}
-use Rattle.station_core.specs.Readers.{is_named}
+use Rattle.table_state.proofs.Common.{FlightDate, is_named}
 use Rattle.table_state.proofs.Spans.{covered_by, same_day}
 use Rattle.table_state.proofs.flight_spans.with_move.Goals as goal
 

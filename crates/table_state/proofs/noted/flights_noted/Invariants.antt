@@ -1,6 +1,5 @@
 use Rattle.std.proofs.Common.{◌≡◌, Some, take, map}
-use Rattle.station_rows.specs.Meant.{noted_flight_meant}
-use Rattle.row_codec.specs.Flights.{noted_by}
+use Rattle.table_state.proofs.Common.{noted_flight_meant, noted_by}
 use Rattle.table_state.proofs.noted.flights_noted.Given as goal
 
 abbrev pub invariant-loop-row : goal.invariant-loop-row

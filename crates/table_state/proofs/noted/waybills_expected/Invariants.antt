@@ -1,6 +1,5 @@
 use Rattle.std.proofs.Common.{◌≡◌, Some, take, map}
-use Rattle.station_rows.specs.Meant.{listed_waybill_meant}
-use Rattle.row_codec.specs.Manifests.{expectation_by}
+use Rattle.table_state.proofs.Common.{listed_waybill_meant, expectation_by}
 use Rattle.table_state.proofs.noted.waybills_expected.Given as goal
 
 abbrev pub invariant-loop-row : goal.invariant-loop-row

@@ -1,6 +1,5 @@
 use Rattle.std.proofs.Common.{Some, None, ap, subst, ◌∙◌}
-use Rattle.state_store.specs.ExpectedLines.{Lines, with_line}
-use Rattle.table_state.specs.Shown.{HasOpen}
+use Rattle.table_state.proofs.Common.{Lines, with_line, HasOpen}
 use Rattle.table_state.proofs.LineWritten.{closed, opened}
 use Rattle.table_state.proofs.open_lines.after_line.Goals as goal
 

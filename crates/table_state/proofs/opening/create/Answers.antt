@@ -1,6 +1,5 @@
 use Rattle.std.proofs.Common.{rules, ◌≡◌, true, inl, inr, ⊎_elim, ap, ◌∙◌}
-use Rattle.imp_fields.specs.Airport.{is_airport}
-use Rattle.station_schema.specs.Connection.{opening}
+use Rattle.table_state.proofs.Common.{is_airport, opening}
 use Rattle.table_state.proofs.File.{leaves_file}
 use Rattle.table_state.proofs.NewState.{opening_found}
 use Rattle.table_state.proofs.opening.create.Goals as goal

@@ -1,4 +1,4 @@
-use Rattle.station_rows.specs.Meant.{move_meant, with_move}
+use Rattle.table_state.proofs.Common.{move_meant, with_move}
 use Rattle.table_state.proofs.Lifting.{of_answer}
 use Rattle.table_state.proofs.recording.record_move.Goals as goal
 

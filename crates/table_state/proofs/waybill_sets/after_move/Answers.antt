@@ -1,7 +1,5 @@
 use Rattle.std.proofs.Common.{sym, ap, subst, ◌∙◌}
-use Rattle.std.specs.BTreeSet.{insert_key}
-use Rattle.std.specs.Ordering.{nat_cmp}
-use Rattle.table_state.specs.Shown.{HasAsked}
+use Rattle.table_state.proofs.Common.{insert_key, nat_cmp, HasAsked}
 use Rattle.table_state.proofs.Asked.{kept_still, kept_too}
 use Rattle.table_state.proofs.waybill_sets.after_move.Goals as goal
 

@@ -1,6 +1,5 @@
 use Rattle.std.proofs.Common.{◌≡◌, take, filter}
-use Rattle.station_core.specs.declared.stored.WaybillBalances.{WaybillBalances}
-use Rattle.state_store.specs.Waybills.{is_asked_for}
+use Rattle.table_state.proofs.Common.{WaybillBalances, is_asked_for}
 use Rattle.table_state.proofs.waybill_sets.asked_among.Given as goal
 
 abbrev pub invariant-loop-waybill : goal.invariant-loop-waybill

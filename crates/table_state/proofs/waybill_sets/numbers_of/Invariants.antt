@@ -1,6 +1,5 @@
 use Rattle.std.proofs.Common.{◌≡◌, ℕ, true, take, map}
-use Rattle.shipment_machine.specs.Numbers.{is_in}
-use Rattle.station_core.specs.declared.stored.WaybillBalances.{WaybillBalances}
+use Rattle.table_state.proofs.Common.{is_in, WaybillBalances}
 use Rattle.table_state.proofs.waybill_sets.numbers_of.Given as goal
 
 -- the numbers of the waybills so far are there

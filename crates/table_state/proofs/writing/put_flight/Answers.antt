@@ -1,7 +1,5 @@
 use Rattle.std.proofs.Common.{sym, ◌∙◌, w64}
-use Rattle.std.proofs.lemmas.Int.{to_z-of_z}
-use Rattle.station_schema.specs.Store.{inside}
-use Rattle.station_rows.specs.Meant.{flight_meant}
+use Rattle.table_state.proofs.Common.{to_z-of_z, inside, flight_meant}
 use Rattle.table_state.proofs.Lifting.{of_answer}
 use Rattle.table_state.proofs.Putting.{over_flight}
 use Rattle.table_state.proofs.writing.put_flight.Goals as goal

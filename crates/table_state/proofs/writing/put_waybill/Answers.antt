@@ -1,7 +1,5 @@
 use Rattle.std.proofs.Common.{rules, sym, ◌∙◌, SFits, w64}
-use Rattle.std.proofs.lemmas.Int.{to_z-of_z}
-use Rattle.station_schema.specs.Store.{inside}
-use Rattle.station_rows.specs.Meant.{waybill_meant}
+use Rattle.table_state.proofs.Common.{to_z-of_z, inside, waybill_meant}
 use Rattle.table_state.proofs.Lifting.{of_answer}
 use Rattle.table_state.proofs.Putting.{over_waybill, as_new_waybill}
 use Rattle.table_state.proofs.writing.put_waybill.Goals as goal

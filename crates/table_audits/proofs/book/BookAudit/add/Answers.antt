@@ -1,6 +1,5 @@
 use Rattle.std.proofs.Common.{map}
-use Rattle.row_codec.specs.Moves.{move_by}
-use Rattle.table_audits.specs.Posted.{listed_in}
+use Rattle.table_audits.proofs.Common.{move_by, listed_in}
 use Rattle.table_audits.proofs.ClosedLaws.{listed_distinct}
 use Rattle.table_audits.proofs.TakenMoves.{book_more}
 use Rattle.table_audits.proofs.book.BookAudit.add.Goals as goal

@@ -1,8 +1,5 @@
 use Rattle.std.proofs.Common.{◌+◌, pos, sym, ap, subst, ◌∙◌, true≢false, rules, w64}
-use Rattle.std.proofs.lemmas.Int.{to_z-of_z}
-use Rattle.station_rows.specs.Meant.{move_meant}
-use Rattle.table_audits.specs.Departed.{is_marked}
-use Rattle.table_audits.specs.Taken.{IsNextOr}
+use Rattle.table_audits.proofs.Common.{to_z-of_z, move_meant, is_marked, IsNextOr}
 use Rattle.table_audits.proofs.ClosedLaws.{listed_distinct}
 use Rattle.table_audits.proofs.TakenMoves.{read_as, number_next, row_next, builds_late, good_more}
 use Rattle.table_audits.proofs.book.BookAudit.next_posting.Goals as goal

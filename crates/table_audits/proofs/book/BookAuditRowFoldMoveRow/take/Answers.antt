@@ -1,6 +1,5 @@
 use Rattle.std.proofs.Common.{map, subst}
-use Rattle.station_rows.specs.Meant.{move_meant}
-use Rattle.table_audits.specs.Taken.{IsBookAs}
+use Rattle.table_audits.proofs.Common.{move_meant, IsBookAs}
 use Rattle.table_audits.proofs.TakenMoves.{bad_before, book_taken}
 use Rattle.table_audits.proofs.book.BookAuditRowFoldMoveRow.take.Goals as goal
 

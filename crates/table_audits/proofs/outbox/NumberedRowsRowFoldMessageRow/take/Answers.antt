@@ -1,5 +1,5 @@
 use Rattle.std.proofs.Common.{rules, w64}
-use Rattle.std.proofs.lemmas.Int.{to_z-of_z}
+use Rattle.table_audits.proofs.Common.{to_z-of_z}
 use Rattle.table_audits.proofs.Taken.{messages_more}
 use Rattle.table_audits.proofs.outbox.NumberedRowsRowFoldMessageRow.take.Goals as goal
 

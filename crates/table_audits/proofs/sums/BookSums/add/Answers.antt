@@ -1,15 +1,11 @@
 use Rattle.std.proofs.Common.{◌∙◌, rules, w64}
-use Rattle.std.proofs.lemmas.Int.{to_z-of_z}
-use Rattle.std.proofs.lemmas.Result.{on_ok_weaker}
-use Rattle.row_codec.specs.Counts.{running}
-use Rattle.running_totals.specs.Sums.{posting}
-use Rattle.table_audits.specs.Sums.{meant}
+use Rattle.table_audits.proofs.Common.{to_z-of_z, on_ok_weaker, running, posting}
 use Rattle.table_audits.proofs.Posted.{moved}
 use Rattle.table_audits.proofs.sums.BookSums.add.Goals as goal
 
 pub returns : goal.returns
 returns c = λ flights book m distinct are is.
     on_ok_weaker c.post_at-2.result (moved flights book m c.args.movement.now c.in-Some.gone c.post_at-2.new.self is c.in-Some.ensures)
-    (c.post_at-2.ensures flights (posting m.awb m.from (meant c.in-Some.gone) (running book)) distinct
+    (c.post_at-2.ensures flights (posting m.awb m.from c.in-Some.gone (running book)) distinct
     (c.in_ok-post_at.ensures flights (running book) distinct are m.awb m.from (to_z-of_z w64 c.args.movement.now.awb (search rules) ∙ is.awb_is) is.from_is)
     m.awb m.to (to_z-of_z w64 c.args.movement.now.awb (search rules) ∙ is.awb_is) is.to_is)

@@ -1,8 +1,5 @@
 use Rattle.std.proofs.Common.{◌≡◌, map, subst, rules, w64}
-use Rattle.std.proofs.lemmas.Int.{to_z-of_z}
-use Rattle.station_rows.specs.Meant.{waybill_meant, trail_meant}
-use Rattle.table_audits.specs.Order.{RisesByNumber}
-use Rattle.table_audits.specs.Rows.{is_lawful_line}
+use Rattle.table_audits.proofs.Common.{to_z-of_z, waybill_meant, trail_meant, RisesByNumber, is_lawful_line}
 use Rattle.table_audits.proofs.Taken.{lines_more}
 use Rattle.table_audits.proofs.trail.NumberedRowsRowFoldTrailRow.take.Goals as goal
 

@@ -1,5 +1,5 @@
 use Rattle.std.proofs.Common.{subst, sym}
-use Rattle.station_core.specs.Told.{AreAllBalances}
+use Rattle.table_state.proofs.Common.{AreAllBalances}
 use Rattle.table_state.proofs.Lifting.{at_rest_of, read_by}
 use Rattle.table_state.proofs.Values.{by_counts}
 use Rattle.table_state.proofs.state.TableState.all_come.Goals as goal

@@ -1,8 +1,6 @@
 use Rattle.std.proofs.Common.{ap, map, ◌∙◌}
 use Rattle.station_rows.specs.declared.expected.ListedWaybillRow.{ListedWaybillRow}
-use Rattle.station_rows.specs.Meant.{listed_waybill_meant}
-use Rattle.row_codec.specs.Manifests.{expectation_by}
-use Rattle.state_store.proofs.Walks.{told_so}
+use Rattle.table_state.proofs.Common.{listed_waybill_meant, expectation_by, told_so}
 use Rattle.table_state.proofs.Lifting.{at_rest_of, read_by}
 use Rattle.table_state.proofs.Values.{expectations_are}
 use Rattle.table_state.proofs.state.TableState.all_lines.Goals as goal

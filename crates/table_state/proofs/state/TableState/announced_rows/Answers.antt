@@ -1,6 +1,4 @@
-use Rattle.station_core.specs.Readers.{AreAnnounced}
-use Rattle.state_store.proofs.Walks.{rests_then}
-use Rattle.table_state.specs.Shown.{in_tables}
+use Rattle.table_state.proofs.Common.{AreAnnounced, rests_then, in_tables}
 use Rattle.table_state.proofs.state.TableState.announced_rows.Goals as goal
 
 pub returns : goal.returns

@@ -1,7 +1,5 @@
 use Rattle.std.proofs.Common.{rules, ◌∙◌}
-use Rattle.state_store.specs.Waybills.{asked}
-use Rattle.state_store.proofs.Walks.{survives_then}
-use Rattle.table_state.specs.Shown.{in_tables}
+use Rattle.table_state.proofs.Common.{asked, survives_then, in_tables}
 use Rattle.table_state.proofs.Balances.{all_put, from_numbers, put_next}
 use Rattle.table_state.proofs.state.TableState.asked_in.Goals as goal
 

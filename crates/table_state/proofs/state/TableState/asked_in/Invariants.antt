@@ -1,8 +1,5 @@
 use Rattle.std.proofs.Common.{◌≡◌, ◌++◌, Ok}
-use Rattle.std.specs.List.{flat_map}
-use Rattle.state_store.specs.Store.{ReadsAtRest}
-use Rattle.state_store.specs.Waybills.{asked}
-use Rattle.table_state.specs.Shown.{in_tables}
+use Rattle.table_state.proofs.Common.{flat_map, ReadsAtRest, asked, in_tables}
 use Rattle.table_state.proofs.state.TableState.asked_in.Given as goal
 
 -- the rows so far and those ahead are the rows of all

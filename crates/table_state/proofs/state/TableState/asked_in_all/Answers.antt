@@ -1,7 +1,5 @@
 use Rattle.std.proofs.Common.{filter, ap, ◌∙◌}
-use Rattle.station_core.specs.declared.stored.WaybillBalances.{WaybillBalances}
-use Rattle.state_store.specs.Waybills.{is_asked_for}
-use Rattle.state_store.proofs.Walks.{told_so}
+use Rattle.table_state.proofs.Common.{WaybillBalances, is_asked_for, told_so}
 use Rattle.table_state.proofs.Balances.{from_all}
 use Rattle.table_state.proofs.Lifting.{at_rest_of, read_by}
 use Rattle.table_state.proofs.Values.{by_counts}

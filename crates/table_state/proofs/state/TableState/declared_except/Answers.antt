@@ -1,11 +1,5 @@
 use Rattle.std.proofs.Common.{◌∙◌, ap, filter, map, not}
-use Rattle.std.specs.BTreeSet.{contains}
-use Rattle.std.specs.Ordering.{nat_cmp}
-use Rattle.station_core.specs.declared.rows.AnnouncedRow.{AnnouncedRow}
-use Rattle.station_rows.specs.declared.waybills.WaybillRow.{WaybillRow}
-use Rattle.station_rows.specs.Meant.{waybill_meant}
-use Rattle.state_store.proofs.Walks.{told_so}
-use Rattle.table_state.specs.Announced.{announced_by}
+use Rattle.table_state.proofs.Common.{contains, nat_cmp, AnnouncedRow, WaybillRow, waybill_meant, told_so, announced_by}
 use Rattle.table_state.proofs.Lifting.{at_rest_of, read_by}
 use Rattle.table_state.proofs.Values.{announced_are}
 use Rattle.table_state.proofs.state.TableState.declared_except.Goals as goal

@@ -1,7 +1,5 @@
 use Rattle.std.proofs.Common.{refl, rules, [], ◌∙◌, SFits, w64}
-use Rattle.std.proofs.lemmas.Bool.{and_from}
-use Rattle.std.proofs.lemmas.Int.{to_z-of_z}
-use Rattle.row_codec.specs.Manifests.{expected_key}
+use Rattle.table_state.proofs.Common.{and_from, to_z-of_z, expected_key}
 use Rattle.table_state.proofs.Changes.{expects_on}
 use Rattle.table_state.proofs.Lifting.{writes_so}
 use Rattle.table_state.proofs.state.TableState.expect.Goals as goal

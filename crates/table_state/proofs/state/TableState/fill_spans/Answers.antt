@@ -1,6 +1,5 @@
 use Rattle.std.proofs.Common.{refl}
-use Rattle.station_core.specs.Readers.{book_rows}
-use Rattle.state_store.specs.Store.{at_rest}
+use Rattle.table_state.proofs.Common.{book_rows, at_rest}
 use Rattle.table_state.proofs.Lifting.{keeps_number}
 use Rattle.table_state.proofs.Spans.{filled}
 use Rattle.table_state.proofs.state.TableState.fill_spans.Goals as goal

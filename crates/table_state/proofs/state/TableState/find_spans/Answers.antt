@@ -1,5 +1,5 @@
 use Rattle.std.proofs.Common.{refl}
-use Rattle.state_store.specs.Store.{at_rest}
+use Rattle.table_state.proofs.Common.{at_rest}
 use Rattle.table_state.proofs.Lifting.{keeps_number}
 use Rattle.table_state.proofs.state.TableState.find_spans.Goals as goal
 

@@ -1,8 +1,5 @@
 use Rattle.std.proofs.Common.{rules, ap, sym}
-use Rattle.row_codec.specs.Moves.{book_row_by}
-use Rattle.station_core.specs.Readers.{book_by}
-use Rattle.station_core.specs.declared.stored.Sizes.{Sizes}
-use Rattle.station_rows.specs.Meant.{move_meant, moves_for}
+use Rattle.table_state.proofs.Common.{book_row_by, book_by, Sizes, move_meant, moves_for}
 use Rattle.table_state.proofs.Passing.{handed_so}
 use Rattle.table_state.proofs.state.TableState.hand_book.Goals as goal
 

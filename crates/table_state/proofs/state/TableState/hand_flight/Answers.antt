@@ -1,5 +1,4 @@
-use Rattle.state_store.proofs.Walks.{survives_then}
-use Rattle.table_state.specs.Shown.{in_tables}
+use Rattle.table_state.proofs.Common.{survives_then, in_tables}
 use Rattle.table_state.proofs.state.TableState.hand_flight.Goals as goal
 
 pub returns : goal.returns

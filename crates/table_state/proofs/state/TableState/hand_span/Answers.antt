@@ -1,9 +1,6 @@
 use Rattle.std.proofs.Common.{rules, filter, ◌∙◌, SFits, w64}
-use Rattle.std.proofs.lemmas.Int.{to_z-of_z}
-use Rattle.row_codec.specs.Moves.{book_row_by}
-use Rattle.station_core.specs.Readers.{book_by}
+use Rattle.table_state.proofs.Common.{to_z-of_z, book_row_by, book_by, is_flown_within, move_meant}
 use Rattle.station_core.specs.declared.rows.BookQuery.TheVariants.{On}
-use Rattle.station_rows.specs.Meant.{is_flown_within, move_meant}
 use Rattle.table_state.proofs.Passing.{handed_so}
 use Rattle.table_state.proofs.Spans.{within_span}
 use Rattle.table_state.proofs.state.TableState.hand_span.Goals as goal

@@ -1,7 +1,5 @@
 use Rattle.std.proofs.Common.{rules, [], ◌∙◌, SFits, w64}
-use Rattle.std.proofs.lemmas.Bool.{and_from}
-use Rattle.std.proofs.lemmas.Int.{to_z-of_z}
-use Rattle.row_codec.specs.Flights.{flight_key}
+use Rattle.table_state.proofs.Common.{and_from, to_z-of_z, flight_key}
 use Rattle.table_state.proofs.Changes.{notes_flight_on}
 use Rattle.table_state.proofs.Lifting.{on_answer, writes_so}
 use Rattle.table_state.proofs.state.TableState.note_flight.Goals as goal

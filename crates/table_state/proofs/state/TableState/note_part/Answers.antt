@@ -1,8 +1,5 @@
 use Rattle.std.proofs.Common.{rules, ◌≡◌, ◌∙◌, ap, pos, SFits, w64, IsTrue, List, ℕ, subst}
-use Rattle.std.specs.Str.{IsUtf8, is_utf8}
-use Rattle.std.proofs.lemmas.Int.{to_z-of_z}
-use Rattle.std.proofs.lemmas.Str.{is_utf8-from_IsUtf8}
-use Rattle.imp_fields.specs.Airport.{is_airport}
+use Rattle.table_state.proofs.Common.{IsUtf8, is_utf8, to_z-of_z, is_utf8-from_IsUtf8, is_airport}
 use Rattle.imp_fields.specs.Amount.{IsPartNumber}
 use Rattle.row_codec.proofs.Fits.{part_fits}
 use Rattle.table_state.proofs.Changes.{notes_part_on}

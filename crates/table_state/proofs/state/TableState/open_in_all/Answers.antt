@@ -1,7 +1,6 @@
 use Rattle.std.proofs.Common.{refl, subst, sym}
-use Rattle.station_core.specs.Readers.{AreExpectations, expected_for}
+use Rattle.table_state.proofs.Common.{AreExpectations, expected_for, at_rest}
 use Rattle.station_core.specs.declared.rows.ExpectedQuery.TheVariants.{Open}
-use Rattle.state_store.specs.Store.{at_rest}
 use Rattle.table_state.proofs.Lifting.{keeps_number}
 use Rattle.table_state.proofs.state.TableState.open_in_all.Goals as goal
 

@@ -1,8 +1,5 @@
 use Rattle.std.proofs.Common.{◌≡◌, Some, rules, subst}
-use Rattle.station_core.specs.Readers.{AreExpectations}
-use Rattle.state_store.specs.ExpectedLines.{Lines}
-use Rattle.state_store.proofs.Walks.{told_so}
-use Rattle.table_state.specs.Shown.{HasOpen}
+use Rattle.table_state.proofs.Common.{AreExpectations, Lines, told_so, HasOpen}
 use Rattle.table_state.proofs.state.TableState.open_lines.Goals as goal
 
 pub returns-in-Some : goal.returns-in-Some

@@ -1,4 +1,4 @@
-use Rattle.row_codec.specs.Counts.{running}
+use Rattle.table_state.proofs.Common.{running}
 use Rattle.table_state.proofs.NewState.{shown}
 use Rattle.table_state.proofs.state.TableState.over.Goals as goal
 

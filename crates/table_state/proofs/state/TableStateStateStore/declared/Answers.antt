@@ -1,8 +1,5 @@
 use Rattle.std.proofs.Common.{rules, ap, sym, Some, option_map, ◌∙◌, SFits, w64}
-use Rattle.std.proofs.lemmas.Int.{to_z-of_z}
-use Rattle.station_rows.specs.declared.waybills.WaybillRow.{WaybillRow}
-use Rattle.station_rows.specs.Meant.{waybill_meant}
-use Rattle.row_codec.specs.Waybills.{declared_by}
+use Rattle.table_state.proofs.Common.{to_z-of_z, WaybillRow, waybill_meant, declared_by}
 use Rattle.table_state.proofs.Lifting.{read_by}
 use Rattle.table_state.proofs.Values.{declared_is}
 use Rattle.table_state.proofs.state.TableStateStateStore.declared.Goals as goal

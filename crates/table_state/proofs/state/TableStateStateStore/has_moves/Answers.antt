@@ -1,6 +1,5 @@
 use Rattle.std.proofs.Common.{rules, ◌≡◌, ap, ◌∙◌, SFits, w64, length, not}
-use Rattle.std.specs.Prelude.{nat_lt}
-use Rattle.std.proofs.lemmas.Int.{to_z-of_z}
+use Rattle.table_state.proofs.Common.{nat_lt, to_z-of_z}
 use Rattle.table_state.proofs.HasMoves.{has_items}
 use Rattle.table_state.proofs.Lifting.{read_by}
 use Rattle.table_state.proofs.Values.{moves_are}

@@ -1,7 +1,5 @@
 use Rattle.std.proofs.Common.{rules, ◌≡◌, ◌<◌, ◌∙◌, SFits, w64}
-use Rattle.std.specs.Str.{IsUtf8}
-use Rattle.std.proofs.lemmas.Int.{to_z-of_z}
-use Rattle.std.proofs.lemmas.Str.{is_utf8-from_IsUtf8}
+use Rattle.table_state.proofs.Common.{IsUtf8, to_z-of_z, is_utf8-from_IsUtf8}
 use Rattle.table_state.proofs.Changes.{keeps_text_on, mark_fits}
 use Rattle.table_state.proofs.Lifting.{on_answer, writes_so}
 use Rattle.table_state.proofs.state.TableStateStateStore.keep_text.Goals as goal

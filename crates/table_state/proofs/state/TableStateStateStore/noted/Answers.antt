@@ -1,8 +1,6 @@
 use Rattle.std.proofs.Common.{ap, map, ◌∙◌}
 use Rattle.station_rows.specs.declared.flights.NotedFlightRow.{NotedFlightRow}
-use Rattle.station_rows.specs.Meant.{noted_flight_meant}
-use Rattle.row_codec.specs.Flights.{noted_by}
-use Rattle.state_store.proofs.Walks.{told_so}
+use Rattle.table_state.proofs.Common.{noted_flight_meant, noted_by, told_so}
 use Rattle.table_state.proofs.Lifting.{at_rest_of, read_by}
 use Rattle.table_state.proofs.Values.{noted_are}
 use Rattle.table_state.proofs.state.TableStateStateStore.noted.Goals as goal

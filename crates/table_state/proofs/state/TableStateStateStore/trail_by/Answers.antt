@@ -1,8 +1,6 @@
 use Rattle.std.proofs.Common.{rules, ap, sym}
 use Rattle.row_codec.specs.Logs.{trail_row_by}
-use Rattle.station_core.specs.Readers.{trail_by}
-use Rattle.station_core.specs.declared.stored.Sizes.{Sizes}
-use Rattle.station_rows.specs.Meant.{lines_for, trail_meant}
+use Rattle.table_state.proofs.Common.{trail_by, Sizes, lines_for, trail_meant}
 use Rattle.table_state.proofs.Passing.{handed_so}
 use Rattle.table_state.proofs.state.TableStateStateStore.trail_by.Goals as goal
 

@@ -1,7 +1,5 @@
 use Rattle.std.proofs.Common.{map, refl, ap, ◌∙◌}
-use Rattle.shipment_machine.specs.Numbers.{is_in}
-use Rattle.station_core.specs.declared.stored.WaybillBalances.{WaybillBalances}
-use Rattle.state_store.specs.Store.{at_rest}
+use Rattle.table_state.proofs.Common.{is_in, WaybillBalances, at_rest}
 use Rattle.table_state.proofs.Balances.{all_listed}
 use Rattle.table_state.proofs.Lifting.{keeps_number}
 use Rattle.table_state.proofs.state.TableStateStateStore.waybills.Goals as goal

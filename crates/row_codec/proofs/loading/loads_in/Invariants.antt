@@ -1,0 +1,6 @@
+use Rattle.std.proofs.Common.{◌≡◌, take, map}
+use Rattle.row_codec.proofs.Common.{filter, build_meant, load_said, row_said, is_loaded}
+use Rattle.row_codec.proofs.loading.loads_in.Given as goal
+
+abbrev pub invariant-loop-row : goal.invariant-loop-row
+invariant-loop-row l = map load_said l.loads.items ≡ filter is_loaded (map row_said (map build_meant (take l.row-index l.rows)))

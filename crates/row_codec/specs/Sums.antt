@@ -1,0 +1,28 @@
+-- Sums of each waybill at each place, and what moves make of them.
+use Rattle.std.specs.Prelude.{ℕ, pos, ◌+ℤ◌, neg_ℤ, ◌==◌, Bool, true, false, ◌&&◌, if◌then◌else◌}
+use Rattle.shipment_machine.specs.Book.{same_place}
+use Rattle.shipment_machine.specs.declared.moves.Move.{Move}
+use Rattle.shipment_machine.specs.declared.moves.Place.{Place}
+use Rattle.shipment_machine.specs.declared.moves.Place.TheVariants.{Built}
+use Rattle.row_codec.specs.Counts.{Sums}
+use Rattle.row_codec.specs.declared.tally.Tally.{Tally}
+
+-- two amounts together
+abbrev pub plus : Tally → Tally → Tally
+plus a b = record { pieces = a.pieces +ℤ b.pieces; tenths = a.tenths +ℤ b.tenths }
+
+-- an amount more of a waybill at a place
+abbrev pub posting : ℕ → Place → Tally → Sums → Sums
+posting awb place by sums w p = if (awb == w) && same_place p place then plus (sums w p) by else sums w p
+
+-- what a move brings, and what it takes
+abbrev pub come : Move → Tally
+come m = record { pieces = pos m.pieces; tenths = pos m.tenths }
+
+abbrev pub gone : Move → Tally
+gone m = record { pieces = neg_ℤ (pos m.pieces); tenths = neg_ℤ (pos m.tenths) }
+
+-- whether a place is on a flight
+abbrev pub is_built : Place → Bool
+is_built (Built f) = true
+is_built _ = false

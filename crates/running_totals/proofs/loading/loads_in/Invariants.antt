@@ -1,8 +1,0 @@
-use Rattle.std.proofs.Common.{◌≡◌, take, map}
-use Rattle.std.specs.List.{filter}
-use Rattle.station_rows.specs.Meant.{build_meant}
-use Rattle.running_totals.specs.Loaded.{load_said, row_said, is_loaded}
-use Rattle.running_totals.proofs.loading.loads_in.Given as goal
-
-abbrev pub invariant-loop-row : goal.invariant-loop-row
-invariant-loop-row l = map load_said l.loads.items ≡ filter is_loaded (map row_said (map build_meant (take l.row-index l.rows)))
