@@ -1,6 +1,6 @@
 -- The members of a line of `acts`.
 use Rattle.std.proofs.Common.{◌≡◌, ◌∙◌, ℕ, suc, List, [], ◌∷◌, length, Option, Some, None, refl, sym, ap, String}
-use Rattle.std.specs.Prelude.{option_map}
+use Rattle.cli_run.proofs.Common.{option_map}
 use Rattle.std.specs.Option.{option_and_then}
 use Rattle.std.specs.declared.alloc.Global.{Global}
 use Rattle.serde_json.specs.Data.{Data, string}

@@ -1,24 +1,12 @@
 -- The lines of `acts`, one after another.
 use Rattle.std.proofs.Common.{◌≡◌, ℕ, ◌+◌, Bool, true, false, ◌&&◌, inl, inr, Ok, Result, List, [], ◌∷◌, ◌++◌, refl, sym, ap, ap₂, subst, ◌∙◌}
-use Rattle.std.proofs.lemmas.List.{append-nil, append_assoc}
-use Rattle.station_days.specs.Date.{LocalMinute}
-use Rattle.station_core.specs.Given.{Given}
-use Rattle.station_core.specs.Step.{State}
-use Rattle.cli_run.specs.declared.fault.RunFault.{RunFault}
-use Rattle.cli_run.specs.Acts.{HasAnsweredLine}
+use Rattle.cli_run.proofs.Common.{append-nil, append_assoc, LocalMinute, Given, State, RunFault, HasAnsweredLine, asked_after, Keeping, Call, AreAnswered}
 use Rattle.cli_run.specs.ActsLaw.{acts_lines, AreAsked, HasRunActs}
-use Rattle.cli_run.specs.Requests.{asked_after}
-use Rattle.station_core.specs.Keeping.{Keeping}
-use Rattle.cli_run.specs.Ends.{Call}
-use Rattle.cli_run.specs.InTurn.{AreAnswered}
-use Rattle.cli_run.proofs.Ran.{lines_serve}
+use Rattle.cli_run.proofs.Ran.{items_serve, line_service}
 
 module _ {K E : Type 0} (k : Keeping K) (at : LocalMinute) (taken : E → Given) where
   abbrev Line : ℕ → List ℕ → Call K E → Call K E → Result Bool RunFault → Type 0
   Line = HasAnsweredLine k at taken
-
-  sound_before : (n : ℕ) (lines : List (List ℕ)) (old new : Call K E) (good : Bool) → AreAnswered Line n lines old new good → k.is_sound new.keeper → k.is_sound old.keeper
-  sound_before n lines old new good are h = let service = lines_serve k at taken n lines old new good (Ok good) are in service.premise.sound h
 
   pub run_of_lines : (n : ℕ) (lines : List (List ℕ)) (old new : Call K E) (good : Bool) → AreAnswered Line n lines old new good
       → (s : State) → k.keeps old.keeper s → k.is_broken old.keeper ≡ false → k.is_sound new.keeper → HasRunActs n s at lines old.sent.bytes new.sent.bytes (k.keeps new.keeper) good
@@ -30,7 +18,8 @@ module _ {K E : Type 0} (k : Keeping K) (at : LocalMinute) (taken : E → Given)
     good_is = all;
   }
   run_of_lines n (line ∷ lines) old new good (mid, (one, rest, step, more, all)) s kept works sound =
-      go step (λ t kept' works'. run_of_lines (n + 1) lines mid new rest more t kept' works' sound) (sound_before (n + 1) lines mid new rest more sound)
+      let service = items_serve k Line (line_service k at taken) (n + 1) lines mid new rest (Ok rest) more in
+      go step (λ t kept' works'. run_of_lines (n + 1) lines mid new rest more t kept' works' sound) (service.premise.sound sound)
     where
       go : Line n line old mid (Ok one) → ((t : State) → k.keeps mid.keeper t → k.is_broken mid.keeper ≡ false → HasRunActs (n + 1) t at lines mid.sent.bytes new.sent.bytes (k.keeps new.keeper) rest) → k.is_sound mid.keeper
           → HasRunActs n s at (line ∷ lines) old.sent.bytes new.sent.bytes (k.keeps new.keeper) good

@@ -1,12 +1,8 @@
 -- What has come of an input, read by read.
 use Rattle.std.proofs.Common.{◌≡◌, ◌∙◌, ap, sym, refl, arith, ℕ, ◌<◌, ◌≤◌, List, [], ◌++◌, length, append_assoc, length-append, length-take-le, Result, Ok, Err, take}
-use Rattle.std.specs.Prelude.{◌⊎◌}
-use Rattle.station_core.specs.Given.{Given}
-use Rattle.station_core.specs.Ends.{ReadStep}
+use Rattle.cli_run.proofs.Common.{◌⊎◌, Given, ReadStep, most_bytes, most_come, most_read, HasGrown, HasCome, IsWithin}
 use Rattle.station_core.specs.declared.ends.ReadFault.{ReadFault}
 use Rattle.station_core.specs.declared.ends.ReadFault.TheVariants as fault
-use Rattle.imp_fields.specs.TextSize.{most_bytes}
-use Rattle.cli_run.specs.Came.{most_come, most_read, HasGrown, HasCome, IsWithin}
 
 at_most : (a b d : ℕ) → a ≤ b → b ≤ d → a ≤ d
 at_most a b d ab bd = omega (arith, ab, bd)

@@ -1,9 +1,7 @@
 -- The history of a waybill that is written.
 use Rattle.std.proofs.Common.{◌≡◌, ◌∙◌, refl, subst, sym, ℕ, Bool, Option, Some, None, Result, Ok, Err, codes}
-use Rattle.station_core.specs.Given.{Given}
-use Rattle.station_core.specs.Step.{State}
+use Rattle.cli_run.proofs.Common.{Given, State, RunFault}
 use Rattle.station_core.specs.declared.rows.Waybill.{Waybill}
-use Rattle.cli_run.specs.declared.fault.RunFault.{RunFault}
 use Rattle.cli_run.specs.declared.fault.RunFault.TheVariants as fault
 use Rattle.cli_run.specs.History.{HasToldHistory}
 use Rattle.cli_run.specs.Looked.{HasToldFound}

@@ -1,11 +1,7 @@
 -- One item more, and one input more.
 use Rattle.std.proofs.Common.{arith, ◌≡◌, ◌∙◌, sym, refl, ap, subst, inl, inr, ℕ, suc, ◌+◌, ◌<◌, Bool, true, false, ◌&&◌, List, [], ◌∷◌, ◌++◌, length, Option, Some, None, IfSome, Result, Ok, Err}
-use Rattle.std.specs.Result.{IsErrAnd}
-use Rattle.std.proofs.lemmas.List.{append-nil}
-use Rattle.cli_run.specs.declared.fault.RunFault.{RunFault}
+use Rattle.cli_run.proofs.Common.{IsErrAnd, append-nil, RunFault, told_by, AreAnswered, AreFirst, AreMade, HasEndedAt, HaveBeenAnswered, HaveBeenMade}
 use Rattle.cli_run.specs.declared.fault.RunFault.TheVariants as fault
-use Rattle.cli_run.specs.Faults.{told_by}
-use Rattle.cli_run.specs.InTurn.{AreAnswered, AreFirst, AreMade, HasEndedAt, HaveBeenAnswered, HaveBeenMade}
 
 and_true : (b : Bool) → (b && true) ≡ b
 and_true true = refl

@@ -2,11 +2,8 @@
 use Rattle.std.proofs.Common.{◌≡◌, ◌≢◌, ◌≤◌, ◌<◌, ◌+◌, ◌-◌, ◌∙◌, arith, sym, ap, ℕ, List, ◌++◌, All, length, take, take_all, get_or, subst, le_refl, Option, Some, None, IfSome, OnSome}
 use lib.Seq.{take-append_seam}
 use Rattle.std.specs.Io.{IsEmptyOrEndsWith, StopsAt}
-use Rattle.std.specs.Io.BufRead.{take_through, drop_through, DropsThrough}
-use Rattle.std.specs.Io.KnownBytes.{Consumes, IsAtEnd}
-use Rattle.std.proofs.BufReadLemmas.{Consumes_through, take_through-append, drop_through-append}
+use Rattle.cli_run.proofs.Common.{take_through, drop_through, DropsThrough, Consumes, IsAtEnd, Consumes_through, take_through-append, drop_through-append, kept, most_line}
 use Rattle.std.proofs.lemmas.List.Elements.{All-more}
-use Rattle.cli_run.specs.ActLine.{kept, most_line}
 
 -- a part that has no end
 pub no_end_in : (part : List ℕ) → StopsAt part 10 → 0 < length part → get_or part (length part - 1) 0 ≢ 10 → All (λ x. x ≢ 10) part

@@ -2,37 +2,15 @@
 use Rattle.std.proofs.Common.{◌≡◌, ◌⊎◌, ℕ, zero, suc, ◌+◌, Bool, false, inl, inr, Ok, Err, Result, Option, Some, None, List, [], ◌∷◌, ◌++◌, length, refl, sym, ap, subst, ◌∙◌, arith, ⊎_elim}
 use Rattle.std.specs.List.{AllByRecursion}
 use Rattle.std.proofs.Math.Seq.{take-append_seam, take-append-add, take-length}
-use Rattle.std.proofs.lemmas.List.{length-append}
-use Rattle.agent_stock.specs.declared.stock.Order.{Order}
-use Rattle.station_days.specs.Date.{LocalMinute}
-use Rattle.station_core.specs.Given.{Given}
-use Rattle.station_core.specs.declared.input.Input.{Input}
-use Rattle.station_core.specs.Keeping.{Keeping, OnlyReads}
-use Rattle.station_core.specs.Step.{State, step, after_all}
-use Rattle.cli_run.specs.declared.fault.RunFault.{RunFault}
+use Rattle.cli_run.proofs.Common.{length-append, Order, LocalMinute, Given, Input, Keeping, OnlyReads, StaysInService, State, step, after_all, RunFault, input_of, Row, stock_rows, row_asks, Request, HasAnsweredAsks, HasAnsweredLine, HasAnsweredRow, IsActAsked, asked_after, IsTelegramAsked, IsCommandAsked, HasAnswered, HasAnsweredAsked, HasNotReceived, HasReceived, call_to, Ends, Call, AreAnswered, HasEndedAt, HaveBeenAnswered, kept_lines, AreMade, HaveBeenMade, HasTakenNext}
 use Rattle.cli_run.specs.declared.fault.RunFault.TheVariants as fault
-use Rattle.cli_run.specs.ListLaw.{asked_inputs, inputs_of}
-use Rattle.cli_run.specs.Rows.{input_of, lines_from, row_line, Row, rows_after, row_after}
-use Rattle.cli_run.specs.Rows as lines
-use Rattle.cli_run.specs.Row.{row_asks}
 use Rattle.cli_words.specs.declared.line.LineCommand.{LineCommand}
 use Rattle.cli_words.specs.declared.line.LineCommand.TheVariants as command
-use Rattle.cli_run.specs.declared.request.Request.{Request}
 use Rattle.cli_run.specs.declared.request.Request.TheVariants as asked
-use Rattle.cli_run.specs.Acts.{HasAnsweredLine}
-use Rattle.cli_run.specs.ActLine.{IsActAsked}
-use Rattle.cli_run.specs.Requests.{asked_after, IsTelegramAsked, IsCommandAsked}
-use Rattle.cli_run.specs.Answered.{HasAnswered, HasAnsweredAsked, HasNotReceived, HasReceived}
 use Rattle.cli_run.specs.Done.{HasDone}
-use Rattle.cli_run.specs.RowsAnswered.{HasAnsweredRows, HasStopped}
-use Rattle.cli_run.specs.Ended.{IsStopped}
-use Rattle.cli_run.specs.Faults.{kept_by}
-use Rattle.cli_run.specs.Ends.{call_to, Ends, Reached, Call}
-use Rattle.cli_run.specs.InTurn.{AreAnswered, HasEndedAt, HaveBeenAnswered, kept_lines, AreMade, HaveBeenMade}
-use Rattle.cli_run.specs.Takes.{HasTakenNext}
+use Rattle.cli_run.specs.Ends.{Reached}
 use Rattle.cli_run.specs.Left.{AsksAt, station_fault, HasLeft}
-use Rattle.cli_run.proofs.ListLaw.{state_of}
-use Rattle.cli_run.proofs.Ran.{always, line_service, lines_serve, take_serves}
+use Rattle.cli_run.proofs.Ran.{always, items_serve, line_service, row_service, take_serves}
 
 abbrev Inputs : Type 0
 Inputs = List (Input × LocalMinute)
@@ -58,17 +36,12 @@ after_asked : (s : State) (asks : Request) (at : LocalMinute) → asked_after s 
 after_asked s (asked.Input i) at = refl
 after_asked s _ at = refl
 
+after_more : (s : State) (xs : Inputs) (asks : Request) (at : LocalMinute) → asked_after (after_all s xs) asks at ≡ after_all s (xs ++ listed (one_of asks at))
+after_more s xs asks at = after_asked (after_all s xs) asks at ∙ sym (after_append s xs (listed (one_of asks at)))
+
 are_asked : (P : Input × LocalMinute → Type 0) (asks : Request) (at : LocalMinute) → ((i : Input) → asks ≡ asked.Input i → P (i, at)) → AllByRecursion P (listed (one_of asks at))
 are_asked P (asked.Input i) at each = (each i refl, tt)
 are_asked P _ at each = tt
-
-abbrev row_of : Option (List ℕ × Order) → LocalMinute → Option (Input × LocalMinute)
-row_of None at = None
-row_of (Some order) at = Some (input_of order, at)
-
-after_row : (s : State) (order : Option (List ℕ × Order)) (at : LocalMinute) → lines.asked_after s order at ≡ after_all s (listed (row_of order at))
-after_row s None at = refl
-after_row s (Some order) at = refl
 
 module _ {K : Type 0} (k : Keeping K) (settled : (it : K) (s : State) → k.keeps it s → k.is_sound it → (found : Option State) → k.may_find it found → found ≡ Some s) where
   -- some inputs were answered, and the keeper works
@@ -81,6 +54,11 @@ module _ {K : Type 0} (k : Keeping K) (settled : (it : K) (s : State) → k.keep
   abbrev Left : (Input × LocalMinute → Type 0) → State → K → Result Bool RunFault → Type 0
   Left P s it r = HasLeft P s (k.may_find it) r
 
+  -- after an answer the run goes on, and after a fault it is left
+  abbrev Goes : (Input × LocalMinute → Type 0) → State → K → Result Bool RunFault → Type 0
+  Goes P s it (Ok good) = Runs P s it
+  Goes P s it (Err e) = Left P s it (Err e)
+
   module _ (P : Input × LocalMinute → Type 0) (s : State) where
     settle : (xs : Inputs) → AllByRecursion P xs → (it : K) → k.keeps it (after_all s xs) → k.is_sound it → (r : Result Bool RunFault) → Left P s it r
     settle xs all it kept sound r = record {
@@ -91,21 +69,18 @@ module _ {K : Type 0} (k : Keeping K) (settled : (it : K) (s : State) → k.keep
       left = λ found finds. inl (settled it _ kept sound found finds ∙ ap (λ ys. Some (after_all s ys)) (sym (take-length xs)));
     }
 
-    -- one more was answered
-    grow : {old new : K} → (run : Runs P s old) → (one : Option (Input × LocalMinute)) → AllByRecursion P (listed one) → k.keeps new (after_all (after_all s run.inputs) (listed one)) → k.is_broken new ≡ false → Runs P s new
-    grow {old} {new} run one all kept works = record {
-      inputs = run.inputs ++ listed one;
-      asked = all_append P run.inputs (listed one) run.asked all;
-      kept = subst (k.keeps new) (sym (after_append s run.inputs (listed one))) kept;
-      works = works;
-    }
+    finish : (it : K) (r : Result Bool RunFault) → k.is_sound it → Goes P s it r → Left P s it r
+    finish it (Ok good) sound run = settle run.inputs run.asked it run.kept sound (Ok good)
+    finish it (Err e) sound left = left
 
-    -- it was, and then the run stopped
-    done : (xs : Inputs) → AllByRecursion P xs → (one : Option (Input × LocalMinute)) → AllByRecursion P (listed one) → (it : K) → k.keeps it (after_all (after_all s xs) (listed one)) → k.is_sound it → (r : Result Bool RunFault) → Left P s it r
-    done xs all one more it kept sound r =
-        settle (xs ++ listed one) (all_append P xs (listed one) all more) it (subst (k.keeps it) (sym (after_append s xs (listed one))) kept) sound r
+    unmoved : (old new : K) (r : Result Bool RunFault) → new ≡ old → k.is_sound new → Runs P s old → Goes P s new r
+    unmoved old new (Ok good) same sound run = subst (λ it. Runs P s it) (sym same) run
+    unmoved old new (Err e) same sound run = settle run.inputs run.asked new (subst (λ it. k.keeps it (after_all s run.inputs)) (sym same) run.kept) sound (Err e)
 
-    -- it may have been, where the store failed
+    none_yet : (it : K) → k.keeps it s → k.is_broken it ≡ false → Runs P s it
+    none_yet it kept works = record { inputs = []; asked = tt; kept = kept; works = works }
+
+    -- one more may have been answered, where the store failed
     stop : (xs : Inputs) → AllByRecursion P xs → (one : Option (Input × LocalMinute)) → AllByRecursion P (listed one) → (it : K) → (e : RunFault)
         → ((found : Option State) → k.may_find it found → (found ≡ Some (after_all s xs)) ⊎ ((e ≡ fault.Store) × (found ≡ Some (after_all (after_all s xs) (listed one)))))
         → Left P s it (Err e)
@@ -131,197 +106,124 @@ module _ {K : Type 0} (k : Keeping K) (settled : (it : K) (s : State) → k.keep
       ];
     }
 
-    -- nothing but reads
-    still : (old new : K) → k.keeps old s → k.is_sound old → ((found : Option State) → k.may_find new found → k.may_find old found) → (r : Result Bool RunFault) → Left P s new r
-    still old new kept sound back r = record {
-      inputs = [];
-      asked = tt;
-      answered = 0;
-      all = always r refl;
-      left = λ found finds. inl (settled old s kept sound found (back found finds));
-    }
+  module _ {E : Type 0} (P : Input × LocalMinute → Type 0) (s : State) (at : LocalMinute) (taken : E → Given) where
+    -- a request, behind others
+    heard : (number : Option ℕ) (asks : Request) → ((i : Input) → asks ≡ asked.Input i → P (i, at)) → (old new : Call K E) (r : Result Bool RunFault) → k.is_sound new.keeper
+        → HasAnswered k at taken number asks old new r → Runs P s old.keeper → Goes P s new.keeper r
+    heard number asks each old new (Ok good) sound has run =
+        let answer = has.answered (after_all s run.inputs) run.kept run.works sound in
+        record {
+          inputs = run.inputs ++ listed (one_of asks at);
+          asked = all_append P run.inputs (listed (one_of asks at)) run.asked (are_asked P asks at each);
+          kept = subst (k.keeps new.keeper) (after_more s run.inputs asks at) answer.state;
+          works = has.service.works run.works;
+        }
+    heard number asks each old new (Err e) sound has run =
+        elim (has.stopped (after_all s run.inputs) run.kept run.works sound) [
+          | inl acted ↦ settle P s (run.inputs ++ listed (one_of asks at)) (all_append P run.inputs (listed (one_of asks at)) run.asked (are_asked P asks at each)) new.keeper
+              (subst (k.keeps new.keeper) (after_more s run.inputs asks at) acted.state) sound (Err e)
+          | inr idle ↦ stop P s run.inputs run.asked (one_of asks at) (are_asked P asks at each) new.keeper e
+              (λ found finds. ⊎_elim (λ same. inl same) (λ store. inr (store.0, store.1 ∙ ap Some (after_asked (after_all s run.inputs) asks at))) (idle.states found finds))
+        ]
 
-  -- a stop at one request or row, behind others
-  module _ (P : Input × LocalMinute → Type 0) (s : State) where
-    stopped : (xs : Inputs) → AllByRecursion P xs → (one : Option (Input × LocalMinute)) → AllByRecursion P (listed one) → (text : List ℕ) (next : State) → next ≡ after_all (after_all s xs) (listed one)
-        → (e : RunFault) (before after : List ℕ) (it : K) → k.is_sound it → IsStopped text (after_all s xs) next e before after (kept_by k it) → Left P s it (Err e)
-    stopped xs all one more text next is e before after it sound (inl acted) = done P s xs all one more it (subst (k.keeps it) is acted.state) sound (Err e)
-    stopped xs all one more text next is e before after it sound (inr idle) =
-        stop P s xs all one more it e (λ found finds. ⊎_elim (λ same. inl same) (λ store. inr (store.0, store.1 ∙ ap Some is)) (idle.states found finds))
+    -- one body, or one telegram
+    input_goes : (IsAsked : List ℕ → Request → Type 0) → ((bytes : List ℕ) (i : Input) → IsAsked bytes (asked.Input i) → P (i, at))
+        → (old new : Call K E × Given) (r : Result Bool RunFault) → k.is_sound new.0.keeper → HasAnsweredAsked IsAsked k at taken old new r → Runs P s old.0.keeper → Goes P s new.0.keeper r
+    input_goes IsAsked asks_it old new r sound ran run =
+        ⊎_elim (λ (got : HasReceived IsAsked (λ bytes. HasAnswered k at taken None) old.1 new.1 old.0 new.0 r).
+        heard None got.asks (λ i same. asks_it got.bytes i (subst (IsAsked got.bytes) same got.asked)) old.0 new.0 r sound got.answer run)
+        (λ (none : HasNotReceived old.0 new.0 r). unmoved P s old.0.keeper new.0.keeper r (ap (λ (c : Call K E). c.keeper) none.same) sound run) ran.answered
 
-  module _ (P : Input × LocalMinute → Type 0) (s : State) (at : LocalMinute) where
-    -- an input that was asked of bytes
-    module _ (IsAsked : List ℕ → Request → Type 0) (asks_it : (bytes : List ℕ) (i : Input) → IsAsked bytes (asked.Input i) → P (i, at)) where
-      each_of : (bytes : List ℕ) (asks : Request) → IsAsked bytes asks → (i : Input) → asks ≡ asked.Input i → P (i, at)
-      each_of bytes asks is i same = asks_it bytes i (subst (IsAsked bytes) same is)
+    -- telegrams, one after another
+    module _ {I : Type 0} (given : I → Given) (turned : I → I → Type 0)
+        (asks_it : (bytes : List ℕ) (i : Input) → IsTelegramAsked bytes (asked.Input i) → P (i, at)) where
+      abbrev Step : Call K E × I → Call K E × I → Result Bool RunFault → Type 0
+      Step = HasTakenNext (λ bytes. HasAnswered k at taken None) given turned
 
-      module _ {E : Type 0} (taken : E → Given) where
-        asked_last : (from to : Call K E × Given) → Runs P s from.0.keeper → (e : RunFault) → k.is_sound to.0.keeper
-            → HasAnsweredAsked IsAsked k at taken from to (Err e) → Left P s to.0.keeper (Err e)
-        asked_last from to run e sound ran =
-            ⊎_elim (λ (got : HasReceived IsAsked (λ bytes. HasAnswered k at taken None) from.1 to.1 from.0 to.0 (Err e)).
-            stopped P s run.inputs run.asked (one_of got.asks at) (are_asked P got.asks at (each_of got.bytes got.asks got.asked)) _ _ (after_asked (after_all s run.inputs) got.asks at)
-            e from.0.sent.bytes to.0.sent.bytes to.0.keeper sound
-            (got.answer.stopped (after_all s run.inputs) run.kept run.works sound))
-            (λ (none : HasNotReceived from.0 to.0 (Err e)). settle P s run.inputs run.asked to.0.keeper
-            (subst (λ (c : Call K E). k.keeps c.keeper (after_all s run.inputs)) (sym none.same) run.kept) sound (Err e)) ran.answered
+      take_goes : (old new : Call K E × I) (r : Result Bool RunFault) → k.is_sound new.0.keeper → Step old new r → Runs P s old.0.keeper → Goes P s new.0.keeper r
+      take_goes old new r sound step run = input_goes IsTelegramAsked asks_it (old.0, given step.next) (new.0, given new.1) r sound step.run run
 
-        asked_on : (from to : Call K E × Given) → Runs P s from.0.keeper → (good : Bool) → k.is_sound to.0.keeper
-            → HasAnsweredAsked IsAsked k at taken from to (Ok good) → Runs P s to.0.keeper
-        asked_on from to run good sound ran =
-            ⊎_elim (λ (got : HasReceived IsAsked (λ bytes. HasAnswered k at taken None) from.1 to.1 from.0 to.0 (Ok good)).
-            let answer = got.answer.answered (after_all s run.inputs) run.kept run.works sound in
-            grow P s run (one_of got.asks at) (are_asked P got.asks at (each_of got.bytes got.asks got.asked))
-            (subst (k.keeps to.0.keeper) (after_asked (after_all s run.inputs) got.asks at) answer.state) (got.answer.service.works run.works))
-            (λ (none : HasNotReceived from.0 to.0 (Ok good)). subst (λ (c : Call K E). Runs P s c.keeper) (sym none.same) run) ran.answered
+      sound_of : (old new : Call K E × I) (r : Result Bool RunFault) → Step old new r → k.is_sound new.0.keeper → k.is_sound old.0.keeper
+      sound_of old new r step h = let service = take_serves k at taken given turned old new r step in service.premise.sound h
 
-  none_yet : (P : Input × LocalMinute → Type 0) (s : State) (it : K) → k.keeps it s → k.is_broken it ≡ false → Runs P s it
-  none_yet P s it kept works = record { inputs = []; asked = tt; kept = kept; works = works }
+      made : (n : ℕ) (old new : Call K E × I) (good : Bool) → AreMade Step n old new good → k.is_sound new.0.keeper → Runs P s old.0.keeper → Runs P s new.0.keeper
+      made zero old new good (same, all) sound run = subst (λ (c : Call K E × I). Runs P s c.0.keeper) (sym same) run
+      made (suc n) old new good (mid, (before, one, first, step, all)) sound run =
+          take_goes mid new (Ok one) sound step (made n old mid before first (sound_of mid new (Ok one) step sound) run)
 
-  ended : (P : Input × LocalMinute → Type 0) (s : State) (it : K) → Runs P s it → k.is_sound it → (r : Result Bool RunFault) → Left P s it r
-  ended P s it run sound r = settle P s run.inputs run.asked it run.kept sound r
+      takes_go : (count : ℕ) (old new : Call K E × I) (r : Result Bool RunFault) → HaveBeenMade Step count old new r → k.is_sound new.0.keeper → Runs P s old.0.keeper → Goes P s new.0.keeper r
+      takes_go count old new (Ok good) all sound run = made count old new good all sound run
+      takes_go count old new (Err e) (n, less, (mid, (before, first, step))) sound run =
+          take_goes mid new (Err e) sound step (made n old mid before first (sound_of mid new (Err e) step sound) run)
 
-  -- one body, or one telegram
-  module _ {E : Type 0} (IsAsked : List ℕ → Request → Type 0) (P : Input × LocalMinute → Type 0) (at : LocalMinute) (taken : E → Given)
-      (asks_it : (bytes : List ℕ) (i : Input) → IsAsked bytes (asked.Input i) → P (i, at)) where
-    pub act_left : (s : State) (old new : Call K E × Given) (r : Result Bool RunFault) → k.keeps old.0.keeper s → k.is_broken old.0.keeper ≡ false → k.is_sound new.0.keeper
-        → HasAnsweredAsked IsAsked k at taken old new r → Left P s new.0.keeper r
-    act_left s old new (Ok good) kept works sound has =
-        ended P s new.0.keeper (asked_on P s at IsAsked asks_it taken old new (none_yet P s old.0.keeper kept works) good sound has) sound (Ok good)
-    act_left s old new (Err e) kept works sound has =
-        asked_last P s at IsAsked asks_it taken old new (none_yet P s old.0.keeper kept works) e sound has
+    -- a line, or a row
+    line_goes : ((line : List ℕ) (i : Input) → IsActAsked line (asked.Input i) → P (i, at)) → (n : ℕ) (line : List ℕ) (old new : Call K E) (r : Result Bool RunFault)
+        → k.is_sound new.keeper → HasAnsweredLine k at taken n line old new r → Runs P s old.keeper → Goes P s new.keeper r
+    line_goes asks_it n line old new r sound (inl skipped) run = unmoved P s old.keeper new.keeper r (ap (λ (c : Call K E). c.keeper) skipped.same) sound run
+    line_goes asks_it n line old new r sound (inr (inl unheard)) run = unmoved P s old.keeper new.keeper r (ap (λ (c : Call K E). c.keeper) unheard.same) sound run
+    line_goes asks_it n line old new r sound (inr (inr has)) run =
+        heard (Some n) has.asks (λ i same. asks_it line i (subst (IsActAsked line) same has.asked)) old new r sound has.answer run
 
-  -- telegrams, one after another
-  module _ {I E : Type 0} (P : Input × LocalMinute → Type 0) (at : LocalMinute) (given : I → Given) (turned : I → I → Type 0) (taken : E → Given)
-      (asks_it : (bytes : List ℕ) (i : Input) → IsTelegramAsked bytes (asked.Input i) → P (i, at)) where
-    abbrev Step : Call K E × I → Call K E × I → Result Bool RunFault → Type 0
-    Step = HasTakenNext (λ bytes. HasAnswered k at taken None) given turned
+    row_goes : ((row : Row) (order : List ℕ × Order) → row_asks row ≡ Some order → P (input_of order, at)) → (n : ℕ) (row : Row) (old new : Call K E) (r : Result Bool RunFault)
+        → k.is_sound new.keeper → HasAnsweredRow k at taken n row old new r → Runs P s old.keeper → Goes P s new.keeper r
+    row_goes asks_it n row old new r sound answered run = by_order (row_asks row) refl answered
+      where
+        by_order : (asks : Option (List ℕ × Order)) → row_asks row ≡ asks → HasAnsweredAsks k at taken n asks old new r → Goes P s new.keeper r
+        by_order None is bad = unmoved P s old.keeper new.keeper r bad.same sound run
+        by_order (Some order) is has =
+            heard (Some n) (asked.Input (input_of order)) (λ i same. let e : input_of order ≡ i = cc in subst (λ x. P (x, at)) e (asks_it row order is)) old new r sound has run
 
-    sound_of : (old new : Call K E × I) (r : Result Bool RunFault) → Step old new r → k.is_sound new.0.keeper → k.is_sound old.0.keeper
-    sound_of old new r step h = let service = take_serves k at taken given turned old new r step in service.premise.sound h
+    -- lines or rows, one after another
+    module _ {A : Type 0} (Step : ℕ → A → Call K E → Call K E → Result Bool RunFault → Type 0)
+        (serves : (n : ℕ) (item : A) (old new : Call K E) (r : Result Bool RunFault) → Step n item old new r → StaysInService k old.keeper new.keeper r)
+        (goes : (n : ℕ) (item : A) (old new : Call K E) (r : Result Bool RunFault) → k.is_sound new.keeper → Step n item old new r → Runs P s old.keeper → Goes P s new.keeper r) where
+      items_go : (n : ℕ) (items : List A) (old new : Call K E) (good : Bool) → k.is_sound new.keeper → AreAnswered Step n items old new good → Runs P s old.keeper → Runs P s new.keeper
+      items_go n [] old new good sound (same, all) run = subst (λ (c : Call K E). Runs P s c.keeper) (sym same) run
+      items_go n (item ∷ items) old new good sound (mid, (one, rest, step, more, all)) run =
+          let service = items_serve k Step serves (n + 1) items mid new rest (Ok rest) more in
+          items_go (n + 1) items mid new rest sound more (goes n item old mid (Ok one) (service.premise.sound sound) step run)
 
-    made : (n : ℕ) (s : State) (old new : Call K E × I) (good : Bool) → AreMade Step n old new good → k.keeps old.0.keeper s → k.is_broken old.0.keeper ≡ false → k.is_sound new.0.keeper → Runs P s new.0.keeper
-    made zero s old new good (same, all) kept works sound =
-        none_yet P s new.0.keeper (subst (λ (c : Call K E × I). k.keeps c.0.keeper s) (sym same) kept) (ap (λ (c : Call K E × I). k.is_broken c.0.keeper) same ∙ works)
-    made (suc n) s old new good (mid, (before, one, first, step, all)) kept works sound =
-        let run = made n s old mid before first kept works (sound_of mid new (Ok one) step sound) in
-        asked_on P s at IsTelegramAsked asks_it taken (mid.0, given step.next) (new.0, given new.1) run one sound step.run
+      end_goes : (items : List A) (next : Option A) (old new : Call K E) (e : RunFault) → k.is_sound new.keeper → HasEndedAt Step items next old new e → Runs P s old.keeper → Left P s new.keeper (Err e)
+      end_goes items None old new e sound (why, (good, are)) run = unmoved P s new.keeper new.keeper (Err e) refl sound (items_go 1 items old new good sound are run)
+      end_goes items (Some item) old new e sound (other, (mid, (good, are, step))) run =
+          let service = serves (length items + 1) item mid new (Err e) step in
+          goes (length items + 1) item mid new (Err e) sound step (items_go 1 items old mid good (service.premise.sound sound) are run)
 
-    pub take_left : (count : ℕ) (s : State) (old new : Call K E × I) (r : Result Bool RunFault) → k.keeps old.0.keeper s → k.is_broken old.0.keeper ≡ false → k.is_sound new.0.keeper
-        → HaveBeenMade Step count old new r → Left P s new.0.keeper r
-    take_left count s old new (Ok good) kept works sound all = ended P s new.0.keeper (made count s old new good all kept works sound) sound (Ok good)
-    take_left count s old new (Err e) kept works sound (n, less, (mid, (before, first, step))) =
-        let run = made n s old mid before first kept works (sound_of mid new (Err e) step sound) in
-        asked_last P s at IsTelegramAsked asks_it taken (mid.0, given step.next) (new.0, given new.1) run e sound step.run
-
-  -- lines, one after another
-  module _ {E : Type 0} (P : Input × LocalMinute → Type 0) (at : LocalMinute) (taken : E → Given)
-      (asks_it : (line : List ℕ) (i : Input) → IsActAsked line (asked.Input i) → P (i, at)) where
-    abbrev Line : ℕ → List ℕ → Call K E → Call K E → Result Bool RunFault → Type 0
-    Line = HasAnsweredLine k at taken
-
-    sound_then : (n : ℕ) (line : List ℕ) (old new : Call K E) (r : Result Bool RunFault) → Line n line old new r → k.is_sound new.keeper → k.is_sound old.keeper
-    sound_then n line old new r step h = let service = line_service k at taken n line old new r step in service.premise.sound h
-
-    sound_all : (n : ℕ) (ls : List (List ℕ)) (old new : Call K E) (good : Bool) → AreAnswered Line n ls old new good → k.is_sound new.keeper → k.is_sound old.keeper
-    sound_all n ls old new good are h = let service = lines_serve k at taken n ls old new good (Ok good) are in service.premise.sound h
-
-    moved : (s : State) (old new : Call K E) → new ≡ old → Runs P s old.keeper → Runs P s new.keeper
-    moved s old new same run = subst (λ (c : Call K E). Runs P s c.keeper) (sym same) run
-
-    each_line : (line : List ℕ) (asks : Request) → IsActAsked line asks → (i : Input) → asks ≡ asked.Input i → P (i, at)
-    each_line line asks is i same = asks_it line i (subst (IsActAsked line) same is)
-
-    line_on : (n : ℕ) (line : List ℕ) (s : State) (old new : Call K E) (good : Bool) → Runs P s old.keeper → k.is_sound new.keeper → Line n line old new (Ok good) → Runs P s new.keeper
-    line_on n line s old new good run sound (inl skipped) = moved s old new skipped.same run
-    line_on n line s old new good run sound (inr (inl unheard)) = moved s old new unheard.same run
-    line_on n line s old new good run sound (inr (inr heard)) =
-        let answer = heard.answer.answered (after_all s run.inputs) run.kept run.works sound in
-        grow P s run (one_of heard.asks at) (are_asked P heard.asks at (each_line line heard.asks heard.asked)) (subst (k.keeps new.keeper) (after_asked (after_all s run.inputs) heard.asks at) answer.state) (heard.answer.service.works run.works)
-
-    lines_on : (n : ℕ) (ls : List (List ℕ)) (s : State) (old new : Call K E) (good : Bool) → Runs P s old.keeper → k.is_sound new.keeper → AreAnswered Line n ls old new good → Runs P s new.keeper
-    lines_on n [] s old new good run sound (same, all) = moved s old new same run
-    lines_on n (line ∷ ls) s old new good run sound (mid, (one, rest, step, more, all)) =
-        lines_on (n + 1) ls s mid new rest (line_on n line s old mid one run (sound_all (n + 1) ls mid new rest more sound) step) sound more
-
-    line_last : (n : ℕ) (line : List ℕ) (s : State) (old new : Call K E) (e : RunFault) → Runs P s old.keeper → k.is_sound new.keeper → Line n line old new (Err e) → Left P s new.keeper (Err e)
-    line_last n line s old new e run sound (inl skipped) = ended P s new.keeper (moved s old new skipped.same run) sound (Err e)
-    line_last n line s old new e run sound (inr (inl unheard)) = ended P s new.keeper (moved s old new unheard.same run) sound (Err e)
-    line_last n line s old new e run sound (inr (inr heard)) =
-        stopped P s run.inputs run.asked (one_of heard.asks at) (are_asked P heard.asks at (each_line line heard.asks heard.asked)) _ _ (after_asked (after_all s run.inputs) heard.asks at)
-        e old.sent.bytes new.sent.bytes new.keeper sound
-        (heard.answer.stopped (after_all s run.inputs) run.kept run.works sound)
-
-    acts_end : (ls : List (List ℕ)) (next : Option (List ℕ)) (s : State) (old new : Call K E) (e : RunFault) → k.keeps old.keeper s → k.is_broken old.keeper ≡ false → k.is_sound new.keeper
-        → HasEndedAt Line ls next old new e → Left P s new.keeper (Err e)
-    acts_end ls None s old new e kept works sound (why, (good, are)) =
-        ended P s new.keeper (lines_on 1 ls s old new good (none_yet P s old.keeper kept works) sound are) sound (Err e)
-    acts_end ls (Some line) s old new e kept works sound (other, (mid, (good, are, step))) =
-        line_last (length ls + 1) line s mid new e (lines_on 1 ls s old mid good (none_yet P s old.keeper kept works) (sound_then (length ls + 1) line mid new (Err e) step sound) are) sound step
-
-    pub acts_left : (left : Option (List ℕ)) (s : State) (old new : Call K E) (r : Result Bool RunFault) → k.keeps old.keeper s → k.is_broken old.keeper ≡ false → k.is_sound new.keeper
-        → HaveBeenAnswered kept_lines Line left old new r → Left P s new.keeper r
-    acts_left left s old new (Ok good) kept works sound (ls, first, are) =
-        ended P s new.keeper (lines_on 1 ls s old new good (none_yet P s old.keeper kept works) sound are) sound (Ok good)
-    acts_left left s old new (Err e) kept works sound (ls, (next, first, end)) = acts_end ls next s old new e kept works sound end
-
-  -- the rows of a list
-  module _ (P : Input × LocalMinute → Type 0) (at : LocalMinute) (asks_it : (row : Row) (order : List ℕ × Order) → row_asks row ≡ Some order → P (input_of order, at)) where
-    one_row : (row : Row) (order : Option (List ℕ × Order)) → row_asks row ≡ order → AllByRecursion P (listed (row_of order at))
-    one_row row None is = tt
-    one_row row (Some order) is = (asks_it row order is, tt)
-
-    same_inputs : (order : Option (List ℕ × Order)) → listed (row_of order at) ≡ asked_inputs order at
-    same_inputs None = refl
-    same_inputs (Some order) = refl
-
-    all_rows : (rs : List Row) → AllByRecursion P (inputs_of rs at)
-    all_rows [] = tt
-    all_rows (row ∷ rs) = all_append P (asked_inputs (row_asks row) at) (inputs_of rs at) (subst (AllByRecursion P) (same_inputs (row_asks row)) (one_row row (row_asks row) refl)) (all_rows rs)
-
-    row_end : (rs : List Row) (next : Option Row) (s : State) (e : RunFault) (before after : List ℕ) (it : K) → k.is_sound it → HasStopped s rs next at e before after (kept_by k it) → Left P s it (Err e)
-    row_end rs None s e before after it sound (why, written, kept) = settle P s (inputs_of rs at) (all_rows rs) it (subst (k.keeps it) (state_of s rs at) kept) sound (Err e)
-    row_end rs (Some row) s e before after it sound end =
-        let text = row_line (length rs + 1) (rows_after s rs at) row at in
-        stopped P s (inputs_of rs at) (all_rows rs) (row_of (row_asks row) at) (one_row row (row_asks row) refl) text _ (after_row (after_all s (inputs_of rs at)) (row_asks row) at)
-        e (before ++ lines_from 1 s rs at) after it sound (subst (λ (last : State). IsStopped text last (row_after last row at) e (before ++ lines_from 1 s rs at) after (kept_by k it)) (state_of s rs at) end)
-
-    pub stock_left : {E : Type 0} (taken : E → Given) (left : Option (List ℕ)) (s : State) (old new : Call K E) (r : Result Bool RunFault) → k.keeps old.keeper s → k.is_broken old.keeper ≡ false → k.is_sound new.keeper
-        → HasAnsweredRows k at taken left old new r → Left P s new.keeper r
-    stock_left taken left s old new (Ok good) kept works sound has =
-        let ran = has.ran s kept works sound in
-        settle P s (inputs_of ran.0 at) (all_rows ran.0) new.keeper (subst (k.keeps new.keeper) (state_of s ran.0 at) ran.2.state) sound (Ok good)
-    stock_left taken left s old new (Err e) kept works sound has =
-        let end = has.stopped s kept works sound in
-        row_end end.0 end.1.0 s e old.sent.bytes new.sent.bytes new.keeper sound end.1.1.1
-
-  -- reads, and what does nothing
-  record Quiet (old new : K) : Type 0 where
-    pub sound : k.is_sound new → k.is_sound old
-    pub back : k.is_sound new → (found : Option State) → k.may_find new found → k.may_find old found
-
-  of_reads : (old new : K) → OnlyReads k old new → Quiet old new
-  of_reads old new reads = record { sound = reads.premise.sound; back = reads.leaves }
-
-  of_same : (old new : K) → new ≡ old → Quiet old new
-  of_same old new same = record { sound = subst k.is_sound same; back = λ sound found. subst (λ it. k.may_find it found) same }
-
-  quiet_left : (P : Input × LocalMinute → Type 0) (s : State) (old new : K) (r : Result Bool RunFault) → k.keeps old s → k.is_sound new → Quiet old new → Left P s new r
-  quiet_left P s old new r kept sound quiet = still P s old new kept (quiet.sound sound) (quiet.back sound) r
+      run_goes : (items_of : List ℕ → List A) (left : Option (List ℕ)) (old new : Call K E) (r : Result Bool RunFault) → k.is_sound new.keeper → HaveBeenAnswered items_of Step left old new r → Runs P s old.keeper → Goes P s new.keeper r
+      run_goes items_of left old new (Ok good) sound (items, first, are) run = items_go 1 items old new good sound are run
+      run_goes items_of left old new (Err e) sound (items, (next, first, end)) run = end_goes items next old new e sound end run
 
   module _ {I W E : Type 0} (e : Ends I W E) (at : LocalMinute) (here : List ℕ) (s : State) (old new : K × Reached I W E) (r : Result Bool RunFault)
       (kept : k.keeps old.0 s) (works : k.is_broken old.0 ≡ false) (sound : k.is_sound new.0) where
+    of_same : (P : Input × LocalMinute → Type 0) → new.0 ≡ old.0 → Left P s new.0 r
+    of_same P same = settle P s [] tt new.0 (subst (λ it. k.keeps it s) (sym same) kept) sound r
+
+    of_reads : (P : Input × LocalMinute → Type 0) → OnlyReads k old.0 new.0 → Left P s new.0 r
+    of_reads P reads = settle P s [] tt new.0 (reads.same s kept sound) sound r
+
     pub done_left : (c : LineCommand) → HasDone c here k e at old new r → HasLeft (AsksAt c at) s (k.may_find new.0) r
-    done_left command.Init has = quiet_left (AsksAt command.Init at) s old.0 new.0 r kept sound (of_same old.0 new.0 has.same)
-    done_left command.Migrate has = quiet_left (AsksAt command.Migrate at) s old.0 new.0 r kept sound (of_same old.0 new.0 has.same)
-    done_left command.Stock has = stock_left (AsksAt command.Stock at) at (λ row order is. (refl, (row, (order, is, refl)))) e.told (e.remaining old.1.reader) s (call_to e old) (call_to e new) r kept works sound has.0
-    done_left (command.Take paths) has = take_left (AsksAt (command.Take paths) at) at e.given e.turned e.told (λ bytes i is. (refl, (bytes, is))) (length paths.items) s (call_to e old, old.1.reader) (call_to e new, new.1.reader) r kept works sound has
-    done_left (command.Act verb key) has = act_left (IsCommandAsked verb key) (AsksAt (command.Act verb key) at) at e.told (λ bytes i is. (refl, (bytes, is))) s (call_to e old, e.given old.1.reader) (call_to e new, e.given new.1.reader) r kept works sound has
-    done_left command.Acts has = acts_left (AsksAt command.Acts at) at e.told (λ line i is. (refl, (line, is))) (e.remaining old.1.reader) s (call_to e old) (call_to e new) r kept works sound has.0
-    done_left (command.Outbox f) has = quiet_left (AsksAt (command.Outbox f) at) s old.0 new.0 r kept sound (of_reads old.0 new.0 has.told.reads)
-    done_left (command.Report l f) has = quiet_left (AsksAt (command.Report l f) at) s old.0 new.0 r kept sound (of_reads old.0 new.0 has.told.reads)
-    done_left (command.Waybill w) has = quiet_left (AsksAt (command.Waybill w) at) s old.0 new.0 r kept sound (of_reads old.0 new.0 has.reads)
-    done_left (command.Holder w) has = quiet_left (AsksAt (command.Holder w) at) s old.0 new.0 r kept sound (of_reads old.0 new.0 has.reads)
-    done_left (command.History w) has = quiet_left (AsksAt (command.History w) at) s old.0 new.0 r kept sound (of_reads old.0 new.0 has.reads)
-    done_left (command.Read path) has = quiet_left (AsksAt (command.Read path) at) s old.0 new.0 r kept sound (of_same old.0 new.0 has.same)
-    done_left (command.Serve port count) has = quiet_left (AsksAt (command.Serve port count) at) s old.0 new.0 r kept sound (of_same old.0 new.0 has.same)
+    done_left command.Init has = of_same _ has.same
+    done_left command.Migrate has = of_same _ has.same
+    done_left command.Stock has =
+        let P = AsksAt command.Stock at in
+        finish P s new.0 r sound (run_goes P s at e.told (HasAnsweredRow k at e.told) (row_service k at e.told) (row_goes P s at e.told (λ row order is. (refl, (row, (order, is, refl)))))
+        stock_rows (e.remaining old.1.reader) (call_to e old) (call_to e new) r sound has.0 (none_yet P s old.0 kept works))
+    done_left (command.Take paths) has =
+        let P = AsksAt (command.Take paths) at in
+        finish P s new.0 r sound (takes_go P s at e.told e.given e.turned (λ bytes i is. (refl, (bytes, is))) (length paths.items)
+        (call_to e old, old.1.reader) (call_to e new, new.1.reader) r has sound (none_yet P s old.0 kept works))
+    done_left (command.Act verb key) has =
+        let P = AsksAt (command.Act verb key) at in
+        finish P s new.0 r sound (input_goes P s at e.told (IsCommandAsked verb key) (λ bytes i is. (refl, (bytes, is)))
+        (call_to e old, e.given old.1.reader) (call_to e new, e.given new.1.reader) r sound has (none_yet P s old.0 kept works))
+    done_left command.Acts has =
+        let P = AsksAt command.Acts at in
+        finish P s new.0 r sound (run_goes P s at e.told (HasAnsweredLine k at e.told) (line_service k at e.told) (line_goes P s at e.told (λ line i is. (refl, (line, is))))
+        kept_lines (e.remaining old.1.reader) (call_to e old) (call_to e new) r sound has.0 (none_yet P s old.0 kept works))
+    done_left (command.Outbox f) has = of_reads _ has.told.reads
+    done_left (command.Report l f) has = of_reads _ has.told.reads
+    done_left (command.Waybill w) has = of_reads _ has.reads
+    done_left (command.Holder w) has = of_reads _ has.reads
+    done_left (command.History w) has = of_reads _ has.reads
+    done_left (command.Read path) has = of_same _ has.same
+    done_left (command.Serve port count) has = of_same _ has.same

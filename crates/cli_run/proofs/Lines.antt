@@ -1,10 +1,6 @@
 -- The lines of a text, read one after another.
 use Rattle.std.proofs.Common.{arith, ◌≡◌, ◌∙◌, sym, refl, ap, subst, ℕ, ◌+◌, ◌<◌, ◌==◌, Bool, true, false, cond, List, [], ◌∷◌, ◌++◌, map, length, length-take, append_assoc, Option, Some, None, IfSome}
-use Rattle.std.specs.Io.BufRead.{take_through, drop_through}
-use Rattle.std.proofs.lemmas.List.{append-nil}
-use Rattle.std.proofs.BufReadLemmas.{take_through-nil}
-use Rattle.cli_run.specs.InTurn.{AreFirst, in_front, kept_lines, lines_of}
-use Rattle.cli_run.specs.ActLine.{kept, most_line}
+use Rattle.cli_run.proofs.Common.{take_through, drop_through, append-nil, take_through-nil, AreFirst, in_front, kept_lines, lines_of, kept, most_line}
 
 -- the first line of a text, and the lines behind it
 abbrev Cut : List ℕ → Type 0

@@ -1,54 +1,55 @@
--- A stock list is a run of the station, row by row.
-use Rattle.std.proofs.Common.{ℕ, ◌+◌, ◌≡◌, ◌∙◌, sym, refl, ap, Bool, true, false, ◌&&◌, is_some, List, [], ◌∷◌, ◌++◌, map, Option, Some, None}
+-- The rows of a stock list, one after another.
+use Rattle.std.proofs.Common.{◌≡◌, ◌∙◌, refl, sym, ap, ap₂, subst, ℕ, ◌+◌, Bool, true, false, ◌&&◌, is_some, Option, Some, None, Ok, Result, List, [], ◌∷◌, ◌++◌, map}
 use Rattle.std.specs.List.{list_all}
-use Rattle.station_days.specs.Date.{LocalMinute}
-use Rattle.agent_stock.specs.declared.stock.Order.{Order}
-use Rattle.station_core.specs.declared.input.Input.{Input}
+use Rattle.cli_run.proofs.Common.{append-nil, append_assoc, Order, LocalMinute, Given, State, step, answers_of, RunFault, Row, row_asks, input_of, bad_line, HasAnsweredAsks, HasAnsweredRow, Keeping, Call, AreAnswered}
 use Rattle.station_core.specs.Retries.{is_done}
-use Rattle.station_core.specs.Step.{State, step, after_all, answers_of}
-use Rattle.cli_run.specs.ListLaw.{asked_inputs, inputs_of, answered_lines, all_ask}
-use Rattle.cli_run.specs.Rows.{Row, input_of, asked_line, asked_good, asked_after, row_after, lines_from, rows_good, rows_after}
-use Rattle.cli_run.specs.Row.{row_asks}
-
--- one row, by what it asks, and then the inputs of the others
-
-state_by : (s : State) (asks : Option (List ℕ × Order)) (at : LocalMinute) (more : List (Input × LocalMinute))
-    → after_all s (asked_inputs asks at ++ more) ≡ after_all (asked_after s asks at) more
-state_by s None at more = refl
-state_by s (Some asked) at more = refl
-
-lines_by : (number : ℕ) (s : State) (asks : Option (List ℕ × Order)) (others : List (Option (List ℕ × Order))) (at : LocalMinute) (more : List (Input × LocalMinute))
-    → answered_lines number (asks ∷ others) (answers_of s (asked_inputs asks at ++ more))
-    ≡ asked_line number s asks at ++ answered_lines (number + 1) others (answers_of (asked_after s asks at) more)
-lines_by number s None others at more = refl
-lines_by number s (Some asked) others at more = refl
+use Rattle.cli_run.specs.ListLaw.{inputs_of, answered_lines, HasRunList}
+use Rattle.cli_run.proofs.Ran.{items_serve, row_service}
 
 move_in : (a b c : Bool) → (a && (b && c)) ≡ (b && (a && c))
-move_in true true c = refl
-move_in true false c = refl
+move_in true b c = refl
 move_in false true c = refl
 move_in false false c = refl
 
-pub state_of : (s : State) (rows : List Row) (at : LocalMinute) → rows_after s rows at ≡ after_all s (inputs_of rows at)
-state_of s [] at = refl
-state_of s (row ∷ rows) at = state_of (row_after s row at) rows at ∙ sym (state_by s (row_asks row) at (inputs_of rows at))
+abbrev all_ask : List (Option (List ℕ × Order)) → Bool
+all_ask asks = list_all (λ (order : Option (List ℕ × Order)). is_some order) asks
 
-pub lines_of : (number : ℕ) (s : State) (rows : List Row) (at : LocalMinute)
-    → lines_from number s rows at ≡ answered_lines number (map row_asks rows) (answers_of s (inputs_of rows at))
-lines_of number s [] at = refl
-lines_of number s (row ∷ rows) at =
-    ap (λ more. asked_line number s (row_asks row) at ++ more) (lines_of (number + 1) (row_after s row at) rows at)
-    ∙ sym (lines_by number s (row_asks row) (map row_asks rows) at (inputs_of rows at))
+module _ {K E : Type 0} (k : Keeping K) (at : LocalMinute) (taken : E → Given) where
+  abbrev Step : ℕ → Row → Call K E → Call K E → Result Bool RunFault → Type 0
+  Step = HasAnsweredRow k at taken
 
-good_by : (s : State) (asks : Option (List ℕ × Order)) (at : LocalMinute) (others : Bool) (more : List (Input × LocalMinute))
-    → (asked_good s asks at && (others && list_all is_done (answers_of (asked_after s asks at) more)))
-    ≡ ((is_some asks && others) && list_all is_done (answers_of s (asked_inputs asks at ++ more)))
-good_by s None at others more = refl
-good_by s (Some asked) at others more = move_in (is_done (step s (input_of asked) at).answer) others (list_all is_done (answers_of (step s (input_of asked) at).state more))
+  abbrev Ran : ℕ → State → List (Option (List ℕ × Order)) → Call K E → Call K E → Bool → Type 0
+  Ran n s asks old new good = HasRunList n s at asks old.sent.bytes new.sent.bytes (k.keeps new.keeper) good
 
-pub good_of : (s : State) (rows : List Row) (at : LocalMinute)
-    → rows_good s rows at ≡ (all_ask rows && list_all is_done (answers_of s (inputs_of rows at)))
-good_of s [] at = refl
-good_of s (row ∷ rows) at =
-    ap (λ more. asked_good s (row_asks row) at && more) (good_of (row_after s row at) rows at)
-    ∙ good_by s (row_asks row) at (all_ask rows) (inputs_of rows at)
+  -- a row by its order, and the others
+  one_more : (n : ℕ) (asks : Option (List ℕ × Order)) (others : List (Option (List ℕ × Order))) (old mid new : Call K E) (one rest good : Bool)
+      → HasAnsweredAsks k at taken n asks old mid (Ok one) → ((t : State) → k.keeps mid.keeper t → k.is_broken mid.keeper ≡ false → Ran (n + 1) t others mid new rest) → good ≡ (one && rest)
+      → (s : State) → k.keeps old.keeper s → k.is_broken old.keeper ≡ false → k.is_sound mid.keeper → Ran n s (asks ∷ others) old new good
+  one_more n None others old mid new one rest good bad later all s kept works sound =
+      let r = later s (subst (λ it. k.keeps it s) (sym bad.same) kept) (ap k.is_broken bad.same ∙ works) in
+      record {
+        written = r.written ∙ ap (λ b. b ++ answered_lines (n + 1) others (answers_of s (inputs_of others at))) bad.told.told.1 ∙ append_assoc old.sent.bytes (bad_line n) _;
+        state = r.state;
+        good_is = all ∙ ap (λ b. b && rest) bad.told.told.0;
+      }
+  one_more n (Some order) others old mid new one rest good heard later all s kept works sound =
+      let answer = heard.answered s kept works sound in
+      let next = (step s (input_of order) at).state in
+      let r = later next answer.state (heard.service.works works) in
+      record {
+        written = r.written ∙ ap (λ b. b ++ answered_lines (n + 1) others (answers_of next (inputs_of others at))) answer.line ∙ append_assoc old.sent.bytes _ _;
+        state = r.state;
+        good_is = all ∙ ap₂ ◌&&◌ answer.good_is r.good_is ∙ move_in (is_done (step s (input_of order) at).answer) (all_ask others) (list_all is_done (answers_of next (inputs_of others at)));
+      }
+
+  pub run_of_rows : (n : ℕ) (rows : List Row) (old new : Call K E) (good : Bool) → AreAnswered Step n rows old new good
+      → (s : State) → k.keeps old.keeper s → k.is_broken old.keeper ≡ false → k.is_sound new.keeper → Ran n s (map row_asks rows) old new good
+  run_of_rows n [] old new good (same, all) s kept works sound = record {
+    written = ap (λ (c : Call K E). c.sent.bytes) same ∙ sym (append-nil old.sent.bytes);
+    state = subst (λ (c : Call K E). k.keeps c.keeper s) (sym same) kept;
+    good_is = all;
+  }
+  run_of_rows n (row ∷ rows) old new good (mid, (one, rest, step, more, all)) s kept works sound =
+      let service = items_serve k Step (row_service k at taken) (n + 1) rows mid new rest (Ok rest) more in
+      one_more n (row_asks row) (map row_asks rows) old mid new one rest good step
+      (λ t kept' works'. run_of_rows (n + 1) rows mid new rest more t kept' works' sound) all s kept works (service.premise.sound sound)

@@ -1,14 +1,7 @@
 -- What is written of a telegram.
 use Rattle.std.proofs.Common.{◌≡◌, sym, subst, inr, ℕ, Bool, None, Result, Ok, Err, List, ◌++◌}
-use Rattle.std.specs.Prelude.{IfOk, IfErr, OnOk}
-use Rattle.station_core.specs.Given.{Given}
-use Rattle.cli_run.specs.declared.fault.RunFault.{RunFault}
+use Rattle.cli_run.proofs.Common.{IfOk, IfErr, OnOk, Given, RunFault, most_bytes, HasCome, HasToldPart, telegram_head, HasToldWhy, HasSeen, HasStoppedLook, IsSeen}
 use Rattle.cli_run.specs.declared.fault.RunFault.TheVariants as fault
-use Rattle.imp_fields.specs.TextSize.{most_bytes}
-use Rattle.cli_run.specs.Came.{HasCome}
-use Rattle.cli_run.specs.Ended.{HasToldPart}
-use Rattle.cli_run.specs.Explained.{telegram_head, HasToldWhy}
-use Rattle.cli_run.specs.Seen.{HasSeen, HasStoppedLook, IsSeen}
 
 pub ok_more : {A E : Type 0} (r : Result A E) (P Q : A → Type 0) → ((x : A) → P x → Q x) → IfOk r P → IfOk r Q
 ok_more (Ok x) P Q more p = more x p

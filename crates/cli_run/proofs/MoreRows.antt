@@ -1,16 +1,12 @@
 -- One row more.
-use Rattle.std.proofs.Common.{ℕ, ◌+◌, ◌≡◌, ◌∙◌, sym, refl, ap, Bool, true, false, List, [], ◌∷◌, ◌++◌, length, Option, Some, None, IfSome, option_map, inl, inr, ⊎_elim}
+use Rattle.std.proofs.Common.{ℕ, ◌+◌, ◌≡◌, ◌∙◌, sym, refl, ap, true, false, List, [], ◌∷◌, ◌++◌, length, Option, Some, None, IfSome, option_map, inl, inr}
 use Rattle.csv.specs.declared.error.ErrorKind.{ErrorKind}
 use Rattle.csv.specs.declared.error.ErrorKind.TheVariants as kind
 use Rattle.csv.specs.declared.parser.State.TheVariants as st
 use Rattle.csv.specs.declared.reader.Reader.{Reader}
-use Rattle.csv.specs.Reading.{Reached, ReadRecord, default_config, source_of, strip_bom}
+use Rattle.cli_run.proofs.Common.{ReadRecord, default_config, source_of, strip_bom, Row, stock_rows, IsReadersFault, reader_fault, AreFirst}
+use Rattle.csv.specs.Reading.{Reached}
 use Rattle.csv.proofs.ReadFacts.{rows-end, rows-more}
-use Rattle.cli_run.specs.declared.fault.RunFault.{RunFault}
-use Rattle.cli_run.specs.declared.fault.RunFault.TheVariants as fault
-use Rattle.cli_run.specs.Rows.{Row, stock_rows}
-use Rattle.cli_run.specs.Faults.{IsReadersFault, IsShutAfter, reader_fault}
-use Rattle.cli_run.specs.InTurn.{AreFirst}
 use Rattle.cli_run.proofs.InTurn.{length_more}
 use Rattle.cli_run.proofs.Records.{all_records, first_records}
 
@@ -46,8 +42,3 @@ known_first rem rdr rows (Some bytes) h = first_records default_config (strip_bo
 pub readers_fault : (k : ErrorKind) → IsReadersFault (reader_fault k)
 readers_fault (kind.Io e) = inl refl
 readers_fault _ = inr refl
-
--- after it the station works
-pub works_unread : (e : RunFault) (broken : Bool) → IsReadersFault e → broken ≡ false → IsShutAfter e broken
-works_unread fault.Store broken why works = ⊎_elim (λ read. let both : fault.Store ≡ fault.Read = read in cc) (λ memory. let both : fault.Store ≡ fault.Memory = memory in cc) why
-works_unread _ broken why works = works

@@ -1,10 +1,7 @@
 -- A line that goes out in parts.
 use Rattle.std.proofs.Common.{arith, ◌≡◌, ◌∙◌, ap, sym, ℕ, ◌+◌, List, ◌++◌, length, take, append_assoc, length-append, inl, inr, ⊎_elim}
 use Rattle.std.proofs.Math.Seq.{take-append-add}
-use Rattle.std.proofs.lemmas.List.{take-append-le}
-use Rattle.station_core.specs.Given.{Given}
-use Rattle.station_core.specs.Ends.{HasCause, HasSent}
-use Rattle.cli_run.specs.Faults.{IsUntroubled}
+use Rattle.cli_run.proofs.Common.{take-append-le, Given, HasCause, HasSent, NoneFailed}
 
 -- a beginning of its first part
 pub first_part : (a b : List ℕ) (old new : Given) → HasSent a old new → HasSent (a ++ b) old new
@@ -22,13 +19,13 @@ next_part a b old mid new first sent = (
   ),
 )
 
-pub untroubled_more : (old mid new : Given) → IsUntroubled old mid → IsUntroubled mid new → IsUntroubled old new
-untroubled_more old mid new first more = record { failures = more.failures ∙ first.failures; idle = more.idle ∙ first.idle }
+pub untroubled_more : (old mid new : Given) → NoneFailed old mid → NoneFailed mid new → NoneFailed old new
+untroubled_more old mid new first more = (more.0 ∙ first.0, more.1 ∙ first.1)
 
 -- the cause lies behind what went out untroubled
-pub cause_behind : (old mid new : Given) → IsUntroubled old mid → HasCause mid new → HasCause old new
+pub cause_behind : (old mid new : Given) → NoneFailed old mid → HasCause mid new → HasCause old new
 cause_behind old mid new first cause =
-    ⊎_elim (λ failed. inl (omega (arith, failed, first.failures))) (λ idle. inr (omega (arith, idle, first.idle))) cause
+    ⊎_elim (λ failed. inl (omega (arith, failed, first.0))) (λ idle. inr (omega (arith, idle, first.1))) cause
 
-pub cause_behind_two : (old mid next new : Given) → IsUntroubled old mid → IsUntroubled mid next → HasCause next new → HasCause old new
+pub cause_behind_two : (old mid next new : Given) → NoneFailed old mid → NoneFailed mid next → HasCause next new → HasCause old new
 cause_behind_two old mid next new first second cause = cause_behind old mid new first (cause_behind mid next new second cause)

@@ -1,28 +1,17 @@
 -- The station after inputs, and inputs that weren't received.
-use Rattle.std.specs.Result.{IsErrAnd}
+use Rattle.cli_run.proofs.Common.{IsErrAnd, LocalMinute, kept_at, kept_on, Order, Given, Keeping, StaysInService, RunFault, Call, IsReadersFault, Request, HasAnsweredAsks, HasAnsweredLine, HasAnsweredRow, Row, row_asks, AreAnswered, HasEndedAt, HaveBeenAnswered, AreMade, HaveBeenMade, HasAnswered, HasAnsweredAsked, HasNotReceived, IsTelegramAsked, HasTakenNext}
 use Rattle.std.proofs.Common.{◌≡◌, ◌∙◌, refl, sym, ap, subst, inl, inr, ⊎_elim, ℕ, zero, suc, ◌+◌, Bool, List, [], ◌∷◌, length, ◌⊎◌, Option, None, Some, Result, Ok, Err, OnOk, IfErr}
-use Rattle.station_days.specs.Date.{LocalMinute}
-use Rattle.station_core.proofs.Premise.{kept_at, kept_on}
-use Rattle.station_core.specs.Given.{Given}
-use Rattle.station_core.specs.Keeping.{Keeping, StaysInService}
-use Rattle.cli_run.specs.declared.fault.RunFault.{RunFault}
-use Rattle.cli_run.specs.Ends.{Call}
-use Rattle.cli_run.specs.Faults.{IsReadersFault}
-use Rattle.cli_run.specs.declared.request.Request.{Request}
-use Rattle.cli_run.specs.Acts.{HasAnsweredLine}
-use Rattle.cli_run.specs.InTurn.{AreAnswered, HasEndedAt, HaveBeenAnswered, kept_lines, AreMade, HaveBeenMade}
-use Rattle.cli_run.specs.Answered.{HasAnswered, HasAnsweredAsked, HasNotReceived}
-use Rattle.cli_run.specs.Requests.{IsTelegramAsked}
-use Rattle.cli_run.specs.Takes.{HasTakenNext}
 
 pub always : {A : Type 0} (r : Result Bool RunFault) → A → OnOk r A
 always (Ok good) a = a
 always (Err e) a = tt
 
 -- nothing was done
+stays : {K : Type 0} (k : Keeping K) (it : K) (r : Result Bool RunFault) → StaysInService k it it r
+stays k it r = record { premise = kept_at it; works = λ works. always r works }
+
 still : {K E : Type 0} (k : Keeping K) (old new : Call K E) (r : Result Bool RunFault) → new ≡ old → StaysInService k old.keeper new.keeper r
-still {K} {E} k old new r same =
-    subst (λ (c : Call K E). StaysInService k old.keeper c.keeper r) (sym same) (record { premise = kept_at old.keeper; works = λ works. always r works })
+still {K} {E} k old new r same = subst (λ (c : Call K E). StaysInService k old.keeper c.keeper r) (sym same) (stays k old.keeper r)
 
 pub input_service : {K E : Type 0} (IsAsked : List ℕ → Request → Type 0) (k : Keeping K) (at : LocalMinute) (taken : E → Given) (old new : Call K E × Given) (r : Result Bool RunFault)
     → HasAnsweredAsked IsAsked k at taken old new r → StaysInService k old.0.keeper new.0.keeper r
@@ -35,45 +24,52 @@ line_service k at taken n line old new r (inl skipped) = still k old new r skipp
 line_service k at taken n line old new r (inr (inl unheard)) = still k old new r unheard.same
 line_service k at taken n line old new r (inr (inr heard)) = heard.answer.service
 
+pub row_service : {K E : Type 0} (k : Keeping K) (at : LocalMinute) (taken : E → Given) (n : ℕ) (row : Row) (old new : Call K E) (r : Result Bool RunFault)
+    → HasAnsweredRow k at taken n row old new r → StaysInService k old.keeper new.keeper r
+row_service {K} {E} k at taken n row old new r answered = by_order (row_asks row) answered
+  where
+    by_order : (asks : Option (List ℕ × Order)) → HasAnsweredAsks k at taken n asks old new r → StaysInService k old.keeper new.keeper r
+    by_order None bad = subst (λ (it : K). StaysInService k old.keeper it r) (sym bad.same) (stays k old.keeper r)
+    by_order (Some order) heard = heard.service
+
 -- one call after another
 then_serves : {K : Type 0} (k : Keeping K) (a b c : K) (x : Bool) (r : Result Bool RunFault) → StaysInService {A = Bool} {E = RunFault} k a b (Ok x) → StaysInService k b c r → StaysInService k a c r
 then_serves k a b c x r first next = record { premise = kept_on first.premise next.premise; works = λ works. next.works (first.works works) }
 
-module _ {K E : Type 0} (k : Keeping K) (at : LocalMinute) (taken : E → Given) where
-  abbrev Line : ℕ → List ℕ → Call K E → Call K E → Result Bool RunFault → Type 0
-  Line = HasAnsweredLine k at taken
+-- items in turn, whose answers leave the station in service
+module _ {K E A : Type 0} (k : Keeping K) (Step : ℕ → A → Call K E → Call K E → Result Bool RunFault → Type 0)
+    (serves : (n : ℕ) (item : A) (old new : Call K E) (r : Result Bool RunFault) → Step n item old new r → StaysInService k old.keeper new.keeper r) where
+  pub items_serve : (n : ℕ) (items : List A) (old new : Call K E) (good : Bool) (r : Result Bool RunFault) → AreAnswered Step n items old new good → StaysInService k old.keeper new.keeper r
+  items_serve n [] old new good r (same, all) = still k old new r same
+  items_serve n (item ∷ items) old new good r (mid, (one, rest, step, more, all)) =
+      then_serves k old.keeper mid.keeper new.keeper one r (serves n item old mid (Ok one) step) (items_serve (n + 1) items mid new rest r more)
 
-  pub lines_serve : (n : ℕ) (lines : List (List ℕ)) (old new : Call K E) (good : Bool) (r : Result Bool RunFault) → AreAnswered Line n lines old new good → StaysInService k old.keeper new.keeper r
-  lines_serve n [] old new good r (same, all) = still k old new r same
-  lines_serve n (line ∷ lines) old new good r (mid, (one, rest, step, more, all)) =
-      then_serves k old.keeper mid.keeper new.keeper one r (line_service k at taken n line old mid (Ok one) step) (lines_serve (n + 1) lines mid new rest r more)
+  end_serves : (items : List A) (next : Option A) (old new : Call K E) (e : RunFault) → HasEndedAt Step items next old new e → StaysInService {A = Bool} {E = RunFault} k old.keeper new.keeper (Err e)
+  end_serves items None old new e (why, (good, are)) = items_serve 1 items old new good (Err e) are
+  end_serves items (Some item) old new e (other, (mid, (good, are, step))) =
+      then_serves k old.keeper mid.keeper new.keeper good (Err e) (items_serve 1 items old mid good (Ok good) are) (serves (length items + 1) item mid new (Err e) step)
 
-  end_serves : (lines : List (List ℕ)) (next : Option (List ℕ)) (old new : Call K E) (e : RunFault) → HasEndedAt Line lines next old new e → StaysInService {A = Bool} {E = RunFault} k old.keeper new.keeper (Err e)
-  end_serves lines None old new e (why, (good, are)) = lines_serve 1 lines old new good (Err e) are
-  end_serves lines (Some line) old new e (other, (mid, (good, are, step))) =
-      then_serves k old.keeper mid.keeper new.keeper good (Err e) (lines_serve 1 lines old mid good (Ok good) are) (line_service k at taken (length lines + 1) line mid new (Err e) step)
+  pub run_serves : (items_of : List ℕ → List A) (left : Option (List ℕ)) (old new : Call K E) (r : Result Bool RunFault) → HaveBeenAnswered items_of Step left old new r → StaysInService k old.keeper new.keeper r
+  run_serves items_of left old new (Ok good) (items, all, are) = items_serve 1 items old new good (Ok good) are
+  run_serves items_of left old new (Err e) (items, (next, first, end)) = end_serves items next old new e end
 
-  pub acts_serve : (left : Option (List ℕ)) (old new : Call K E) (r : Result Bool RunFault) → HaveBeenAnswered kept_lines Line left old new r → StaysInService k old.keeper new.keeper r
-  acts_serve left old new (Ok good) (lines, all, are) = lines_serve 1 lines old new good (Ok good) are
-  acts_serve left old new (Err e) (lines, (next, first, end)) = end_serves lines next old new e end
+module _ {K E I : Type 0} (k : Keeping K) (at : LocalMinute) (taken : E → Given) (given : I → Given) (turned : I → I → Type 0) where
+  abbrev Take : Call K E × I → Call K E × I → Result Bool RunFault → Type 0
+  Take = HasTakenNext (λ bytes. HasAnswered k at taken None) given turned
 
-  module _ {I : Type 0} (given : I → Given) (turned : I → I → Type 0) where
-    abbrev Take : Call K E × I → Call K E × I → Result Bool RunFault → Type 0
-    Take = HasTakenNext (λ bytes. HasAnswered k at taken None) given turned
+  pub take_serves : (old new : Call K E × I) (r : Result Bool RunFault) → Take old new r → StaysInService k old.0.keeper new.0.keeper r
+  take_serves old new r step = input_service IsTelegramAsked k at taken (old.0, given step.next) (new.0, given new.1) r step.run
 
-    pub take_serves : (old new : Call K E × I) (r : Result Bool RunFault) → Take old new r → StaysInService k old.0.keeper new.0.keeper r
-    take_serves old new r step = input_service IsTelegramAsked k at taken (old.0, given step.next) (new.0, given new.1) r step.run
+  made_serve : (n : ℕ) (old new : Call K E × I) (good : Bool) → AreMade Take n old new good → StaysInService {A = Bool} {E = RunFault} k old.0.keeper new.0.keeper (Ok good)
+  made_serve zero old new good (same, all) = still k old.0 new.0 (Ok good) (ap (λ (c : Call K E × I). c.0) same)
+  made_serve (suc n) old new good (mid, (before, one, first, step, all)) =
+      let next = take_serves mid new (Ok one) step in
+      then_serves k old.0.keeper mid.0.keeper new.0.keeper before (Ok good) (made_serve n old mid before first) (record { premise = next.premise; works = next.works })
 
-    made_serve : (n : ℕ) (old new : Call K E × I) (good : Bool) → AreMade Take n old new good → StaysInService {A = Bool} {E = RunFault} k old.0.keeper new.0.keeper (Ok good)
-    made_serve zero old new good (same, all) = still k old.0 new.0 (Ok good) (ap (λ (c : Call K E × I). c.0) same)
-    made_serve (suc n) old new good (mid, (before, one, first, step, all)) =
-        let next = take_serves mid new (Ok one) step in
-        then_serves k old.0.keeper mid.0.keeper new.0.keeper before (Ok good) (made_serve n old mid before first) (record { premise = next.premise; works = next.works })
-
-    pub takes_serve : (count : ℕ) (old new : Call K E × I) (r : Result Bool RunFault) → HaveBeenMade Take count old new r → StaysInService k old.0.keeper new.0.keeper r
-    takes_serve count old new (Ok good) made = made_serve count old new good made
-    takes_serve count old new (Err e) (n, less, (mid, (before, first, step))) =
-        then_serves k old.0.keeper mid.0.keeper new.0.keeper before (Err e) (made_serve n old mid before first) (take_serves mid new (Err e) step)
+  pub takes_serve : (count : ℕ) (old new : Call K E × I) (r : Result Bool RunFault) → HaveBeenMade Take count old new r → StaysInService k old.0.keeper new.0.keeper r
+  takes_serve count old new (Ok good) made = made_serve count old new good made
+  takes_serve count old new (Err e) (n, less, (mid, (before, first, step))) =
+      then_serves k old.0.keeper mid.0.keeper new.0.keeper before (Err e) (made_serve n old mid before first) (take_serves mid new (Err e) step)
 
 -- an input that wasn't received: a fault that is passed on
 pub not_received : {C : Type 0} (c : C) (r : Result Bool RunFault) (e : RunFault) → IsErrAnd r (λ x. x ≡ e) → IsReadersFault e → HasNotReceived c c r

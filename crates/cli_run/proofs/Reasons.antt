@@ -1,20 +1,21 @@
 -- What goes to standard error, by what was asked.
-use Rattle.std.specs.Result.{IsErrAnd}
-use Rattle.std.proofs.Common.{◌≡◌, refl, ℕ, Bool, true, false, List, Option, Result, Ok, Err, OnOk}
-use Rattle.station_days.specs.Date.{LocalMinute}
-use Rattle.station_core.specs.Given.{Given}
-use Rattle.station_core.specs.Step.{State}
-use Rattle.input_reasons.specs.Reason.{HasReason}
-use Rattle.cli_run.specs.declared.fault.RunFault.{RunFault}
-use Rattle.cli_run.specs.declared.request.Request.{Request}
-use Rattle.station_core.specs.Keeping.{Keeping}
-use Rattle.cli_run.specs.Explained.{asked_unread, reason_head, HasToldWhy, HasGivenReason, HasExplained}
-use Rattle.cli_run.specs.Ends.{Call}
+use Rattle.cli_run.proofs.Common.{IsErrAnd, LocalMinute, Given, State, Input, HasReason, RunFault, Request, Keeping, asked_unread, is_command, reason_head, HasToldWhy, HasGivenReason, HasExplained, Call}
+use Rattle.station_core.specs.declared.answer.Answer.{Answer}
+use Rattle.station_core.specs.declared.input.Input.TheVariants.{Keyed, Wire}
+use Rattle.cli_run.specs.Explained.{answered_unread}
+use Rattle.cli_run.specs.declared.request.Request.TheVariants as asked
+use Rattle.cli_run.proofs.Ran.{always}
+use Rattle.std.proofs.Common.{◌≡◌, refl, ℕ, Bool, true, false, List, Option, Result, Ok, Err}
 
 pub told_if : {E : Type 0} (taken : E → Given) (unread : Bool) (head : List ℕ) (old new : E) → unread ≡ true
     → HasReason head (taken old).bytes (taken new).bytes → HasToldWhy taken unread head old new
 told_if taken true head old new is told = told
 told_if taken false head old new is told = cc
+
+-- a command that was read has no reason
+pub command_read : (i : Input) (a : Answer) → is_command (asked.Input i) ≡ true → answered_unread i a ≡ false
+command_read (Keyed key command) a is = refl
+command_read (Wire telegram) a is = cc
 
 -- what was accepted has no reason
 quiet_given : {E : Type 0} (taken : E → Given) (unread : Bool) (head : List ℕ) (old new : E) (r : Result Bool RunFault) → HasGivenReason taken unread head old new r → r ≡ Ok true → new ≡ old
@@ -28,15 +29,11 @@ pub explained_stop : {K E : Type 0} (number : Option ℕ) (k : Keeping K) (asks 
     → new.errors ≡ old.errors → IsErrAnd r (λ x. x ≡ f) → HasExplained number k asks at taken old new r
 explained_stop number k asks at taken old new (Ok x) f silent same = absurd same
 explained_stop number k asks at taken old new (Err x) f silent same =
-    record { quiet = λ is. silent; unread = false; given = silent; why = λ s kept works sound. tt }
+    record { quiet = λ is. silent; unread = false; given = silent; read = λ is. refl; why = λ s kept works sound. tt }
 
 -- what asks nothing of the station
-each_why : (r : Result Bool RunFault) (P : Type 0) → P → OnOk r P
-each_why (Ok x) P told = told
-each_why (Err e) P told = tt
-
 pub explained_unasked : {K E : Type 0} (number : Option ℕ) (k : Keeping K) (asks : Request) (at : LocalMinute) (taken : E → Given) (old new : Call K E) (r : Result Bool RunFault) (unread : Bool)
-    → HasGivenReason taken unread (reason_head number asks) old.errors new.errors r
+    → HasGivenReason taken unread (reason_head number asks) old.errors new.errors r → is_command asks ≡ false
     → ((s : State) → unread ≡ asked_unread s asks at) → HasExplained number k asks at taken old new r
-explained_unasked number k asks at taken old new r unread given why =
-    record { quiet = quiet_given taken unread (reason_head number asks) old.errors new.errors r given; unread = unread; given = given; why = λ s kept works sound. each_why r _ (why s) }
+explained_unasked number k asks at taken old new r unread given other why =
+    record { quiet = quiet_given taken unread (reason_head number asks) old.errors new.errors r given; unread = unread; given = given; read = λ is. cc; why = λ s kept works sound. always r (why s) }

@@ -1,9 +1,7 @@
 -- How a run of a report ends, by how the report ended.
 use Rattle.std.proofs.Common.{◌≡◌, ℕ, Result, Ok, Err, OnOk, List, []}
-use Rattle.station_core.specs.Given.{Given}
-use Rattle.station_core.specs.Ends.{HasCause}
+use Rattle.cli_run.proofs.Common.{Given, HasCause, State, run_fault}
 use Rattle.station_core.specs.Keeping.{IsReadersFault}
-use Rattle.station_core.specs.Step.{State}
 use Rattle.station_core.specs.declared.answer.ActFault.{ActFault}
 use Rattle.station_core.specs.declared.answer.ActFault.TheVariants as act
 use Rattle.reports.specs.Ended.{HasEnded, HasEndedBy, HasTold, IsCause, StopsBy, StopsWriting}
@@ -11,7 +9,6 @@ use Rattle.reports.specs.declared.fault.ReportCause.{ReportCause}
 use Rattle.reports.specs.declared.fault.ReportCause.TheVariants as cause
 use Rattle.reports.specs.declared.fault.ReportFault.{ReportFault}
 use Rattle.cli_run.specs.declared.fault.RunFault.TheVariants as fault
-use Rattle.cli_run.specs.Faults.{run_fault}
 use Rattle.reports.specs.declared.form.Form.{Form}
 use Rattle.reports.specs.declared.listing.Listing.{Listing}
 use Rattle.reports.specs.Listings.{IsListing}

@@ -1,9 +1,8 @@
 -- A run that is told once it is known whether its reader has failed.
 use Rattle.std.proofs.Common.{arith, ℕ, zero, suc, ◌<◌, ◌≡◌, refl, Bool, true, false, Result, Ok, Err, OnOk}
 use Rattle.std.proofs.lemmas.Bool.{false≢true}
-use Rattle.cli_run.specs.declared.fault.RunFault.{RunFault}
+use Rattle.cli_run.proofs.Common.{RunFault, told_by}
 use Rattle.cli_run.specs.declared.fault.RunFault.TheVariants as fault
-use Rattle.cli_run.specs.Faults.{told_by}
 
 -- `Read` only where the reader has failed
 pub told_read : (P : Type 0) (ended : Result Bool RunFault) (failed : Bool) → (failed ≡ true → P) → told_by ended failed ≡ Err fault.Read → P

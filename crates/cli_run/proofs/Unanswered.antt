@@ -1,22 +1,10 @@
 -- A request or a row that the keeper didn't answer, or wasn't asked.
-use Rattle.std.proofs.Common.{◌≡◌, ◌∙◌, refl, ap, subst, sym, ℕ, Bool, false, List, ◌++◌, take, Option, Some, Result, Ok, Err, IfErr, IfOk, ◌⊎◌, inl, inr, ⊎_elim}
-use Rattle.station_days.specs.Date.{LocalMinute}
-use Rattle.station_core.proofs.Premise.{kept_at}
+use Rattle.std.proofs.Common.{◌≡◌, ◌∙◌, refl, ap, subst, sym, ℕ, Bool, false, List, ◌++◌, take, Option, Result, Ok, Err, IfErr, IfOk, ◌⊎◌, inl, inr, ⊎_elim}
+use Rattle.cli_run.proofs.Common.{LocalMinute, kept_at, Input, Given, Answers, IsBrokenAfter, IsMemoryOrStore, Keeping, MayLeave, State, step, RunFault, call, kept_by, run_fault, IsShutAfter, Kept, Request, HasAnswered, HasToldUnread, asked_after, IsAnswered, IsStopped, asked_unread, is_command, reason_head}
 use Rattle.station_core.specs.declared.answer.ActFault.{ActFault}
 use Rattle.station_core.specs.declared.answer.ActFault.TheVariants as act
-use Rattle.station_core.specs.declared.input.Input.{Input}
-use Rattle.station_core.specs.Given.{Given}
-use Rattle.station_core.specs.Keeping.{Answers, IsBrokenAfter, IsMemoryOrStore, Keeping, MayLeave}
-use Rattle.station_core.specs.Step.{State, step}
-use Rattle.cli_run.specs.declared.fault.RunFault.{RunFault}
 use Rattle.cli_run.specs.declared.fault.RunFault.TheVariants as fault
-use Rattle.cli_run.specs.Ends.{call}
-use Rattle.cli_run.specs.Faults.{kept_by, run_fault, IsShutAfter, Kept}
-use Rattle.cli_run.specs.declared.request.Request.{Request}
-use Rattle.cli_run.specs.Answered.{HasAnswered, HasToldUnread}
-use Rattle.cli_run.specs.Requests.{asked_after, asked_good, asked_line}
-use Rattle.cli_run.specs.Ended.{IsAnswered, IsStopped}
-use Rattle.cli_run.specs.Explained.{asked_unread, reason_head}
+use Rattle.cli_run.specs.Requests.{asked_good, asked_line}
 use Rattle.cli_run.specs.Shut.{HasToldLine, IsAnsweredShut}
 use Rattle.cli_run.proofs.Ran.{always}
 use Rattle.cli_run.proofs.Reasons.{explained_unasked}
@@ -31,15 +19,14 @@ keeper_cause act.Memory = inl refl
 keeper_cause _ = inr refl
 
 -- an input that it didn't answer stops the command, whatever the fault is reported as
-pub not_acted : (text : List ℕ) (s next : State) (i : Input) (at : LocalMinute) (e : ActFault) (told : RunFault) (before : List ℕ) (left : Kept) → (step s i at).state ≡ next
-    → told ≡ run_fault e → Answers s i at (Err e) left.keeps → ((found : Option State) → left.may_find found → MayLeave s i at (Err e) found)
-    → IsStopped text s next told before before left
-not_acted text s next i at e told before left after is answers leaves =
-    subst (λ (f : RunFault). IsStopped text s next f before before left) (sym is) (inr (record {
+pub not_acted : (text : List ℕ) (s : State) (i : Input) (at : LocalMinute) (e : ActFault) (told : RunFault) (before : List ℕ) (left : Kept) → told ≡ run_fault e → Answers s i at (Err e) left.keeps → ((found : Option State) → left.may_find found → MayLeave s i at (Err e) found)
+    → IsStopped text s (step s i at).state told before before left
+not_acted text s i at e told before left is answers leaves =
+    subst (λ (f : RunFault). IsStopped text s (step s i at).state f before before left) (sym is) (inr (record {
       why = keeper_cause e;
       nothing = refl;
       memory = still_kept s i at e left.keeps answers;
-      states = λ found may. ⊎_elim (λ same. inl same) (λ store. inr (ap run_fault store.0, store.1 ∙ ap Some after)) (leaves found may);
+      states = λ found may. ⊎_elim (λ same. inl same) (λ store. inr (ap run_fault store.0, store.1)) (leaves found may);
     }))
 
 shut_as : (e : ActFault) (broken : Bool) → IsMemoryOrStore e → IsBrokenAfter e broken → IsShutAfter (run_fault e) broken
@@ -59,21 +46,14 @@ works_still _ broken other works = works
 no_store : {A : Type 0} (e : RunFault) → (e ≡ fault.Write) ⊎ ((e ≡ fault.Memory) × A) → e ≡ fault.Store → ⊥
 no_store e why is = ⊎_elim (λ write. let both : fault.Write ≡ fault.Store = sym write ∙ is in cc) (λ memory. let both : fault.Memory ≡ fault.Store = sym memory.0 ∙ is in cc) why
 
-no_read : {A : Type 0} (e : RunFault) → (e ≡ fault.Write) ⊎ ((e ≡ fault.Memory) × A) → e ≡ fault.Read → ⊥
-no_read e why is = ⊎_elim (λ write. let both : fault.Write ≡ fault.Read = sym write ∙ is in cc) (λ memory. let both : fault.Memory ≡ fault.Read = sym memory.0 ∙ is in cc) why
-
 works_told : (line : List ℕ) (old new : Given) (r : Result Bool RunFault) (broken : Bool) → HasToldLine line old new r → broken ≡ false → IfErr r (λ e. IsShutAfter e broken)
 works_told line old new (Ok good) broken told works = tt
 works_told line old new (Err e) broken told works = works_still e broken (no_store e told.why) works
 
-never_read : (line : List ℕ) (old new : Given) (r : Result Bool RunFault) → HasToldLine line old new r → r ≡ Err fault.Read → ⊥
-never_read line old new (Ok good) told is = cc
-never_read line old new (Err e) told is = no_read e told.why (let same : e ≡ fault.Read = cc in same)
-
 -- a request that isn't for the station
 module _ {K E : Type 0} (k : Keeping K) (at : LocalMinute) (taken : E → Given) (number : Option ℕ) (keeper : K) (old new : Given × E) where
   module _ (asks : Request) (line : List ℕ) (unread : Bool) (line_is : (s : State) → line ≡ asked_line number s asks at) (good_is : (s : State) → false ≡ asked_good s asks at)
-      (after_is : (s : State) → s ≡ asked_after s asks at) where
+      (after_is : (s : State) → s ≡ asked_after s asks at) (other : is_command asks ≡ false) where
     told_ok : (s : State) → k.keeps keeper s → (r : Result Bool RunFault) → HasToldLine line old.0 new.0 r
         → IfOk r (λ good. IsAnswered (asked_line number s asks at) (asked_good s asks at) (asked_after s asks at) good old.0.bytes new.0.bytes (k.keeps keeper))
     told_ok s keeps (Ok good) told = record {
@@ -100,10 +80,10 @@ module _ {K E : Type 0} (k : Keeping K) (at : LocalMinute) (taken : E → Given)
       breaks = works_told line old.0 new.0 r (k.is_broken keeper) told.told;
       answered = λ s keeps works sound. told_ok s keeps r told.told;
       stopped = λ s keeps works sound. told_part s keeps r told.told;
-      unread = never_read line old.0 new.0 r told.told;
+      unread = told.not_read;
       writing = told.writing;
       unwritten = told.unwritten;
       same = λ broken. refl;
       reopen = λ broken. shut told.told;
-      explained = explained_unasked number k asks at taken (call keeper old.0 old.1) (call keeper new.0 new.1) r unread told.reasons why;
+      explained = explained_unasked number k asks at taken (call keeper old.0 old.1) (call keeper new.0 new.1) r unread told.reasons other why;
     }

@@ -46,6 +46,7 @@ pub record HasToldUnread {E : Type 0} (taken : E → Given) (line : List ℕ) (u
   pub told : HasToldLine line old.0 new.0 result
   pub writing : TellsWriting old.0 new.0 result
   pub unwritten : IfErr result (λ e. (e ≡ fault.Write) ⊎ (new.0 ≡ old.0))
+  pub not_read : result ≡ Err fault.Read → ⊥
   pub reasons : HasGivenReason taken unread head old.1 new.1 result
 
 -- the input was received, and the request in its bytes was answered

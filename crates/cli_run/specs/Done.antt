@@ -8,7 +8,8 @@ use Rattle.reports.specs.declared.listing.Listing.TheVariants as listing
 use Rattle.reports.specs.declared.report.Report.TheVariants as report
 use Rattle.cli_run.specs.declared.fault.RunFault.{RunFault}
 use Rattle.cli_run.specs.declared.fault.RunFault.TheVariants as fault
-use Rattle.cli_run.specs.RowsAnswered.{HasAnsweredRows}
+use Rattle.cli_run.specs.Rows.{stock_rows}
+use Rattle.cli_run.specs.RowsAnswered.{HasAnsweredRow}
 use Rattle.cli_run.specs.Faults.{IsReadToEnd}
 use Rattle.cli_run.specs.InTurn.{HaveBeenAnswered, kept_lines, HaveBeenMade}
 use Rattle.cli_run.specs.Requests.{IsCommandAsked}
@@ -51,7 +52,7 @@ HasDone command.Init here k e at old new r =
 HasDone command.Migrate here k e at old new r =
     HasIdled (printed_to e old) (printed_to e new) r
 HasDone command.Stock here k e at old new r =
-    HasAnsweredRows k at e.told (e.remaining old.1.reader) (call_to e old) (call_to e new) r
+    HaveBeenAnswered stock_rows (HasAnsweredRow k at e.told) (e.remaining old.1.reader) (call_to e old) (call_to e new) r
     × IsReadToEnd (e.given new.1.reader) r
 HasDone (command.Take paths) here k e at old new r =
     HaveBeenMade (HasTakenNext (λ bytes. HasAnswered k at e.told None) e.given e.turned) (length paths.items)

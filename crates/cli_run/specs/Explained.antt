@@ -31,6 +31,11 @@ asked_unread s (asked.Refused refusal) at = is_unread refusal
 asked_unread s (asked.Bad verb body) at = true
 asked_unread s (asked.BadLine line) at = true
 
+-- true for a command that was read, which has no reason
+abbrev pub is_command : Request → Bool
+is_command (asked.Input (Keyed key command)) = true
+is_command _ = false
+
 -- the start of a telegram's reason, with the number if it is a line of `acts`; that of a malformed
 -- line; and that of any request
 abbrev pub telegram_head : Option ℕ → List ℕ
@@ -68,5 +73,6 @@ pub record HasExplained {K E : Type 0} (number : Option ℕ) (k : Keeping K) (as
   pub quiet : result ≡ Ok true → new.errors ≡ old.errors
   pub unread : Bool
   pub given : HasGivenReason taken unread (reason_head number asks) old.errors new.errors result
+  pub read : is_command asks ≡ true → unread ≡ false
   pub why : (s : State) → k.keeps old.keeper s → k.is_broken old.keeper ≡ false
       → k.is_sound new.keeper → OnOk result (unread ≡ asked_unread s asks at)

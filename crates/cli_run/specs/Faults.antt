@@ -3,7 +3,7 @@ use Rattle.std.specs.Prelude.{◌≡◌, ◌<◌, ◌⊎◌, Bool, true, false, 
 use Rattle.csv.specs.declared.error.ErrorKind.{ErrorKind}
 use Rattle.csv.specs.declared.error.ErrorKind.TheVariants as kind
 use Rattle.station_core.specs.Given.{Given}
-use Rattle.station_core.specs.Ends.{HasCause}
+use Rattle.station_core.specs.Ends.{HasCause, NoneFailed}
 use Rattle.station_core.specs.Keeping.{Keeping}
 use Rattle.station_core.specs.declared.answer.ActFault.{ActFault}
 use Rattle.station_core.specs.declared.answer.ActFault.TheVariants as act
@@ -16,24 +16,16 @@ abbrev pub run_fault : ActFault → RunFault
 run_fault act.Memory = fault.Memory
 run_fault _ = fault.Store
 
--- the writer didn't fail, and never wrote 0 bytes
-pub record IsUntroubled (old new : Given) : Type 0 where
-  pub failures : new.failures ≡ old.failures
-  pub idle : new.idle ≡ old.idle
-
--- a fault other than the writer's is returned only if the writer didn't fail
-abbrev pub IsWriteOrUntroubled : RunFault → Given → Given → Type 0
-IsWriteOrUntroubled e old new = (e ≡ fault.Write) ⊎ IsUntroubled old new
-
 -- the writer's fault is returned only if a call of it failed, or wrote 0 bytes
 abbrev pub WriteHasCause : {X : Type 0} → Result X RunFault → Given → Given → Type 0
 WriteHasCause result old new = result ≡ Err fault.Write → HasCause old new
 
--- what a result tells of the writer
+-- What a result tells of the writer. A fault other than the writer's is returned only if the writer
+-- didn't fail.
 pub record TellsWriting {X : Type 0} (old new : Given) (result : Result X RunFault) : Type 0 where
   pub cause : WriteHasCause result old new
-  pub told : IfErr result (λ e. IsWriteOrUntroubled e old new)
-  pub untroubled : OnOk result (IsUntroubled old new)
+  pub told : IfErr result (λ e. (e ≡ fault.Write) ⊎ NoneFailed old new)
+  pub untroubled : OnOk result (NoneFailed old new)
 
 -- The station must be opened again after a fault exactly if its store failed.
 abbrev pub IsShutAfter : RunFault → Bool → Type 0

@@ -9,7 +9,6 @@ pub mod Ended
 pub mod Ends
 pub mod Explained
 pub mod Faults
-pub mod Feed
 pub mod History
 pub mod InTurn
 pub mod Left
@@ -20,10 +19,8 @@ pub mod Reasons
 pub mod Report
 pub mod Reported
 pub mod Row
-pub mod RowReasons
 pub mod Rows
 pub mod RowsAnswered
-pub mod RowsShut
 pub mod Seen
 pub mod Shut
 pub mod Takes

@@ -9,7 +9,7 @@ ghost use Rattle.cli_run.specs.Explained.{line_head, reason_head};
 
 use crate::fault::{RunFault, keeper_fault};
 use crate::request::Request;
-use crate::sent::send_line;
+use crate::sent::send_part;
 use crate::telling::{tell_answer, tell_bad_line, tell_body, tell_refusal};
 use desk_commands::Verb;
 use shipment_machine::Refusal;
@@ -18,7 +18,7 @@ use station_days::Moment;
 use std::alloc::{AllocError, Global};
 
 /// The line for a body that isn't a command of the verb.
-const BAD_BODY: &str = "body bad\n";
+const BAD_BODY: &[u8] = b"body bad\n";
 
 /// Returns an answer as it is printed: `ok 10`, or `refused 102 020-12345723`.
 fn answer_text(alloc: Global, answer: &Answer) -> Result<String, AllocError>
@@ -93,7 +93,7 @@ pub fn named_line(
     }
 }
 
-pub(crate) fn answer_line(
+fn answer_line(
     alloc: Global,
     number: Option<u64>,
     input: &Input<'_>,
@@ -120,7 +120,8 @@ pub(crate) fn refusal_line(
 
 /// Passes an input to the station, writes the line of its answer, and the reason if a telegram
 /// can't be read.
-fn answer_input<K: Keeper, O: ByteOut, E: ByteOut>(
+#[tactic(auto, using(crate::proofs::Reasons::command_read))]
+pub(crate) fn answer_input<K: Keeper, O: ByteOut, E: ByteOut>(
     alloc: Global,
     keeper: &mut K,
     writer: &mut O,
@@ -140,7 +141,7 @@ fn answer_input<K: Keeper, O: ByteOut, E: ByteOut>(
     let Ok(line) = answer_line(alloc, number, input, &answer) else {
         return Err(RunFault::Memory);
     };
-    send_line(writer, &line)?;
+    send_part(writer, line.as_bytes())?;
     tell_answer(alloc, errors, number, input, &answer);
     Ok(matches!(answer, Answer::Done(_)))
 }
@@ -163,7 +164,7 @@ pub fn answer_refusal<O: ByteOut, E: ByteOut>(
     let Ok(line) = refusal_line(alloc, number, refusal) else {
         return Err(RunFault::Memory);
     };
-    send_line(writer, &line)?;
+    send_part(writer, line.as_bytes())?;
     tell_refusal(alloc, errors, number, refusal);
     Ok(false)
 }
@@ -181,7 +182,7 @@ pub fn answer_bad<O: ByteOut, E: ByteOut>(
     ensures { HasToldUnread E.taken (codes "body bad\n") true (codes "body: ")
         (O.taken writer.old, errors.old) (O.taken writer.new, errors.new) result }
 {
-    send_line(writer, BAD_BODY)?;
+    send_part(writer, BAD_BODY)?;
     tell_body(alloc, errors, verb, body);
     Ok(false)
 }
@@ -203,7 +204,7 @@ pub fn answer_bad_line<O: ByteOut, E: ByteOut>(
     let Ok(line) = numbered_line(alloc, number, "bad") else {
         return Err(RunFault::Memory);
     };
-    send_line(writer, &line)?;
+    send_part(writer, line.as_bytes())?;
     tell_bad_line(alloc, errors, number, text);
     Ok(false)
 }

@@ -3,8 +3,8 @@ ghost use Rattle.std.specs.Io.{ReadsAtMost};
 ghost use Rattle.std.specs.Io.KnownBytes.{ReadConsumes};
 ghost use Rattle.station_core.specs.Ends.{ReadStep};
 ghost use Rattle.station_core.specs.Given.{nothing_given};
+ghost use Rattle.station_core.specs.Counted.{given_of, inner_of};
 ghost use Rattle.station_core.specs.declared.ends.Counted.{Counted};
-ghost use Rattle.cli_run.specs.Feed.{fed_of, reader_of};
 
 use crate::inputs::{Inputs, Watched};
 use station_core::{ByteIn, Counted, InputReader, ReadFault};
@@ -31,8 +31,8 @@ impl<R> Model for Feed<R> {
 impl<R> Feed<R> {
     /// Wraps a reader before its first call.
     pub fn new(reader: R) -> Feed<R>
-        ensures reader { reader_of result ≡ reader }
-        ensures nothing { fed_of result ≡ nothing_given }
+        ensures reader { inner_of result ≡ reader }
+        ensures nothing { given_of result ≡ nothing_given }
     {
         Feed {
             counted: Counted::new(reader),
@@ -42,13 +42,13 @@ impl<R> Feed<R> {
 }
 
 impl<R: Read> ByteIn for Feed<R> {
-    ghost given = { fed_of };
+    ghost given = { given_of };
 
     fn read(&mut self, buf: &mut [u8]) -> Result<usize, ReadFault>
-        ensures step { ReadStep (fed_of self.old) (fed_of self.new) result buf.new }
+        ensures step { ReadStep (given_of self.old) (given_of self.new) result buf.new }
         // If the reader's remaining bytes are known, exactly these bytes were removed.
-        ensures inner { ReadConsumes (R.remaining (reader_of self.old))
-            (R.remaining (reader_of self.new)) result buf.new }
+        ensures inner { ReadConsumes (R.remaining (inner_of self.old))
+            (R.remaining (inner_of self.new)) result buf.new }
     {
         match self.counted.read(buf) {
             Ok(n) => Ok(n),
@@ -68,7 +68,7 @@ impl<R: Read> Watched for Feed<R> {
 }
 
 impl<R: InputReader> Inputs for Feed<R> {
-    ghost turned = { λ old new. R.begun (reader_of old) (reader_of new) };
+    ghost turned = { λ old new. R.begun (inner_of old) (inner_of new) };
 
     fn next_input(&mut self) {
         self.counted.begin_input();
@@ -76,7 +76,7 @@ impl<R: InputReader> Inputs for Feed<R> {
 }
 
 impl<R: Read> Read for Feed<R> {
-    ghost remaining = { λ f. R.remaining (reader_of f) };
+    ghost remaining = { λ f. R.remaining (inner_of f) };
 
     /// Reads once, and again if interrupted.
     fn read(&mut self, buf: &mut [u8]) -> io::Result<usize> {

@@ -15,8 +15,8 @@ use std::alloc::Global;
 /// `refused 213 LH400/2026-01-12/FRA/1`, `refused 301 4 ending` if a telegram can't be read, or
 /// `body bad` if a body isn't JSON of a command of the verb. The input is a body under the verb and
 /// the key of `head`, or without them a telegram. One of more than 65,536 bytes is bad or refused,
-/// and only a prefix of it is read. After the line, the reason why an input can't be read is written
-/// to `errors`. `Ok` says whether the input was accepted.
+/// and only a prefix of it is read. After the line, the reason why an input can't be read is
+/// written to `errors`. `Ok` says whether the input was accepted.
 ///
 /// # Errors
 ///

@@ -1,11 +1,10 @@
 //! Laws about stock lists, the lines of `acts` together, and the inputs of each command.
-ghost use Rattle.std.specs.Prelude.{◌≡◌, ◌&&◌, ℕ, Bool, false, List, Result, map};
+ghost use Rattle.std.specs.Prelude.{◌≡◌, ℕ, Bool, false, List, Result, map};
 ghost use Rattle.station_days.specs.Date.{LocalMinute};
-ghost use Rattle.station_core.specs.Step.{State, after_all, answers_of};
-ghost use Rattle.std.specs.List.{list_all};
-ghost use Rattle.station_core.specs.Retries.{is_done};
-ghost use Rattle.cli_run.specs.ListLaw.{inputs_of, answered_lines, all_ask};
-ghost use Rattle.cli_run.specs.Rows.{Row, lines_from, rows_good, rows_after};
+ghost use Rattle.station_core.specs.Step.{State};
+ghost use Rattle.cli_run.specs.ListLaw.{HasRunList};
+ghost use Rattle.cli_run.specs.Rows.{Row};
+ghost use Rattle.cli_run.specs.RowsAnswered.{HasAnsweredRow};
 ghost use Rattle.cli_run.specs.Row.{row_asks};
 ghost use Rattle.cli_run.specs.Acts.{HasAnsweredLine};
 ghost use Rattle.cli_run.specs.ActsLaw.{HasRunActs};
@@ -20,18 +19,15 @@ use crate::inputs::Inputs;
 use station_core::{ByteOut, Keeper};
 use std::io::Read;
 
-/// A stock list is a run of the station over the orders of its rows: it leaves the state after them
-/// all, its lines are their answers, and it is good if every row has an order and every answer
-/// accepts it.
-pub fn list_law()
-    ensures state { (s : State) (rows : List Row) (at : LocalMinute)
-        → rows_after s rows at ≡ after_all s (inputs_of rows at) }
-    ensures lines { (number : ℕ) (s : State) (rows : List Row) (at : LocalMinute)
-        → lines_from number s rows at ≡ answered_lines number (map row_asks rows)
-        (answers_of s (inputs_of rows at)) }
-    ensures good { (s : State) (rows : List Row) (at : LocalMinute)
-        → rows_good s rows at ≡ (all_ask rows && list_all is_done
-        (answers_of s (inputs_of rows at))) }
+/// The answered rows of a stock list are a run of the station over their orders: they leave the
+/// state after them all, the output is the lines of the answers, and the run is good if every row
+/// has an order and every answer accepts it.
+pub fn list_law<K: Keeper, E: ByteOut>()
+    ensures { (rows : List Row) (at : LocalMinute) (old new : Call K E) (good : Bool)
+        → AreAnswered (HasAnsweredRow K.keeping at E.taken) 1 rows old new good → (s : State)
+        → K.keeping.keeps old.keeper s → K.keeping.is_broken old.keeper ≡ false → K.keeping.is_sound
+        new.keeper → HasRunList 1 s at (map row_asks rows) old.sent.bytes new.sent.bytes
+        (K.keeping.keeps new.keeper) good }
 {}
 
 /// The answered lines of `acts` are a run of the station over their requests: they leave the state

@@ -42,6 +42,6 @@ pub use row::read_row;
 pub use rows::{RowPlace, answer_bad_row, answer_list};
 pub use run::run_over;
 pub use seen::run_read;
-pub use sent::{send_line, send_part, send_word, tell_line, tell_word};
+pub use sent::{send_part, send_word, tell_line, tell_word};
 pub use takes::answer_takes;
 pub use telling::tell_refusal;

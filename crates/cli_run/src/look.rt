@@ -8,14 +8,14 @@ ghost use Rattle.station_core.specs.Keeping.{StaysInService};
 ghost use Rattle.cli_run.specs.Looked.{holder_found, waybill_found, HasLookedUp, HasToldFound};
 
 use crate::fault::{RunFault, keeper_fault};
-use crate::sent::send_line;
+use crate::sent::send_part;
 use agent_stock::Holder;
 use awb_number::Awb;
 use http_desk::{holder_text, waybill_text};
 use station_core::{ByteOut, Keeper, Waybill};
 use std::alloc::{AllocError, Global};
 
-const UNKNOWN: &str = "unknown\n";
+const UNKNOWN: &[u8] = b"unknown\n";
 
 fn object_line(alloc: Global, object: &str) -> Result<String, AllocError>
     ensures { IfOk result (λ line. string_bytes line ≡ object.now ++ 10 ∷ []) }
@@ -39,7 +39,7 @@ fn tell_object<W: ByteOut>(
     let Ok(line) = object_line(alloc, object.as_str()) else {
         return Err(RunFault::Memory);
     };
-    send_line(output, &line)?;
+    send_part(output, line.as_bytes())?;
     Ok(true)
 }
 
@@ -47,7 +47,7 @@ pub(crate) fn tell_unknown<W: ByteOut>(output: &mut W) -> Result<bool, RunFault>
     ensures told { HasToldFound None (W.taken output.old) (W.taken output.new) result }
     ensures store { result ≡ Err RunFault.Store → ⊥ }
 {
-    send_line(output, UNKNOWN)?;
+    send_part(output, UNKNOWN)?;
     Ok(false)
 }
 

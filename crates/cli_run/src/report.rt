@@ -1,10 +1,9 @@
 //! Reports.
-ghost use Rattle.std.specs.Prelude.{◌≡◌, true, false, Err, OnOk, List, ℕ};
-ghost use Rattle.station_core.specs.Keeping.{IfSound, OnlyReads, StaysInService};
-ghost use Rattle.station_core.specs.Step.{State};
+ghost use Rattle.std.specs.Prelude.{◌≡◌};
+ghost use Rattle.station_core.specs.Keeping.{StaysInService};
 ghost use Rattle.reports.specs.Listings.{IsListing};
 ghost use Rattle.cli_run.specs.Reported.{good_of, HasReportedGood, HasToldReport};
-ghost use Rattle.cli_run.specs.Report.{cause_fault, run_ended, HasReported, StopsReport};
+ghost use Rattle.cli_run.specs.Report.{cause_fault, run_ended};
 
 use crate::fault::{RunFault, keeper_fault};
 use reports::{Form, Listing, ReportCause, ReportFault, write_listing};
@@ -42,20 +41,8 @@ fn run_report<K: Keeper, W: ByteOut>(
     form: Form,
     writer: &mut W,
 ) -> Result<(), RunFault>
-    ensures reads { OnlyReads K.keeping keeper.old keeper.new }
-    ensures reopen { K.keeping.is_broken keeper.old ≡ true → (result ≡ Err RunFault.Store)
-        × (keeper.new ≡ keeper.old) × (W.taken writer.new ≡ W.taken writer.old) }
-    ensures fault { IfSound K.keeping keeper.old keeper.new (λ s. K.keeping.is_broken keeper.old
-        ≡ false → result ≡ Err RunFault.Store → K.keeping.may_fail) }
-    ensures writes { StopsReport (W.taken writer.old) (W.taken writer.new) result }
-
-    // One text is the report that was written.
-    ensures told { IfSound K.keeping keeper.old keeper.new (λ s. OnOk result ((text : List ℕ)
-        × IsListing form s listing.now text × HasReported text (W.taken writer.old)
-        (W.taken writer.new) result)) }
-    // Each text of the report was written, or a prefix.
-    ensures each { IfSound K.keeping keeper.old keeper.new (λ s. (text : List ℕ) → IsListing form s
-        listing.now text → HasReported text (W.taken writer.old) (W.taken writer.new) result) }
+    ensures { HasToldReport (λ s. IsListing form s listing.now) K.keeping
+        (keeper.old, W.taken writer.old) (keeper.new, W.taken writer.new) result }
 {
     run_ended(write_listing(alloc, keeper, listing, form, writer, &[]))
 }
@@ -67,19 +54,6 @@ pub(crate) fn good_of(ended: Result<(), RunFault>) -> Result<bool, RunFault>
         Ok(()) => Ok(true),
         Err(fault) => Err(fault),
     }
-}
-
-fn send_report<K: Keeper, W: ByteOut>(
-    alloc: Global,
-    keeper: &mut K,
-    listing: &Listing,
-    form: Form,
-    output: &mut W,
-) -> Result<(), RunFault>
-    ensures { HasToldReport (λ s. IsListing form s listing.now) K.keeping
-        (keeper.old, W.taken output.old) (keeper.new, W.taken output.new) result }
-{
-    run_report(alloc, keeper, listing, form, output)
 }
 
 /// Runs `report NAME` or `outbox`: writes a report, or a part of one.
@@ -94,5 +68,5 @@ pub(crate) fn do_report<K: Keeper, W: ByteOut>(
     ensures reported { HasReportedGood (λ s. IsListing form s listing.now) K.keeping
         (keeper.old, W.taken output.old) (keeper.new, W.taken output.new) result }
 {
-    good_of(send_report(alloc, keeper, listing, form, output))
+    good_of(run_report(alloc, keeper, listing, form, output))
 }

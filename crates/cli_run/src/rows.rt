@@ -1,25 +1,25 @@
 //! The rows of a stock list, one after another.
-ghost use Rattle.std.specs.Prelude.{◌≡◌, ◌<◌, ℕ, false, None, ◌++◌, ◌⊎◌, IfOk, IfErr, OnOk, string_bytes, take};
+ghost use Rattle.std.specs.Prelude.{◌≡◌, ◌<◌, true, Err, IfOk, OnOk, string_bytes};
 ghost use Rattle.csv.specs.Records.{fields_of};
 ghost use Rattle.input_reasons.specs.Reason.{HasReason, numbered_head};
 ghost use Rattle.cli_run.specs.Ends.{call};
-ghost use Rattle.cli_run.specs.Faults.{IsReadToEnd, TellsWriting};
+ghost use Rattle.cli_run.specs.Answered.{HasToldUnread};
+ghost use Rattle.cli_run.specs.Faults.{IsReadToEnd};
 ghost use Rattle.cli_run.specs.InTurn.{HaveBeenAnswered};
-ghost use Rattle.cli_run.specs.Rows.{bad_line, stock_rows};
-ghost use Rattle.cli_run.specs.RowReasons.{row_head, HasToldRow};
+ghost use Rattle.cli_run.specs.Rows.{bad_line, row_head, stock_rows};
 ghost use Rattle.cli_run.specs.RowsAnswered.{HasAnsweredRow};
 
-use crate::answer::answer_line;
+use crate::answer::answer_input;
 use crate::answering::Answering;
 use crate::by_line::{LineCount, line_by_line};
-use crate::fault::{RunFault, keeper_fault, list_fault, told_by};
+use crate::fault::{RunFault, list_fault, told_by};
 use crate::inputs::Watched;
 use crate::row::read_row;
-use crate::sent::send_line;
+use crate::sent::send_part;
 use csv::{ByteRecord, ReaderBuilder};
 use desk_commands::Command;
 use input_reasons::{row_reason, tell_reason};
-use station_core::{Answer, ByteOut, Input, Keeper, answer_one};
+use station_core::{ByteOut, Input, Keeper};
 use station_days::Moment;
 use std::alloc::{AllocError, Global};
 use std::io::Read;
@@ -60,14 +60,8 @@ pub fn answer_bad_row<W: ByteOut, E: ByteOut>(
     place: RowPlace,
     row: &ByteRecord,
 ) -> Result<bool, RunFault>
-    ensures answered { IfOk result (λ good. (good ≡ false)
-        × ((W.taken writer.new).bytes ≡ (W.taken writer.old).bytes ++ bad_line place.number)) }
-    ensures stopped { IfErr result (λ e. ((e ≡ RunFault.Write) ⊎ ((e ≡ RunFault.Memory)
-        × ((W.taken writer.new).bytes ≡ (W.taken writer.old).bytes)))
-        × ((sent : ℕ) × ((W.taken writer.new).bytes ≡ (W.taken writer.old).bytes ++ take sent
-        (bad_line place.number)))) }
-    ensures writing { TellsWriting (W.taken writer.old) (W.taken writer.new) result }
-    ensures reasons { HasToldRow E.taken result None errors.old errors.new }
+    ensures told { HasToldUnread E.taken (bad_line place.number) true row_head
+        (W.taken writer.old, errors.old) (W.taken writer.new, errors.new) result }
     ensures own { OnOk result (HasReason (numbered_head place.line) (E.taken errors.old).bytes
         (E.taken errors.new).bytes) }
 {
@@ -76,7 +70,7 @@ pub fn answer_bad_row<W: ByteOut, E: ByteOut>(
     };
     // The line is written before its reason.
     writer.expect_more(false);
-    send_line(writer, &line)?;
+    send_part(writer, line.as_bytes())?;
     tell_row(alloc, errors, row, place.line);
     Ok(false)
 }
@@ -92,23 +86,19 @@ pub fn answer_row<K: Keeper, W: ByteOut, E: ByteOut>(
     row: &ByteRecord,
     at: Moment,
 ) -> Result<bool, RunFault>
-    ensures { HasAnsweredRow K.keeping at E.taken place.number (fields_of row.now)
+    ensures answered { HasAnsweredRow K.keeping at E.taken place.number (fields_of row.now)
         (call keeper.old (W.taken writer.old) errors.old)
         (call keeper.new (W.taken writer.new) errors.new) result }
+    ensures unread { result ≡ Err RunFault.Read → ⊥ }
 {
-    let Some(asked) = read_row(row) else {
-        return answer_bad_row(alloc, writer, errors, place, row);
-    };
-    let input = Input::Keyed(asked.0, Command::Stock(asked.1));
-    let answer = match answer_one(keeper, &input, at) {
-        Ok(answer) => answer,
-        Err(fault) => return Err(keeper_fault(fault)),
-    };
-    let Ok(line) = answer_line(alloc, Some(place.number), &input, &answer) else {
-        return Err(RunFault::Memory);
-    };
-    send_line(writer, &line)?;
-    Ok(matches!(answer, Answer::Done(_)))
+    match read_row(row) {
+        Some((key, order)) => {
+            let number = Some(place.number);
+            let input = Input::Keyed(key, Command::Stock(order));
+            answer_input(alloc, keeper, writer, errors, number, &input, at)
+        }
+        None => answer_bad_row(alloc, writer, errors, place, row),
+    }
 }
 
 /// Answers the rows of a reader up to its end or an error.

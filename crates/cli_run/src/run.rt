@@ -1,7 +1,8 @@
 //! Running a command over its station.
 ghost use Rattle.std.specs.Prelude.{◌≡◌, false, None, OnOk};
 ghost use Rattle.station_core.specs.Keeping.{StaysInService};
-ghost use Rattle.cli_run.specs.RowsAnswered.{HasAnsweredRows};
+ghost use Rattle.cli_run.specs.Rows.{stock_rows};
+ghost use Rattle.cli_run.specs.RowsAnswered.{HasAnsweredRow};
 ghost use Rattle.cli_run.specs.Ends.{call, ends, reached};
 ghost use Rattle.cli_run.specs.Faults.{IsReadToEnd};
 ghost use Rattle.cli_run.specs.InTurn.{HaveBeenAnswered, kept_lines, HaveBeenMade};
@@ -59,8 +60,9 @@ fn do_stock<K: Keeper, I: Watched + Read, W: ByteOut, E: ByteOut>(
     errors: &mut E,
     at: Moment,
 ) -> Result<bool, RunFault>
-    ensures answered { HasAnsweredRows K.keeping at E.taken (I.remaining reader.old)
-        (call keeper.old (W.taken output.old) errors.old)
+    ensures service { StaysInService K.keeping keeper.old keeper.new result }
+    ensures answered { HaveBeenAnswered stock_rows (HasAnsweredRow K.keeping at E.taken)
+        (I.remaining reader.old) (call keeper.old (W.taken output.old) errors.old)
         (call keeper.new (W.taken output.new) errors.new) result }
     ensures read { IsReadToEnd (I.given reader.new) result }
 {

@@ -1,7 +1,8 @@
 //! Dry runs of telegrams.
 ghost use Rattle.std.specs.Prelude.{◌≡◌, ◌⊎◌, ◌++◌, ◌∷◌, [], None, Some, false, not, Err, IfOk, IfErr, OnOk, OnErr, string_bytes};
 ghost use Rattle.station_core.specs.Texts.{refusal_text};
-ghost use Rattle.cli_run.specs.Faults.{IsUntroubled, TellsWriting, WriteHasCause};
+ghost use Rattle.station_core.specs.Ends.{NoneFailed};
+ghost use Rattle.cli_run.specs.Faults.{TellsWriting, WriteHasCause};
 ghost use Rattle.input_reasons.specs.Look.{has_doubt};
 ghost use Rattle.input_reasons.specs.LookText.{look_text};
 ghost use Rattle.cli_run.specs.Came.{HasFailed, IsWithin, most_come};
@@ -12,7 +13,7 @@ ghost use Rattle.cli_run.specs.Seen.{has_reason, HasSeen, HasStoppedLook, IsSeen
 use crate::answer::refusal_line;
 use crate::fault::RunFault;
 use crate::reading::read_input;
-use crate::sent::send_line;
+use crate::sent::send_part;
 use crate::telling::tell_refusal;
 use input_reasons::{Look, look_at, look_text};
 use shipment_machine::Refusal;
@@ -89,14 +90,14 @@ fn write_seen<O: ByteOut, E: ByteOut>(
         string_bytes seen.now.text) }
     ensures reason { OnOk result (HasToldWhy E.taken (has_reason seen.now.refusal)
         (telegram_head None) errors.old errors.new) }
-    ensures untroubled { OnOk result (IsUntroubled (O.taken writer.old) (O.taken writer.new)) }
+    ensures untroubled { OnOk result (NoneFailed (O.taken writer.old) (O.taken writer.new)) }
     ensures why { IfErr result (λ e. e ≡ RunFault.Write) }
     ensures part { IfErr result (HasToldPart (string_bytes seen.now.text) (O.taken writer.old)
         (O.taken writer.new)) }
     ensures write_cause { WriteHasCause result (O.taken writer.old) (O.taken writer.new) }
     ensures quiet { OnErr result (errors.new ≡ errors.old) }
 {
-    send_line(writer, seen.text.as_str())?;
+    send_part(writer, seen.text.as_bytes())?;
     tell_seen(alloc, errors, &seen.refusal);
     Ok(seen.good)
 }

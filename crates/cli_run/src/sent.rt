@@ -1,41 +1,22 @@
 //! Lines written in parts.
-ghost use Rattle.std.specs.Prelude.{◌≡◌, ◌++◌, ◌∷◌, [], ℕ, IfErr, OnErr, OnOk, take};
-ghost use Rattle.station_core.specs.Ends.{HasCause, HasSent, SendsLine};
-ghost use Rattle.cli_run.specs.Faults.{IsUntroubled};
+ghost use Rattle.std.specs.Prelude.{◌≡◌, ◌++◌, ◌∷◌, [], IfErr, OnErr, OnOk};
+ghost use Rattle.station_core.specs.Ends.{HasCause, HasSent, NoneFailed, SendsLine};
 
 use crate::fault::RunFault;
 use station_core::{ByteOut, send};
 
-/// Writes a part of a line.
+/// Writes a line, or a part of one.
 ///
 /// Returns [`RunFault::Write`] if the writer fails or writes 0 bytes. A prefix is written.
 pub fn send_part<W: ByteOut>(writer: &mut W, part: &[u8]) -> Result<(), RunFault>
     ensures all { OnOk result
         ((W.taken writer.new).bytes ≡ (W.taken writer.old).bytes ++ part.now) }
     ensures sent { HasSent part.now (W.taken writer.old) (W.taken writer.new) }
-    ensures untroubled { OnOk result (IsUntroubled (W.taken writer.old) (W.taken writer.new)) }
+    ensures untroubled { OnOk result (NoneFailed (W.taken writer.old) (W.taken writer.new)) }
     ensures why { IfErr result (λ e. e ≡ RunFault.Write) }
     ensures cause { OnErr result (HasCause (W.taken writer.old) (W.taken writer.new)) }
 {
     match send(writer, part) {
-        Ok(()) => Ok(()),
-        Err(_sent) => Err(RunFault::Write),
-    }
-}
-
-/// Writes a line.
-///
-/// Returns [`RunFault::Write`] if the writer fails or writes 0 bytes.
-pub fn send_line<W: ByteOut>(writer: &mut W, line: &str) -> Result<(), RunFault>
-    ensures all { OnOk result
-        ((W.taken writer.new).bytes ≡ (W.taken writer.old).bytes ++ line.now) }
-    ensures untroubled { OnOk result (IsUntroubled (W.taken writer.old) (W.taken writer.new)) }
-    ensures cause { OnErr result (HasCause (W.taken writer.old) (W.taken writer.new)) }
-    ensures part { IfErr result (λ e. (e ≡ RunFault.Write)
-        × ((sent : ℕ) × ((W.taken writer.new).bytes ≡ (W.taken writer.old).bytes ++ take sent
-        line.now))) }
-{
-    match send(writer, line.as_bytes()) {
         Ok(()) => Ok(()),
         Err(_sent) => Err(RunFault::Write),
     }

@@ -31,8 +31,8 @@ fn take_next<P: Answering<D, E>, D, I: Inputs, W: ByteOut, E: ByteOut>(
 /// Has the telegrams of `count` inputs answered one after another, all at one moment, and writes
 /// the line of each answer. `Ok` says whether all were accepted.
 ///
-/// A fault ends the run, as described at [`answer_input`]. The telegrams before it are answered, and
-/// those after it aren't read.
+/// A fault ends the run, as described at [`answer_input`]. The telegrams before it are answered,
+/// and those after it aren't read.
 pub fn answer_takes<P: Answering<D, E>, D, I: Inputs, W: ByteOut, E: ByteOut>(
     way: &P,
     alloc: Global,

@@ -1,23 +1,12 @@
 -- A report that is printed as it comes, read by read.
 use Rattle.std.proofs.Common.{arith, ◌≡◌, ◌∙◌, ap, sym, refl, subst, inl, inr, ⊎_elim, ℕ, zero, suc, ◌-◌, ◌<◌, ◌≤◌, false, List, [], ◌∷◌, ◌++◌, drop, take, length, length-append, length-drop, length-take, append_assoc, Result, Ok, Err}
-use Rattle.std.specs.Prelude.{IsErrAnd}
-use Rattle.std.proofs.Math.Seq.{take-length}
-use Rattle.std.proofs.lemmas.List.{append-nil, append_cancel_left, take-append-drop}
-use Rattle.station_core.specs.Given.{Given}
-use Rattle.station_core.specs.Ends.{HasCause, HasSent}
-use Rattle.cli_run.specs.Came.{HasGrown}
-use Rattle.cli_run.specs.Faults.{IsUntroubled}
+use Rattle.desk_client.proofs.Common.{IsErrAnd, take-length, append-nil, append_cancel_left, take-append-drop, Given, HasCause, HasSent, NoneFailed, HasGrown, Form, has_end, HasPrintedBody, HasPrintedFront, HasPrintedLast, HasPrintedMore, HasPrintedSome, HasStopped, HasTurned, IsHeld, AskFault, PrintFault}
 use Rattle.cli_run.proofs.Grown.{grown_more}
 use Rattle.cli_run.proofs.Parts.{cause_behind, first_part, next_part, untroubled_more}
-use Rattle.reports.specs.declared.form.Form.{Form}
 use Rattle.reports.specs.declared.form.Form.TheVariants as form
 use Rattle.desk_client.specs.Came.{HasGiven, IsReadersFault}
-use Rattle.desk_client.specs.Ended.{has_end}
 use Rattle.desk_client.specs.Front.{mark_of, IsFrontEnd}
-use Rattle.desk_client.specs.Printed.{HasPrintedBody, HasPrintedFront, HasPrintedLast, HasPrintedMore, HasPrintedSome, HasStopped, HasTurned, IsHeld}
-use Rattle.desk_client.specs.declared.ask.AskFault.{AskFault}
 use Rattle.desk_client.specs.declared.ask.AskFault.TheVariants as fault
-use Rattle.desk_client.specs.declared.printing.PrintFault.{PrintFault}
 use Rattle.desk_client.specs.declared.printing.PrintFault.TheVariants as print
 use Rattle.desk_client.proofs.Tails.{tail_decides}
 
@@ -35,7 +24,7 @@ rest_is text n = ap (λ (k : ℕ). take k (drop n text)) (sym (length-drop n tex
 
 -- the first front was printed
 pub begun : (f : Form) (body held : List ℕ) (end : ℕ) (read old new : Given) → IsFrontEnd f body end → held ≡ take (length body - (end - 1)) (drop (end - 1) body)
-    → new.bytes ≡ old.bytes ++ take end body → IsUntroubled old new → HasPrintedSome f body held read read old new
+    → new.bytes ≡ old.bytes ++ take end body → NoneFailed old new → HasPrintedSome f body held read read old new
 begun f body held end read old new front held_is printed smooth =
     let is = held_is ∙ rest_is body (end - 1) in
     record {
@@ -205,7 +194,7 @@ unturned f held old is = record {
   some = inl refl;
   unended = nothing_open f;
   printed = sym (append-nil old.bytes);
-  smooth = record { failures = refl; idle = refl };
+  smooth = (refl, refl);
 }
 
 taken_part : (f : Form) (held tail : List ℕ) (end : ℕ) → held ≡ mark_of f ∷ tail → 1 ≤ end → take end held ≡ mark_of f ∷ take (end - 1) (drop 1 held)
@@ -215,7 +204,7 @@ taken_part f held tail (suc k) is some =
     ap (take (suc k)) is ∙ (λ i. mark_of f ∷ take (same i) (drop 1 (sym is i)))
 
 pub turned : (f : Form) (held rest : List ℕ) (end : ℕ) (old new : Given) → IsHeld f held → IsFrontEnd f held end → rest ≡ take (length held - (end - 1)) (drop (end - 1) held)
-    → new.bytes ≡ old.bytes ++ take (end - 1) (drop 1 held) → IsUntroubled old new → HasPrintedMore f held rest old new
+    → new.bytes ≡ old.bytes ++ take (end - 1) (drop 1 held) → NoneFailed old new → HasPrintedMore f held rest old new
 turned f held rest end old new is front rest_so printed smooth =
     let part = take (end - 1) (drop 1 held) in
     let taken : take end held ≡ mark_of f ∷ part = taken_part f held is.tail end is.held_is (omega (arith, front.some)) in

@@ -1,14 +1,7 @@
 -- Where a question ends without an answer.
 use Rattle.std.proofs.Common.{◌≡◌, ◌∙◌, refl, sym, subst, inr, ℕ, ◌≤◌, Bool, true, false, List, ◌++◌, drop, length, Option, Result, Ok, Err}
-use Rattle.station_core.specs.Given.{Given}
-use Rattle.reports.specs.declared.form.Form.{Form}
-use Rattle.desk_client.specs.Again.{Talk, HasTriedThrice, IsAskedUntil}
-use Rattle.desk_client.specs.Try.{by_time, HasAsked, HasRead, HasSent, HasTaken, HasUnderstood}
-use Rattle.cli_run.specs.Came.{HasCome}
-use Rattle.desk_client.specs.Request.{most_row_bytes}
-use Rattle.desk_client.specs.Whole.{IsWhole}
-use Rattle.desk_client.specs.declared.ask.Response.{Response}
-use Rattle.desk_client.specs.declared.ask.AskFault.{AskFault}
+use Rattle.desk_client.proofs.Common.{Given, Form, Talk, HasTriedThrice, IsAskedUntil, by_time, HasAsked, HasRead, HasTaken, HasUnderstood, HasCome, most_row_bytes, IsWhole, Response, AskFault}
+use Rattle.desk_client.specs.Try.{HasSent}
 use Rattle.desk_client.specs.declared.ask.AskFault.TheVariants as fault
 use Rattle.desk_client.specs.declared.ask.Until.{Until}
 use Rattle.desk_client.specs.declared.ask.Until.TheVariants as until

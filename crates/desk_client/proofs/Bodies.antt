@@ -1,9 +1,8 @@
 -- What a body is, by what its head tells of its length.
 use Rattle.std.proofs.Common.{arith, ◌≡◌, ◌∙◌, ap, sym, subst, ℕ, ◌<◌, ◌||◌, true, false, Some, None, Option, List, [], ◌∷◌, ◌++◌, length, length-append, codes}
 use Rattle.http_desk.specs.Digits.{number_told}
-use Rattle.http_desk.specs.Request.{values_of}
+use Rattle.desk_client.proofs.Common.{values_of, has_media, IsAsLong, IsOfRows, IsTooShort, IsExtent, IsExtentOf}
 use Rattle.reports.specs.declared.form.Form.TheVariants as form
-use Rattle.desk_client.specs.Whole.{has_media, IsAsLong, IsOfRows, IsTooShort, IsExtent, IsExtentOf}
 use Rattle.desk_client.specs.declared.whole.Extent.{Extent}
 use Rattle.desk_client.specs.declared.whole.Extent.TheVariants as extent
 

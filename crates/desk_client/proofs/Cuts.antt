@@ -1,16 +1,9 @@
 -- A whole answer is one, and no beginning of another.
 use Rattle.std.proofs.Common.{arith, ◌≡◌, ◌∙◌, ap, sym, subst, inl, inr, ℕ, ◌||◌, true, false, List, [], ◌∷◌, ◌++◌, length, map, codes, length-append}
-use Rattle.std.specs.Prelude.{◌⊎◌}
+use Rattle.desk_client.proofs.Common.{◌⊎◌, nil_from_length, ResponseHead, status_code, name_and_value, values_of, Form, has_end, has_media, IsAsLong, IsCutShort, IsReport, IsTooShort, IsWhole}
 use Rattle.std.proofs.Math.Bool.{or-true}
-use Rattle.std.proofs.lemmas.List.{nil_from_length}
-use Rattle.httparse.specs.Grammar.{ResponseHead, status_code}
-use Rattle.httparse.specs.Spans.{name_and_value}
 use Rattle.httparse.proofs.GrammarLemmas.{ReadsResponse-append, response_unique}
-use Rattle.http_desk.specs.Request.{values_of}
-use Rattle.reports.specs.declared.form.Form.{Form}
 use Rattle.reports.specs.declared.form.Form.TheVariants as form
-use Rattle.desk_client.specs.Ended.{has_end}
-use Rattle.desk_client.specs.Whole.{has_media, IsAsLong, IsCutShort, IsReport, IsTooShort, IsWhole}
 use Rattle.desk_client.proofs.Bodies.{some_is}
 
 abbrev lengths_of : ResponseHead → List (List ℕ)

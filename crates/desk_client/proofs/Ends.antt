@@ -1,8 +1,6 @@
 -- The digits at a text's end.
 use Rattle.std.proofs.Common.{◌≡◌, ◌∙◌, ap, sym, refl, ℕ, true, false, List, [], ◌∷◌, ◌++◌, reverse}
-use Rattle.std.proofs.lemmas.List.{reverse-append, reverse-reverse}
-use Rattle.awb_number.specs.Digits.{is_digit}
-use Rattle.desk_client.specs.Ended.{behind_digits, before_digits}
+use Rattle.desk_client.proofs.Common.{reverse-append, reverse-reverse, is_digit, behind_digits, before_digits}
 
 last_first : (front : List ℕ) (last : ℕ) → reverse (front ++ last ∷ []) ≡ last ∷ reverse front
 last_first front last = reverse-append front (last ∷ [])

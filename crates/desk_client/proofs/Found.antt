@@ -1,13 +1,9 @@
 -- What bytes are of a whole answer.
 use Rattle.std.proofs.Common.{arith, ◌≡◌, ◌∙◌, ap, sym, subst, inr, ℕ, ◌≤◌, true, false, List, [], ◌∷◌, ◌++◌, drop, take, length, map, length-take, length-drop, ◌-◌}
-use Rattle.std.proofs.lemmas.List.{length-map}
-use Rattle.std.proofs.Math.Seq.{take-length}
-use Rattle.httparse.specs.Grammar.{Field, ResponseHead, ReadsResponse}
-use Rattle.httparse.specs.Spans.{header_bytes, name_and_value, IsResponseOf}
+use Rattle.desk_client.proofs.Common.{length-map, take-length, Field, ResponseHead, ReadsResponse, header_bytes, name_and_value, IsResponseOf, most_fields, IsWholeBody, IsShortBody, IsTooShort, IsAsLong, IsExtentOf, IsFound}
 use Rattle.httparse.specs.declared.spans.HeaderSpan.{HeaderSpan}
 use Rattle.httparse.specs.declared.spans.ResponseSpans.{ResponseSpans}
 use Rattle.httparse.proofs.GrammarLemmas.{response_prefix_free, response_unique}
-use Rattle.desk_client.specs.Whole.{most_fields, IsWholeBody, IsShortBody, IsTooShort, IsAsLong, IsExtentOf, IsFound}
 use Rattle.desk_client.specs.declared.whole.Extent.TheVariants as extent
 use Rattle.desk_client.specs.declared.whole.Found.TheVariants as found
 use Rattle.desk_client.proofs.Bodies.{some_is}

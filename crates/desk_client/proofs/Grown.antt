@@ -1,7 +1,6 @@
 -- What has come of an answer, read by read.
 use Rattle.std.proofs.Common.{inl, inr, arith, ℕ, ◌<◌, List, [], length}
-use Rattle.station_core.specs.Given.{Given}
-use Rattle.cli_run.specs.Came.{HasCome, HasGrown}
+use Rattle.desk_client.proofs.Common.{Given, HasCome, HasGrown}
 use Rattle.cli_run.proofs.Grown.{grown_more, has_come}
 
 -- a read more that brought nothing ended it

@@ -1,18 +1,12 @@
 -- What an input leaves that a service was asked for.
 use Rattle.std.proofs.Common.{◌≡◌, ◌∙◌, sym, refl, ap, subst, inl, inr, ℕ, List, [], ◌∷◌, ◌++◌, Option, Result, Ok, Err, string_bytes}
-use Rattle.std.proofs.lemmas.List.{append-nil}
-use Rattle.station_core.specs.Given.{Given}
+use Rattle.desk_client.proofs.Common.{append-nil, Given, RunFault, Call, Talk, IsAnswered, is_late, HasAnsweredInput, HasHeard, HasUnderstoodLine, Response}
 use Rattle.station_core.specs.declared.input.Input.{Input}
-use Rattle.cli_run.specs.declared.fault.RunFault.{RunFault}
 use Rattle.cli_run.specs.declared.fault.RunFault.TheVariants as fault
 use Rattle.cli_run.specs.declared.request.Request.TheVariants as asked
 use Rattle.cli_run.specs.Requests.{named}
 use Rattle.cli_run.specs.Ended.{HasToldPart}
 use Rattle.cli_run.specs.Explained.{reason_head, HasToldWhy}
-use Rattle.cli_run.specs.Ends.{Call}
-use Rattle.desk_client.specs.Again.{Talk, IsAnswered}
-use Rattle.desk_client.specs.Heard.{is_late, HasAnsweredInput, HasHeard, HasUnderstoodLine}
-use Rattle.desk_client.specs.declared.ask.Response.{Response}
 use Rattle.desk_client.specs.declared.line.Heard.{Heard}
 
 -- the service answered, and its answer tells that

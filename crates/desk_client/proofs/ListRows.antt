@@ -1,21 +1,11 @@
 -- An order that was sent.
 use Rattle.std.proofs.Common.{◌≡◌, ◌∙◌, subst, inr, ℕ, Bool, List, Some, Result}
-use Rattle.std.specs.Prelude.{IsUtf8}
+use Rattle.desk_client.proofs.Common.{IsUtf8, word, Verb, IsSaid, Given, RunFault, Call, Talk, HasAnsweredInput, order_data, IsOrderText, command_request, most_answer}
 use Rattle.agent_stock.specs.declared.stock.Order.{Order}
 use Rattle.desk_commands.specs.Command.{order_verb}
-use Rattle.desk_commands.specs.Verb.{word}
-use Rattle.desk_commands.specs.declared.verb.Verb.{Verb}
 use Rattle.desk_commands.specs.declared.command.Command.TheVariants.{Stock}
-use Rattle.http_desk.specs.Request.{IsSaid}
-use Rattle.station_core.specs.Given.{Given}
-use Rattle.cli_run.specs.declared.fault.RunFault.{RunFault}
-use Rattle.cli_run.specs.Ends.{Call}
 use Rattle.cli_run.specs.Rows.{input_of}
-use Rattle.desk_client.specs.Again.{Talk}
-use Rattle.desk_client.specs.Heard.{HasAnsweredInput}
 use Rattle.desk_client.specs.ListRows.{HasAnsweredOrder}
-use Rattle.desk_client.specs.Orders.{order_data, IsOrderText}
-use Rattle.desk_client.specs.Request.{command_request, most_answer}
 
 -- an order that was asked by its verb and its body
 pub ordered : {E : Type 0} (taken : E → Given) (number : ℕ) (key : List ℕ) (order : Order) (verb : Verb) (text body : List ℕ) (old new : Call Talk E) (r : Result Bool RunFault)

@@ -4,14 +4,12 @@ use Rattle.serde_json.specs.Data.{Data, depth}
 use Rattle.serde_json.specs.Read.{read, max_depth}
 use Rattle.serde_json.specs.Written.{compact_text, has_float}
 use Rattle.serde_json.proofs.OnLiterals.{serde_json_on_literals}
-use Rattle.awb_number.specs.Digits.{padded}
-use Rattle.awb_number.specs.Number.{number_text, prefix_of, serial_of}
+use Rattle.desk_client.proofs.Common.{padded, number_text, prefix_of, serial_of, agents_object, order_data, run_object, IsOrderText, IsTextOf}
 use Rattle.agent_stock.specs.declared.stock.Order.{Order}
 use Rattle.agent_stock.specs.declared.stock.Order.TheVariants.{TakeIn, Issue, GiveBack, Void}
 use Rattle.desk_commands.specs.Body.{IsBodyOf}
 use Rattle.desk_commands.specs.Command.{order_verb, IsOrder}
 use Rattle.desk_commands.specs.declared.command.Command.TheVariants.{Stock}
-use Rattle.desk_client.specs.Orders.{agents_object, order_data, run_object, IsOrderText, IsTextOf}
 
 -- a text that the writer made
 pub written : {X T : Type 0} (r : Result T X) (f : T → List ℕ) (v d : Data) → v ≡ d → has_float d ≡ false → depth d ≤ max_depth

@@ -2,17 +2,9 @@
 use Rattle.std.proofs.Common.{◌≡◌, ◌∙◌, refl, sym, subst, inl, inr, ℕ, ◌≤◌, Bool, List, Option, Some, None, IfSome, Result}
 use Rattle.serde_json.specs.Data.{Data, depth}
 use Rattle.serde_json.specs.Read.{read, max_depth}
-use Rattle.desk_commands.specs.Verb.{word}
-use Rattle.desk_commands.specs.declared.verb.Verb.{Verb}
-use Rattle.station_core.specs.Given.{Given}
-use Rattle.cli_run.specs.declared.fault.RunFault.{RunFault}
+use Rattle.desk_client.proofs.Common.{word, Verb, Given, RunFault, Call, Talk, HasAnswered, HasHeardValue, IsPosted, command_request, most_answer}
 use Rattle.cli_run.specs.declared.request.Request.{Request}
 use Rattle.cli_run.specs.ActLine.{IsActAsked, IsFrame, IsWritten}
-use Rattle.cli_run.specs.Ends.{Call}
-use Rattle.desk_client.specs.Again.{Talk}
-use Rattle.desk_client.specs.Heard.{HasAnswered}
-use Rattle.desk_client.specs.Posted.{HasHeardValue, IsPosted}
-use Rattle.desk_client.specs.Request.{command_request, most_answer}
 
 -- a command's line has its body for it
 pub framed : (d : Data) (verb : Verb) (key : List ℕ) (body : Data) (text request : List ℕ) → IsFrame d verb key body → (depth body ≤ max_depth → read text ≡ Some body)

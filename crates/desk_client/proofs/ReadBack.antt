@@ -1,35 +1,25 @@
 -- A desk reads the request of a command as what it is.
 use Rattle.std.proofs.Common.{arith, ◌≡◌, ◌∙◌, ap, sym, subst, refl, ℕ, ◌+◌, ◌-◌, ◌<◌, ◌≤◌, ◌^◌, Bool, true, Option, Some, None, Ok, Err, List, [], ◌∷◌, ◌++◌, length, map, take, drop, reverse, codes, decimal, length-append, append_assoc}
-use Rattle.std.specs.Prelude.{◌&&◌, not, nat_le, if◌then◌else◌}
+use Rattle.desk_client.proofs.Common.{◌&&◌, not, nat_le, if◌then◌else◌, and_parts, and_from, leb-true, le-leb, lt-ltb, take-append-add, drop-append_seam, RequestHead, is_ows, is_value_byte, ReadsRequest, name_and_value, is_digit, decimal_value, where_true, Verb, word, HasPath, IsPathOf, most_path, Head, HeadAsks, looks_up, sends, sends_body, place_asks, head_asks, key_of, length_in, within_length, command_lines, key_line, command_head, telegram_head, get_request}
 use Rattle.std.specs.Char.{is_ascii_graphic}
 use Rattle.std.specs.List.{list_all}
-use Rattle.std.proofs.lemmas.Bool.{and_parts, and_from, leb-true, le-leb, lt-ltb}
 use Rattle.std.proofs.lemmas.Bool.Decides.{nat_tests}
 use Rattle.std.proofs.lemmas.Fmt.{length-decimal-le, decimal_nonempty}
 use Rattle.std.proofs.lemmas.List.Sums.{AllPass-from_list_all, list_all-from_AllPass}
-use Rattle.std.proofs.Math.Seq.{take-append-add, drop-append_seam}
-use Rattle.httparse.specs.Grammar.{RequestHead, is_token_byte, is_ows, is_value_byte, ReadsRequest}
-use Rattle.httparse.specs.Spans.{name_and_value}
+use Rattle.httparse.specs.Grammar.{is_token_byte}
 use Rattle.httparse.proofs.TrimLemmas.{AllPass-reverse}
 use Rattle.http1.specs.Fields.{Header}
 use Rattle.http1.specs.Head.{starts_visible, is_trimmed_value, are_headers, is_request_line, head_refusal, request_head, request_text, print_headers, section_text}
 use Rattle.http1.proofs.HeadLemmas.{request_text_is}
 use Rattle.http1.proofs.HeadRoundTrip.{RequestReadsBack, request_reads_back}
-use Rattle.awb_number.specs.Digits.{is_digit, decimal_value}
 use Rattle.imp_fields.proofs.WrittenLaws.{decimal_digits}
-use Rattle.station_days.specs.Steps.{where_true}
-use Rattle.desk_commands.specs.declared.verb.Verb.{Verb}
-use Rattle.desk_commands.specs.Verb.{word}
 use Rattle.desk_commands.proofs.Words.{of_every}
 use Rattle.station_core.specs.Key.{is_key, is_key_byte}
-use Rattle.http_desk.specs.Paths.{HasPath, IsPathOf, most_path}
 use Rattle.http_desk.proofs.Printed.{writes}
 use Rattle.http_desk.proofs.Segments.{all_weaker}
 use Rattle.http_desk.specs.Routes.{Got, gets, Posted, posts, posted_command, posted_telegram, place_of}
-use Rattle.http_desk.specs.Request.{Head, HeadAsks, looks_up, sends, sends_body, place_asks, head_asks, key_of, length_in, within_length}
 use Rattle.http_desk.specs.Digits.{is_number}
 use Rattle.http_desk.specs.Answer.{HasHead}
-use Rattle.desk_client.specs.Request.{command_lines, key_line, command_head, telegram_head, get_request}
 use Rattle.desk_client.specs.Read.{IsRead}
 
 abbrev fields_of : List ℕ → List ℕ → List Header

@@ -1,15 +1,11 @@
 -- What a reply tells is the line of its answer.
 use Rattle.std.proofs.Common.{arith, ◌≡◌, ◌∙◌, ap, refl, ℕ, ◌<◌, ◌^◌, Bool, true, false, Some, None, List, [], ◌∷◌, ◌++◌, length, length-append, codes, decimal}
-use Rattle.std.specs.Prelude.{◌==◌, ◌||◌, ◌&&◌, nat_lt, if◌then◌else◌, option_map, option_and_then}
+use Rattle.desk_client.proofs.Common.{◌==◌, ◌||◌, ◌&&◌, nat_lt, if◌then◌else◌, option_map, option_and_then, padded, lt-ltb, number_text, prefix_of, serial_of, check_digit, where_true}
 use Rattle.std.specs.Str.{bytes_eq}
 use Rattle.imp_fields.specs.Fault.{why_word}
-use Rattle.awb_number.specs.Digits.{padded}
-use Rattle.std.proofs.lemmas.Bool.{lt-ltb}
 use Rattle.std.proofs.lemmas.Fmt.{decimal_nonempty}
 use Rattle.serde_json.proofs.OnLiterals.{serde_json_on_literals}
-use Rattle.awb_number.specs.Number.{number_text, prefix_of, serial_of, check_digit}
 use Rattle.station_days.specs.Date.{day_line}
-use Rattle.station_days.specs.Steps.{where_true}
 use Rattle.imp_fields.specs.Flight.{flight_text}
 use Rattle.shipment_machine.specs.declared.plans.Detail.{Detail}
 use Rattle.shipment_machine.specs.declared.plans.Detail.TheVariants as detail

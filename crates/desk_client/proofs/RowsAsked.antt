@@ -1,15 +1,8 @@
 -- A question for rows, by the tries and by what was printed after them.
 use Rattle.std.proofs.Common.{◌≡◌, ap, refl, inl, inr, ⊎_elim, ℕ, Bool, List, Option, Some, None, Result, Ok, Err}
-use Rattle.station_core.specs.Given.{Given}
-use Rattle.cli_run.specs.declared.fault.RunFault.{RunFault}
+use Rattle.desk_client.proofs.Common.{Given, RunFault, Form, Talk, HasTried, HasTriedThrice, IsRefused, HasTalked, HasTaken, service_fault, Response, AskFault}
 use Rattle.cli_run.specs.declared.fault.RunFault.TheVariants as run
-use Rattle.reports.specs.declared.form.Form.{Form}
-use Rattle.desk_client.specs.Again.{Talk, HasTried, HasTriedThrice, IsRefused, HasTalked}
-use Rattle.desk_client.specs.Try.{HasTaken}
-use Rattle.desk_client.specs.Heard.{service_fault}
 use Rattle.desk_client.specs.Looks.{rows_request, shown, HasAskedRows, HasShownTaken, IsTakenRows}
-use Rattle.desk_client.specs.declared.ask.Response.{Response}
-use Rattle.desk_client.specs.declared.ask.AskFault.{AskFault}
 use Rattle.desk_client.specs.declared.ask.AskFault.TheVariants as fault
 use Rattle.desk_client.specs.declared.ask.Until.TheVariants as until
 use Rattle.desk_client.proofs.Asking.{asked}

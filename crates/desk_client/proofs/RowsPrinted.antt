@@ -1,17 +1,8 @@
 -- Rows that are printed as they come, after the tries that began them.
 use Rattle.std.proofs.Common.{◌≡◌, ◌∙◌, ap, subst, Bool, true, false, ℕ, List, Result, Err}
-use Rattle.station_core.specs.Given.{Given}
-use Rattle.reports.specs.declared.form.Form.{Form}
-use Rattle.cli_run.specs.declared.fault.RunFault.{RunFault}
-use Rattle.desk_client.specs.Again.{Talk}
-use Rattle.desk_client.specs.Try.{by_time}
-use Rattle.desk_client.specs.Heard.{body_of, service_fault}
-use Rattle.desk_client.specs.Printed.{call_ended, last_after, HasPrinted, HasPrintedBody, HasReadOn}
-use Rattle.desk_client.specs.declared.ask.Response.{Response}
-use Rattle.desk_client.specs.declared.ask.AskFault.{AskFault}
+use Rattle.desk_client.proofs.Common.{Given, Form, RunFault, Talk, by_time, body_of, service_fault, call_ended, last_after, HasPrinted, HasPrintedBody, HasReadOn, Response, AskFault, PrintFault}
 use Rattle.desk_client.specs.declared.ask.AskFault.TheVariants as fault
 use Rattle.desk_client.specs.declared.connect.LastTry.TheVariants as last
-use Rattle.desk_client.specs.declared.printing.PrintFault.{PrintFault}
 use Rattle.desk_client.specs.declared.printing.PrintFault.TheVariants as print
 
 -- a reader whose time ran out has failed

@@ -1,19 +1,12 @@
 -- Whether a text ends as a report does is decided by its tail.
 use Rattle.std.proofs.Common.{arith, ◌≡◌, ◌∙◌, ap, sym, refl, ℕ, suc, ◌-◌, ◌≤◌, Bool, true, false, List, [], ◌∷◌, ◌++◌, drop, take, reverse, length, length-append, length-drop, append_assoc, codes}
-use Rattle.std.specs.Prelude.{◌==◌, ◌&&◌, ◌||◌, not, nat_lt, if◌then◌else◌}
+use Rattle.desk_client.proofs.Common.{◌==◌, ◌&&◌, ◌||◌, not, nat_lt, if◌then◌else◌, drop-append_seam, take-append_seam, and_parts, ltb-true, ltb-false, reverse-append, reverse-reverse, take-append-drop, where_true, is_digit, Form, behind_digits, before_digits, has_count, has_count_in, has_end, is_before_count, is_before_json_count, without}
 use Rattle.std.specs.List.{ends_with, list_all}
 use Rattle.std.specs.Cmp.Lexicographic.{pointwise, unequal}
 use Rattle.std.specs.Str.{bytes_eq}
 use Rattle.std.proofs.Math.Bool.{and-false}
-use Rattle.std.proofs.Math.Seq.{drop-append_seam, take-append_seam}
-use Rattle.std.proofs.lemmas.Bool.{and_parts, ltb-true, ltb-false}
 use Rattle.std.proofs.lemmas.Bool.Decides.{nat_tests}
-use Rattle.std.proofs.lemmas.List.{reverse-append, reverse-reverse, take-append-drop}
-use Rattle.station_days.specs.Steps.{where_true}
-use Rattle.awb_number.specs.Digits.{is_digit}
-use Rattle.reports.specs.declared.form.Form.{Form}
 use Rattle.reports.specs.declared.form.Form.TheVariants as form
-use Rattle.desk_client.specs.Ended.{behind_digits, before_digits, has_count, has_count_in, has_end, is_before_count, is_before_json_count, without}
 use Rattle.desk_client.specs.Front.{mark_of}
 
 -- a byte isn't among these

@@ -1,8 +1,6 @@
 -- A text that goes out in parts.
 use Rattle.std.proofs.Common.{◌≡◌, ◌∙◌, ap, inl, inr, ⊎_elim, ℕ, List, ◌++◌, append_assoc, subst, sym}
-use Rattle.station_core.specs.Given.{Given}
-use Rattle.station_core.specs.Ends.{HasCause, HasSent, SendsLine}
-use Rattle.cli_run.specs.Faults.{IsUntroubled}
+use Rattle.desk_client.proofs.Common.{Given, HasCause, HasSent, NoneFailed, SendsLine}
 use Rattle.cli_run.proofs.Parts.{cause_behind, first_part, next_part}
 
 -- its first part, or a beginning of that
@@ -10,7 +8,7 @@ pub stopped : (whole a b : List ℕ) (old new : Given) → whole ≡ a ++ b → 
 stopped whole a b old new is sent cause = subst (λ (l : List ℕ). SendsLine l old new) (sym is) (inr (first_part a b old new sent, cause))
 
 -- its first part, and then what is behind it
-pub gone_on : (whole a b : List ℕ) (old mid new : Given) → whole ≡ a ++ b → mid.bytes ≡ old.bytes ++ a → IsUntroubled old mid → SendsLine b mid new → SendsLine whole old new
+pub gone_on : (whole a b : List ℕ) (old mid new : Given) → whole ≡ a ++ b → mid.bytes ≡ old.bytes ++ a → NoneFailed old mid → SendsLine b mid new → SendsLine whole old new
 gone_on whole a b old mid new is first smooth more =
     subst (λ (l : List ℕ). SendsLine l old new) (sym is) (⊎_elim
     (λ (all : new.bytes ≡ mid.bytes ++ b). inl (all ∙ ap (λ (l : List ℕ). l ++ b) first ∙ append_assoc old.bytes a b))

@@ -9,11 +9,10 @@ use Rattle.http_desk.specs.Request.{IsSaid}
 use Rattle.station_core.specs.Given.{Given}
 use Rattle.cli_run.specs.declared.fault.RunFault.{RunFault}
 use Rattle.cli_run.specs.declared.fault.RunFault.TheVariants as fault
-use Rattle.cli_run.specs.Rows.{bad_line, input_of, Row}
-use Rattle.cli_run.specs.RowReasons.{HasToldRow}
+use Rattle.cli_run.specs.Rows.{input_of, Row}
+use Rattle.cli_run.specs.RowsAnswered.{HasToldBadRow}
 use Rattle.cli_run.specs.Row.{row_asks}
 use Rattle.cli_run.specs.Ends.{Call}
-use Rattle.cli_run.specs.Shut.{HasToldLine}
 use Rattle.desk_client.specs.Again.{Talk}
 use Rattle.desk_client.specs.Heard.{HasAnsweredInput}
 use Rattle.desk_client.specs.Orders.{order_data}
@@ -33,12 +32,6 @@ HasAnsweredOrder taken number key order old new result =
     HasNotBegun old new result
     ⊎ (IsSaid (order_verb order) (compact_text (order_data order)) (Stock order)
     × HasAnsweredInput taken (Some number) (input_of (key, order)) (order_request key order) most_answer old new result)
-
--- a row without an order gets its line and its reason, and the service isn't asked
-pub record HasToldBadRow {E : Type 0} (taken : E → Given) (number : ℕ) (old new : Call Talk E) (result : Result Bool RunFault) : Type 0 where
-  pub same : new.keeper ≡ old.keeper
-  pub line : HasToldLine (bad_line number) old.sent new.sent result
-  pub reason : HasToldRow taken result None old.errors new.errors
 
 abbrev pub HasAnsweredAsks : {E : Type 0} → (E → Given) → ℕ → Option (List ℕ × Order) → Call Talk E → Call Talk E → Result Bool RunFault → Type 0
 HasAnsweredAsks taken number None old new result = HasToldBadRow taken number old new result

@@ -1,8 +1,7 @@
 -- Reports printed as they arrive.
 use Rattle.std.specs.Prelude.{◌≡◌, ◌⊎◌, ◌<◌, ◌≤◌, ℕ, Bool, true, false, List, [], ◌∷◌, ◌++◌, drop, length, Result, Ok, Err, ⊤}
-use Rattle.station_core.specs.Ends.{HasCause, HasSent}
+use Rattle.station_core.specs.Ends.{HasCause, HasSent, NoneFailed}
 use Rattle.station_core.specs.Given.{Given}
-use Rattle.cli_run.specs.Faults.{IsUntroubled}
 use Rattle.cli_run.specs.declared.fault.RunFault.{RunFault}
 use Rattle.cli_run.specs.declared.fault.RunFault.TheVariants as run
 use Rattle.reports.specs.declared.form.Form.{Form}
@@ -35,7 +34,7 @@ pub record HasPrintedMore (form : Form) (held_old held_new : List ℕ) (old new 
   pub some : (part ≡ []) ⊎ (2 ≤ length part)
   pub unended : has_end (mark_of form ∷ part) ≡ false
   pub printed : new.bytes ≡ old.bytes ++ part
-  pub smooth : IsUntroubled old new
+  pub smooth : NoneFailed old new
 
 -- or nothing was: the writer failed, or memory ran out before
 abbrev pub HasTurned : Form → List ℕ → List ℕ → Given → Given → Result (Unit {0}) PrintFault → Type 0
@@ -61,7 +60,7 @@ pub record HasPrintedSome (form : Form) (body held : List ℕ) (read_old read_ne
   pub held_so : IsHeld form held
   pub printed : new.bytes ≡ old.bytes ++ (done ++ mark_of form ∷ [])
   pub unended : has_end (done ++ mark_of form ∷ []) ≡ false
-  pub smooth : IsUntroubled old new
+  pub smooth : NoneFailed old new
 
 -- a printable prefix of a text was printed, and no write failed
 pub record HasPrintedFront (form : Form) (text : List ℕ) (old new : Given) : Type 0 where
@@ -70,7 +69,7 @@ pub record HasPrintedFront (form : Form) (text : List ℕ) (old new : Given) : T
   pub text_is : text ≡ front ++ rest
   pub is_front : IsFront form front
   pub printed : new.bytes ≡ old.bytes ++ front
-  pub smooth : IsUntroubled old new
+  pub smooth : NoneFailed old new
 
 -- The reason why the rest of a body wasn't received: the connection ended, and the body doesn't end
 -- like a report; or a read failed; or memory ran out.

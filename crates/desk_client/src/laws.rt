@@ -43,7 +43,8 @@ pub fn whole_law()
 
 /// A desk reads each request as intended. A command is read as a post of the verb with this key and
 /// this body, a telegram as its post with this text and without a key, a waybill, a history and a
-/// number as the look-up of that number, and a report, or a part of one, as those rows in that form.
+/// number as the look-up of that number, and a report, or a part of one, as those rows in that
+/// form.
 pub fn request_law()
     ensures command { (verb : Verb) (key body : List ℕ) → is_key key ≡ true
         → length body ≤ most_bytes → IsRead (command_head (word verb) key (length body) ++ body)

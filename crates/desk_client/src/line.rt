@@ -10,7 +10,7 @@ use crate::ask::{Ask, AskFault, Response};
 use crate::content::{Content, content_of};
 use crate::question::Question;
 use cli_run::{
-    Request, RunFault, answer_bad, answer_bad_line, answer_refusal, named_line, send_line,
+    Request, RunFault, answer_bad, answer_bad_line, answer_refusal, named_line, send_part,
     tell_refusal,
 };
 use imp_fields::Why;
@@ -123,7 +123,7 @@ pub(crate) fn answer_input<S: Ask, W: ByteOut, E: ByteOut>(
     let Ok(line) = named_line(alloc, number, input, text) else {
         return Err(RunFault::Memory);
     };
-    send_line(output, line.as_str())?;
+    send_part(output, line.as_bytes())?;
     tell_late(alloc, errors, number, input, text);
     Ok(heard.good)
 }

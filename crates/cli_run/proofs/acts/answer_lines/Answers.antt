@@ -1,7 +1,6 @@
 use Rattle.std.proofs.Common.{arith, rules, ◌≡◌, ◌+◌, ◌<◌, ap, refl, sym, subst, ℕ, List, [], ◌∷◌, ◌++◌, length, Some, Ok, Err}
-use Rattle.cli_run.specs.Ends.{call}
+use Rattle.cli_run.proofs.Common.{call, kept_lines}
 use Rattle.cli_run.proofs.InTurn.{answered_more, length_more, passed_items}
-use Rattle.cli_run.specs.InTurn.{kept_lines}
 use Rattle.cli_run.proofs.Lines.{known_start, known_more, known_end, known_first, Read}
 use Rattle.cli_run.proofs.acts.answer_lines.Goals as goal
 

@@ -1,6 +1,5 @@
 use Rattle.std.proofs.Common.{◌≡◌, ◌+◌, List, ℕ, length, IfSome}
-use Rattle.cli_run.specs.Ends.{call}
-use Rattle.cli_run.specs.InTurn.{AreAnswered}
+use Rattle.cli_run.proofs.Common.{call, AreAnswered}
 use Rattle.cli_run.proofs.Lines.{Known}
 use Rattle.cli_run.proofs.acts.answer_lines.Given as goal
 

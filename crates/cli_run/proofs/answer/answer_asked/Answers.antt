@@ -1,12 +1,7 @@
 use Rattle.std.proofs.Common.{refl, sym, subst, true, [], ◌∷◌, ◌++◌}
-use Rattle.std.specs.Prelude.{codes}
-use Rattle.input_reasons.specs.Reason.{is_unread}
+use Rattle.cli_run.proofs.Common.{codes, is_unread, call, Request, numbered, HasAnswered}
 use Rattle.station_core.specs.Texts.{refusal_text}
-use Rattle.cli_run.specs.Ends.{call}
-use Rattle.cli_run.specs.declared.request.Request.{Request}
 use Rattle.cli_run.specs.declared.request.Request.TheVariants as asked
-use Rattle.cli_run.specs.Requests.{numbered}
-use Rattle.cli_run.specs.Answered.{HasAnswered}
 use Rattle.cli_run.proofs.Unanswered.{unasked}
 use Rattle.cli_run.proofs.answer.answer_asked.Goals as goal
 
@@ -23,7 +18,7 @@ returns-in-Refused g c =
     let new = g.O.ByteOut.taken c.answer_refusal.new.writer in
     subst (λ (a : Request). HasAnswered k c.args.at g.E.ByteOut.taken c.args.number a (call c.args.keeper.now old c.args.errors.now) (call c.args.keeper.now new c.answer_refusal.new.errors) c.answer_refusal.result) (sym c.in-Refused.is)
     (unasked k c.args.at g.E.ByteOut.taken c.args.number c.args.keeper.now (old, c.args.errors.now) (new, c.answer_refusal.new.errors) (asked.Refused c.in-Refused.refusal) (numbered c.args.number (refusal_text c.in-Refused.refusal ++ 10 ∷ [])) (is_unread c.in-Refused.refusal)
-    (λ s. refl) (λ s. refl) (λ s. refl) c.answer_refusal.result (λ shut. shut) (λ s. refl) c.answer_refusal.ensures)
+    (λ s. refl) (λ s. refl) (λ s. refl) refl c.answer_refusal.result (λ shut. shut) (λ s. refl) c.answer_refusal.ensures)
 
 pub returns-in-Bad : goal.returns-in-Bad
 returns-in-Bad g c =
@@ -32,7 +27,7 @@ returns-in-Bad g c =
     let new = g.O.ByteOut.taken c.answer_bad.new.writer in
     subst (λ (a : Request). HasAnswered k c.args.at g.E.ByteOut.taken c.args.number a (call c.args.keeper.now old c.args.errors.now) (call c.args.keeper.now new c.answer_bad.new.errors) c.answer_bad.result) (sym c.in-Bad.is)
     (unasked k c.args.at g.E.ByteOut.taken c.args.number c.args.keeper.now (old, c.args.errors.now) (new, c.answer_bad.new.errors) (asked.Bad c.in-Bad.verb c.in-Bad.body) (codes "body bad\n") true
-    (λ s. refl) (λ s. refl) (λ s. refl) c.answer_bad.result (λ shut. shut) (λ s. refl) c.answer_bad.ensures)
+    (λ s. refl) (λ s. refl) (λ s. refl) refl c.answer_bad.result (λ shut. shut) (λ s. refl) c.answer_bad.ensures)
 
 pub returns-in-BadLine : goal.returns-in-BadLine
 returns-in-BadLine g c =
@@ -41,4 +36,4 @@ returns-in-BadLine g c =
     let new = g.O.ByteOut.taken c.answer_bad_line.new.writer in
     subst (λ (a : Request). HasAnswered k c.args.at g.E.ByteOut.taken c.args.number a (call c.args.keeper.now old c.args.errors.now) (call c.args.keeper.now new c.answer_bad_line.new.errors) c.answer_bad_line.result) (sym c.in-BadLine.is)
     (unasked k c.args.at g.E.ByteOut.taken c.args.number c.args.keeper.now (old, c.args.errors.now) (new, c.answer_bad_line.new.errors) (asked.BadLine c.in-BadLine.text) (numbered c.args.number (codes "bad\n")) true
-    (λ s. refl) (λ s. refl) (λ s. refl) c.answer_bad_line.result (λ shut. shut) (λ s. refl) c.answer_bad_line.ensures)
+    (λ s. refl) (λ s. refl) (λ s. refl) refl c.answer_bad_line.result (λ shut. shut) (λ s. refl) c.answer_bad_line.ensures)

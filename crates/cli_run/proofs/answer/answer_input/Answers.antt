@@ -1,7 +1,6 @@
 use Rattle.std.proofs.Common.{rules, refl, Err}
 use Rattle.cli_run.specs.declared.fault.RunFault.TheVariants as fault
-use Rattle.cli_run.specs.Ends.{call}
-use Rattle.cli_run.specs.Faults.{kept_by}
+use Rattle.cli_run.proofs.Common.{call, kept_by}
 use Rattle.cli_run.specs.declared.request.Request.TheVariants as asked
 use Rattle.cli_run.proofs.Reasons.{explained_stop}
 use Rattle.cli_run.proofs.Unanswered.{not_acted, shut_after}
@@ -16,8 +15,8 @@ returns-in-Err g c =
       breaks = λ works. shut_after c.in-Err.fault c.keeper_fault.result _ c.keeper_fault.ensures (c.in-Err.ensures.fault works) (c.in-Err.ensures.breaks works);
       answered = search rules;
       stopped = λ s keeps works sound.
-          not_acted _ s _ c.args.input.now c.args.at c.in-Err.fault c.keeper_fault.result sent.bytes (kept_by k c.answer_one.new.keeper)
-          refl c.keeper_fault.ensures (c.in-Err.ensures.answers s keeps works sound) (c.in-Err.ensures.leaves s keeps works sound);
+          not_acted _ s c.args.input.now c.args.at c.in-Err.fault c.keeper_fault.result sent.bytes (kept_by k c.answer_one.new.keeper)
+          c.keeper_fault.ensures (c.in-Err.ensures.answers s keeps works sound) (c.in-Err.ensures.leaves s keeps works sound);
       unread = search rules;
       writing = search rules;
       unwritten = search rules;

@@ -1,6 +1,5 @@
 use Rattle.std.proofs.Common.{◌≢◌, ◌≤◌, ◌+◌, ◌-◌, All, length}
-use Rattle.std.specs.Io.KnownBytes.{Consumes}
-use Rattle.cli_run.specs.ActLine.{most_line}
+use Rattle.cli_run.proofs.Common.{Consumes, most_line}
 use Rattle.cli_run.proofs.kept.kept_line.Given as goal
 
 -- the line so far was read, and has no end

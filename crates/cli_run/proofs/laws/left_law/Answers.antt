@@ -1,4 +1,4 @@
-use Rattle.cli_run.specs.Ends.{ends}
+use Rattle.cli_run.proofs.Common.{ends}
 use Rattle.cli_run.proofs.Left.{done_left}
 use Rattle.cli_run.proofs.laws.left_law.Goals as goal
 

@@ -1,6 +1,5 @@
 use Rattle.std.proofs.Common.{◌≡◌, ◌≤◌, ◌+◌, [], length}
-use Rattle.imp_fields.specs.TextSize.{most_bytes}
-use Rattle.cli_run.specs.Came.{HasGrown}
+use Rattle.cli_run.proofs.Common.{most_bytes, HasGrown}
 use Rattle.cli_run.proofs.reading.read_input.Given as goal
 
 abbrev pub invariant-loop-turn : goal.invariant-loop-turn

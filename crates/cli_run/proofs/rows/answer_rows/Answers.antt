@@ -1,8 +1,5 @@
 use Rattle.std.proofs.Common.{rules, arith, ◌≡◌, ◌∙◌, ap, sym, refl, inl, inr, ℕ, ◌+◌, ◌<◌, ◌≤◌, List, [], ◌∷◌, ◌++◌, length, Some, None, Ok, Err, subst, Fits, w64}
-use Rattle.csv.specs.Records.{fields_of}
-use Rattle.cli_run.specs.Ends.{call}
-use Rattle.cli_run.specs.Faults.{IsReadersFault}
-use Rattle.cli_run.specs.Rows.{Row, stock_rows}
+use Rattle.cli_run.proofs.Common.{fields_of, call, IsReadersFault, Row, stock_rows}
 use Rattle.cli_run.proofs.InTurn.{answered_more, passed_items}
 use Rattle.cli_run.proofs.MoreRows.{known_start, known_more, known_end, known_first, counted_more, readers_fault}
 use Rattle.cli_run.proofs.rows.answer_rows.Goals as goal

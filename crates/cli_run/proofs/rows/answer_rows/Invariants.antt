@@ -1,9 +1,6 @@
 use Rattle.std.proofs.Common.{◌≡◌, List, ◌+◌, ◌<◌, ◌≤◌, length, IfSome}
-use Rattle.csv.specs.Reading.{Ready, default_config}
+use Rattle.cli_run.proofs.Common.{Ready, default_config, call, AreAnswered, Row}
 use Rattle.csv.specs.declared.reader.Trim.TheVariants as trim
-use Rattle.cli_run.specs.Ends.{call}
-use Rattle.cli_run.specs.InTurn.{AreAnswered}
-use Rattle.cli_run.specs.Rows.{Row}
 use Rattle.cli_run.proofs.MoreRows.{Known}
 use Rattle.cli_run.proofs.rows.answer_rows.Given as goal
 

@@ -1,5 +1,4 @@
-use Rattle.input_reasons.specs.Reason.{numbered_head}
-use Rattle.cli_run.specs.RowReasons.{row_head}
+use Rattle.cli_run.proofs.Common.{numbered_head, row_head}
 use Rattle.cli_run.proofs.rows.tell_row.Goals as goal
 
 pub returns-clause-own : goal.returns-clause-own

@@ -1,5 +1,4 @@
-use Rattle.cli_run.specs.Requests.{IsCommandAsked}
-use Rattle.cli_run.specs.Ends.{call}
+use Rattle.cli_run.proofs.Common.{IsCommandAsked, call}
 use Rattle.cli_run.proofs.Ran.{input_service}
 use Rattle.cli_run.proofs.run.do_act.Goals as goal
 

@@ -1,4 +1,4 @@
-use Rattle.cli_run.specs.Ends.{call}
+use Rattle.cli_run.proofs.Common.{call}
 use Rattle.cli_run.proofs.Ran.{takes_serve}
 use Rattle.cli_run.proofs.run.do_take.Goals as goal
 

@@ -1,6 +1,5 @@
 use Rattle.std.proofs.Common.{rules, subst, ℕ, List}
-use Rattle.std.specs.Prelude.{string_bytes}
-use Rattle.cli_run.specs.Seen.{has_reason, IsSeen}
+use Rattle.cli_run.proofs.Common.{string_bytes, has_reason, IsSeen}
 use Rattle.cli_run.proofs.Looks.{all_seen, part_seen}
 use Rattle.cli_run.proofs.seen.run_read.Goals as goal
 

@@ -1,7 +1,5 @@
 use Rattle.std.proofs.Common.{None}
-use Rattle.cli_run.specs.Ends.{call}
-use Rattle.cli_run.specs.InTurn.{AreMade}
-use Rattle.cli_run.specs.Takes.{HasTakenNext}
+use Rattle.cli_run.proofs.Common.{call, AreMade, HasTakenNext}
 use Rattle.cli_run.proofs.takes.answer_takes.Given as goal
 
 -- the inputs so far were taken

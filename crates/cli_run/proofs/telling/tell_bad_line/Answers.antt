@@ -1,5 +1,4 @@
-use Rattle.std.specs.Prelude.{codes}
-use Rattle.input_reasons.specs.Reason.{numbered_head}
+use Rattle.cli_run.proofs.Common.{codes, numbered_head}
 use Rattle.cli_run.proofs.telling.tell_bad_line.Goals as goal
 
 pub returns-in-Some : goal.returns-in-Some

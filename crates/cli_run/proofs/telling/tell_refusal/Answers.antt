@@ -1,6 +1,5 @@
 use Rattle.std.proofs.Common.{rules}
-use Rattle.input_reasons.specs.Reason.{is_unread}
-use Rattle.cli_run.specs.Explained.{reason_head}
+use Rattle.cli_run.proofs.Common.{is_unread, reason_head}
 use Rattle.cli_run.specs.declared.request.Request.TheVariants as asked
 use Rattle.cli_run.proofs.Reasons.{told_if}
 use Rattle.cli_run.proofs.telling.tell_refusal.Goals as goal

@@ -1,4 +1,4 @@
-use Rattle.desk_client.specs.Request.{most_row_bytes}
+use Rattle.desk_client.proofs.Common.{most_row_bytes}
 use Rattle.desk_client.proofs.Asking.{rows_read}
 use Rattle.desk_client.proofs.Grown.{come_more}
 use Rattle.desk_client.proofs.ask.read_rows.Goals as goal

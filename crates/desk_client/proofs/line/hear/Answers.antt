@@ -1,4 +1,4 @@
-use Rattle.desk_client.specs.Request.{most_of, request_of}
+use Rattle.desk_client.proofs.Common.{most_of, request_of}
 use Rattle.desk_client.proofs.Hearing.{heard_by}
 use Rattle.desk_client.proofs.line.hear.Goals as goal
 

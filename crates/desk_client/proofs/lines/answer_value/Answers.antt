@@ -1,7 +1,4 @@
-use Rattle.serde_json.specs.View.{view}
-use Rattle.cli_run.specs.Ends.{call}
-use Rattle.desk_client.specs.Posted.{posted_request}
-use Rattle.desk_client.specs.Request.{most_of, request_of}
+use Rattle.desk_client.proofs.Common.{view, call, posted_request, most_of, request_of}
 use Rattle.desk_client.proofs.Posts.{heard_line, posted_of}
 use Rattle.desk_client.proofs.lines.answer_value.Goals as goal
 

@@ -1,6 +1,5 @@
 use Rattle.std.proofs.Common.{string_bytes}
-use Rattle.serde_json.specs.View.{view}
-use Rattle.desk_client.specs.Posted.{posted_request}
+use Rattle.desk_client.proofs.Common.{view, posted_request}
 use Rattle.desk_client.proofs.Posts.{framed}
 use Rattle.desk_client.proofs.lines.value_posted.Goals as goal
 

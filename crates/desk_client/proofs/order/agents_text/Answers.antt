@@ -1,6 +1,5 @@
 use Rattle.std.proofs.Common.{arith, refl, string_bytes}
-use Rattle.serde_json.specs.View.{view}
-use Rattle.desk_client.specs.Orders.{agents_object}
+use Rattle.desk_client.proofs.Common.{view, agents_object}
 use Rattle.desk_client.proofs.OrderTexts.{written}
 use Rattle.desk_client.proofs.order.agents_text.Goals as goal
 

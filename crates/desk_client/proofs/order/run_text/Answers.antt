@@ -1,8 +1,7 @@
 use Rattle.std.proofs.Common.{arith, ◌≡◌, refl, rules, string_bytes}
-use Rattle.serde_json.specs.View.{view}
+use Rattle.desk_client.proofs.Common.{view, run_object}
 use Rattle.serde_json.specs.declared.value.Value.{the_lemmas}
 use Rattle.serde_json.proofs.OnLiterals.{serde_json_on_literals}
-use Rattle.desk_client.specs.Orders.{run_object}
 use Rattle.desk_client.proofs.OrderTexts.{written}
 use Rattle.desk_client.proofs.order.run_text.Goals as goal
 

@@ -1,5 +1,5 @@
 use Rattle.std.proofs.Common.{arith, ◌+◌, ◌≤◌, inr, refl, Bool}
-use Rattle.cli_run.specs.Came.{most_reads}
+use Rattle.desk_client.proofs.Common.{most_reads}
 use Rattle.desk_client.specs.declared.ask.AskFault.TheVariants as fault
 use Rattle.desk_client.proofs.AsItComes.{begun, ended, read_stopped, reads, stopped, turn_ended, turns, unbegun}
 use Rattle.desk_client.proofs.printing.print_report.Goals as goal

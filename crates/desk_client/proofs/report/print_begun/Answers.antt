@@ -1,8 +1,6 @@
 use Rattle.std.proofs.Common.{ap, refl, subst, Err}
-use Rattle.desk_client.specs.Again.{talk}
-use Rattle.desk_client.specs.Printed.{HasPrintedBody}
+use Rattle.desk_client.proofs.Common.{talk, HasPrintedBody, PrintFault}
 use Rattle.desk_client.specs.declared.connect.LastTry.TheVariants as last
-use Rattle.desk_client.specs.declared.printing.PrintFault.{PrintFault}
 use Rattle.desk_client.proofs.RowsPrinted.{broken}
 use Rattle.desk_client.proofs.report.print_begun.Goals as goal
 

@@ -1,6 +1,5 @@
 use Rattle.std.proofs.Common.{subst, sym, ℕ, List}
-use Rattle.cli_run.specs.Ends.{call}
-use Rattle.desk_client.specs.Orders.{IsOrderText}
+use Rattle.desk_client.proofs.Common.{call, IsOrderText}
 use Rattle.desk_client.proofs.ListRows.{ordered}
 use Rattle.desk_client.proofs.rows.answer_order.Goals as goal
 

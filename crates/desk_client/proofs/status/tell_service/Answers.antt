@@ -1,5 +1,5 @@
 use Rattle.std.proofs.Common.{subst, ℕ, List, Option}
-use Rattle.station_core.specs.Ends.{SendsLine}
+use Rattle.desk_client.proofs.Common.{SendsLine}
 use Rattle.desk_client.specs.Status.{service_text}
 use Rattle.desk_client.proofs.status.tell_service.Goals as goal
 

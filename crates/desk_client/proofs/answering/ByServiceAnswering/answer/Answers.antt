@@ -1,8 +1,5 @@
 use Rattle.std.proofs.Common.{ℕ, List, None, subst}
-use Rattle.cli_run.specs.Ends.{call}
-use Rattle.desk_client.specs.Heard.{HasAnswered}
-use Rattle.desk_client.specs.Posted.{request_by}
-use Rattle.desk_client.specs.Request.{most_of}
+use Rattle.desk_client.proofs.Common.{call, HasAnswered, request_by, most_of}
 use Rattle.desk_client.proofs.answering.ByServiceAnswering.answer.Goals as goal
 
 pub returns-clause-answered : goal.returns-clause-answered

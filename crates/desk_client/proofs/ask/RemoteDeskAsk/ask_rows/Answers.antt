@@ -1,5 +1,4 @@
-use Rattle.desk_client.specs.Again.{talk}
-use Rattle.http_desk.specs.Paths.{rows_path}
+use Rattle.desk_client.proofs.Common.{talk, rows_path}
 use Rattle.desk_client.proofs.RowsAsked.{rows_shown, rows_unanswered, rows_unasked}
 use Rattle.desk_client.proofs.ask.RemoteDeskAsk.ask_rows.Goals as goal
 
