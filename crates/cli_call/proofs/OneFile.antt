@@ -1,5 +1,5 @@
 -- Calls of the program over one file: from one to the next, and all of them.
-use Rattle.std.proofs.Common.{◌<◌, ◌≤◌, length, ◌≡◌, ◌⊎◌, ℕ, zero, suc, ◌+◌, Bool, true, false, IsTrue, inl, inr, Option, Some, None, Result, Ok, Err, List, [], ◌∷◌, ◌++◌, take, All, refl, sym, ap, subst, ◌∙◌, arith}
+use Rattle.std.proofs.Common.{◌<◌, ◌≤◌, length, ◌≡◌, ◌⊎◌, ℕ, zero, suc, ◌+◌, Bool, true, false, IsTrue, inl, inr, ⊎_elim, Option, Some, None, Result, Ok, Err, List, [], ◌∷◌, ◌++◌, take, All, refl, sym, ap, subst, ◌∙◌, arith}
 use Rattle.std.specs.Prelude.{Contains, IfErr, OnErr, OnOk}
 use Rattle.std.specs.List.{AllByRecursion}
 use Rattle.std.proofs.Math.Logic.{∥∥₁_elim, ∥∥₁_map}
@@ -461,7 +461,9 @@ module _ {S F L I W E : Type 0} {g : Ghosts S} (b : Backing (Held S) F L) (trees
               let found = subst (λ new. HasOpened g k new c.conn (here_of c.line.station) (Err vain.none)) old opened in
               either (found.unwritten_at_err.crash clean db there)
         ]
-        | inr moves ↦ either (((moves_in c.line c.conn c.end c.did (Err vain.none) moves).0.spares (vain.refused moves)).crash clean db there)
+        | inr moves ↦
+            let has = (moves_in c.line c.conn c.end c.did (Err vain.none) moves).0 in
+            either ((⊎_elim has.spares (has.only clean) (vain.refused moves)).crash clean db there)
       ])
 
   -- any database of files that are shown whole, one of a station, or what an opening found

@@ -11,8 +11,8 @@ use Rattle.cli_run.specs.Left.{AsksAt, HasLeft}
 use Rattle.desk_server.specs.Asked.{HasServedInputs}
 use Rattle.desk_server.specs.Served.{Exchange, HaveServed}
 
--- Reopening finds the state after the inputs that a command answered and, if the store failed, perhaps one
--- more.
+-- Reopening finds the state after the inputs that a command answered and, if the store failed,
+-- perhaps one more.
 abbrev pub LeavesInputs : {K I W E : Type 0} → Keeping K → Ends I W E → Type 0
 LeavesInputs {K} {I} {W} {E} k e =
     (command : LineCommand) (here : List ℕ) (at : LocalMinute) (s : State) (old new : K × Reached I W E) (result : Result Bool RunFault)

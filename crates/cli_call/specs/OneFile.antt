@@ -104,8 +104,8 @@ module _ {S F L I W E : Type 0} {g : Ghosts S} {b : Backing (Held S) F L} {k : K
   abbrev pub makes_station : CallOn b k e → Bool
   makes_station call = is_new call.line.db call.line.command
 
-  -- The disk returned what was written. If the log couldn't be copied, the store was opened by a list
-  -- in the order of its trees.
+  -- The disk returned what was written. If the log couldn't be copied, the store was opened by a
+  -- list in the order of its trees.
   abbrev pub WasTrue : CallOn b k e → Type 0
   WasTrue call = b.was_true call.end.files × ((ran_in call.did).0 ≤ 1 → IfErr call.end.files b.numbered)
 
@@ -140,12 +140,13 @@ module _ {S F L I W E : Type 0} {g : Ghosts S} (b : Backing (Held S) F L) (trees
 module _ {S F L I W E : Type 0} {g : Ghosts S} {b : Backing (Held S) F L} {k : Keeping (Station S g)} {e : Ends I W E}
     (call : CallOn b k e) where
   -- A vain call: it found no station, or a fault stopped its opening. An `init` or an upgrade is
-  -- vain if it was refused.
+  -- vain if it was refused, an upgrade also if the tables weren't lawful ones of version 1.
   pub record IsVain : Type 0 where
     pub none : Held S × AttachFault
     pub failed : FailsIn call.did none
     pub occupied : makes_station call ≡ true → none.1 ≡ attach.Occupied
-    pub refused : UpgradesIn call.did (Err none) → none.1 ≢ attach.Store
+    pub refused : UpgradesIn call.did (Err none)
+        → (none.1 ≢ attach.Store) ⊎ ¬ ((s : State) × IsOldStateIn (state g call.conn).now s)
 
   -- an upgrade, however it ended, of a file whose tables a station of version 1 declared
   pub record IsUpgrade : Type 0 where
@@ -207,8 +208,8 @@ module _ {S F L I W E : Type 0} {g : Ghosts S} {b : Backing (Held S) F L} (trees
     pub honest : WasTrue first
     pub next : IsNext trees (λ it. IsVain it ⊎ IsUpgrade it) first.end.files run
 
-  -- The run comes after an `init` that failed, and perhaps vain calls and more such inits. The first
-  -- one may have started the database, and the calls show the files whole.
+  -- The run comes after an `init` that failed, and perhaps vain calls and more such inits. The
+  -- first one may have started the database, and the calls show the files whole.
   pub record IsAfterInit : Type 0 where
     pub airports : List (List ℕ)
     pub first : CallOn b k e

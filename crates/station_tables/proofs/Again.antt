@@ -1,19 +1,13 @@
 -- A station that is opened again and given the input that may have been interrupted.
 use Rattle.std.proofs.Common.{◌≡◌, ◌⊎◌, inl, inr, Option, Some, Result, Ok, Err, sym, ap, subst, ◌∙◌}
-use Rattle.std.specs.Prelude.{IfOk, IfErr}
-use Rattle.station_days.specs.Date.{LocalMinute}
+use Rattle.station_tables.proofs.Common.{IfOk, IfErr, LocalMinute, Input, State, answered, repeated, step, stepped, Database, IsBreakdown, IsStateIn, Refuses, AttachFault}
 use Rattle.station_core.specs.declared.answer.ActFault as act
 use Rattle.station_core.specs.declared.answer.ActFault.TheVariants as cause
 use Rattle.station_core.specs.declared.answer.Answer.{Answer}
 use Rattle.station_core.specs.declared.answer.Answer.TheVariants.{Done}
 use Rattle.station_core.specs.declared.answer.Reply.{Reply}
-use Rattle.station_core.specs.declared.input.Input.{Input}
 use Rattle.station_core.specs.Keeping.{Answers, MayLeave}
-use Rattle.station_core.specs.Step.{State, answered, repeated, step, stepped}
-use Rattle.sqlite.specs.Effect.{Database}
-use Rattle.station_tables.specs.Attached.{IsBreakdown, IsStateIn, Refuses}
 use Rattle.station_tables.specs.Repeated.{HasAnswered, HasRepeated, IsBeforeOrAfter}
-use Rattle.station_tables.specs.declared.fault.AttachFault.{AttachFault}
 use Rattle.station_tables.specs.declared.fault.AttachFault.TheVariants as fault
 
 -- a known input is answered by what was kept

@@ -1,17 +1,9 @@
 -- A station whose tables were found goes on from what they mean.
 use Rattle.std.proofs.Common.{◌≡◌, ◌∙◌, false, Some, Result, Ok, Err, refl, sym, ap, subst}
-use Rattle.std.specs.Prelude.{IfOk, IfErr}
+use Rattle.station_tables.proofs.Common.{IfOk, IfErr, Database, Reading, read_as, First, Second, State, IsLawfulState, view_of, View, IsUnchanged, Tables, Message, IsStation, tables_of, meaning_of, IsReadable, Means, FoundState, Unfit, Reads, IsStateOf, IsStateIn, IsOldStateIn, IsTypedState, IsFoundIn, IsJudged, RefusesAs, Refuses, IsBreakdown, AttachFault}
 use Rattle.std.proofs.lemmas.List.{length-map}
-use Rattle.sqlite.specs.Effect.{Database}
-use Rattle.table_load.specs.Reading.{Reading, read_as}
-use Rattle.table_load.specs.declared.station.FileVersion.TheVariants.{First, Second}
 use Rattle.sqlite.specs.State as sqlite
-use Rattle.station_core.specs.Step.{State, IsLawfulState}
-use Rattle.station_schema.specs.Connection.{view_of}
-use Rattle.station_schema.specs.Store.{View, IsUnchanged}
-use Rattle.station_schema.specs.Tables.{Tables, Message, IsStation, tables_of}
 use Rattle.row_codec.specs.Logs.{line_by}
-use Rattle.row_codec.specs.Meaning.{meaning_of, IsReadable, Means}
 use Rattle.row_codec.specs.Moves.{move_by}
 use Rattle.state_store.specs.Store.{at_rest}
 use Rattle.table_state.specs.Shown.{Knows, HasThese}
@@ -21,13 +13,8 @@ use Rattle.table_audits.proofs.Judged.{fit}
 use Rattle.table_audits.proofs.Typed.{station_held_whole}
 use Rattle.table_audits.specs.Good.{IsStationOf}
 use Rattle.table_audits.specs.Verdict.{Tells, Judges}
-use Rattle.table_audits.specs.declared.state.FoundState.{FoundState}
-use Rattle.table_audits.specs.declared.unfit.Unfit.{Unfit}
 use Rattle.table_audits.specs.declared.unfit.Unfit.TheVariants as unfit
 use Rattle.sqlite.specs.declared.error.Error.{Error}
-use Rattle.station_schema.specs.Effects.{Reads}
-use Rattle.station_tables.specs.Attached.{IsStateOf, IsStateIn, IsOldStateIn, IsTypedState, IsFoundIn, IsJudged, RefusesAs, Refuses, IsBreakdown}
-use Rattle.station_tables.specs.declared.fault.AttachFault.{AttachFault}
 use Rattle.station_tables.specs.declared.fault.AttachFault.TheVariants as fault
 
 both : (db : Reading) (t : Tables) → IsStationOf db t → IsReadable t × IsLawfulState (meaning_of t)

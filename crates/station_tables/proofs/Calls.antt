@@ -1,11 +1,8 @@
 -- Calls as events.
 use Rattle.std.proofs.Common.{◌≡◌, inl, inr, true, false, List, [], ◌∷◌, ◌++◌, Some, None, Ok, Err, refl, sym, ap, subst, ◌∙◌}
-use Rattle.std.specs.Prelude.{if◌then◌else◌}
-use Rattle.station_days.specs.Date.{LocalMinute}
+use Rattle.station_tables.proofs.Common.{if◌then◌else◌, LocalMinute, Input, State, step}
 use Rattle.station_core.specs.declared.answer.ActFault.TheVariants as fault
-use Rattle.station_core.specs.declared.input.Input.{Input}
 use Rattle.station_core.specs.Retries.{RetryEvent, sent, cut_before, cut_after, reopened, World, world_after, after_events, started, ActsOnce}
-use Rattle.station_core.specs.Step.{State, step}
 use Rattle.station_tables.specs.Calls.{Call, acted, attached, repeated, Desk, at, Does, DoAll, StandsFor, StandForAll, CallsActOnce}
 
 -- a world and a desk that agree, but for a station that is to be opened again, of which a world may know only later

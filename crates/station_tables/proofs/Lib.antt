@@ -6,3 +6,4 @@ mod Made
 mod Restarted
 mod Lives
 mod Calls
+pub mod Common

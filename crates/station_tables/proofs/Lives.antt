@@ -1,12 +1,10 @@
 -- The state after the lives of a file.
 use Rattle.std.proofs.Common.{◌≡◌, ◌↔◌, inl, inr, ℕ, ◌+◌, List, [], ◌∷◌, ◌++◌, zero, suc, take, Option, Some, None, refl, sym, ap, subst, ◌∙◌, arith}
 use Rattle.std.specs.List.{AllByRecursion}
-use Rattle.station_days.specs.Date.{LocalMinute}
+use Rattle.station_tables.proofs.Common.{LocalMinute, Input, State, IsLawfulState, step, after_all}
 use Rattle.shipment_machine.proofs.Conserved.{is_conserved}
 use Rattle.shipment_machine.proofs.Shown.{are_balances}
-use Rattle.station_core.specs.declared.input.Input.{Input}
 use Rattle.station_core.specs.Ranges.{IsInput, AreInputs}
-use Rattle.station_core.specs.Step.{State, IsLawfulState, step, after_all}
 use Rattle.station_tables.specs.Lives.{Life, IsAfterLife, AreLives, Counts, AreCounted, in_order, IsAfterLives, migration}
 
 after_append : (s : State) (xs ys : List (Input × LocalMinute)) → after_all s (xs ++ ys) ≡ after_all (after_all s xs) ys

@@ -1,29 +1,13 @@
 -- What is seen of a connection that was looked at and not changed.
 use Rattle.std.proofs.Common.{◌≡◌, ◌∙◌, ℕ, ◌≤◌, ◌⊎◌, inl, inr, Bool, true, false, Option, Result, Ok, Err, refl, sym, subst, arith}
-use Rattle.std.specs.Prelude.{IsTrue, IfOk, IfErr, not}
-use Rattle.sqlite.specs.Effect.{Database}
-use Rattle.table_load.specs.Reading.{read_as}
+use Rattle.station_tables.proofs.Common.{IsTrue, IfOk, IfErr, not, Database, read_as, Second, Trees, HasCleanDisk, Reads, State, IsLawfulState, IsOwn, view_of, View, Tables, IsStation, FoundState, Unfit, IsStateIn, IsTypedState, IsJudged, Refuses, IsBreakdown, Finds, AttachFault}
 use Rattle.table_load.specs.declared.station.FileVersion.{FileVersion}
-use Rattle.table_load.specs.declared.station.FileVersion.TheVariants.{Second}
-use Rattle.sqlite.specs.Tree.{Trees}
 use Rattle.sqlite.specs.State as sqlite
-use Rattle.sqlite.specs.State.{HasCleanDisk}
 use Rattle.sqlite.proofs.Callers.{unchanged_then}
 use Rattle.sqlite.proofs.StateLemmas.{survives_then}
 use Rattle.sqlite_trees.specs.View.{doubt}
-use Rattle.station_schema.specs.Effects.{Reads}
-use Rattle.station_core.specs.Step.{State, IsLawfulState}
-use Rattle.station_schema.specs.Own.{IsOwn}
-use Rattle.station_schema.specs.Connection.{view_of}
 use Rattle.station_schema.specs.Store as store
-use Rattle.station_schema.specs.Store.{View}
-use Rattle.station_schema.specs.Tables.{Tables, IsStation}
 use Rattle.table_state.specs.Shown as tables
-use Rattle.table_audits.specs.declared.state.FoundState.{FoundState}
-use Rattle.table_audits.specs.declared.unfit.Unfit.{Unfit}
-use Rattle.station_tables.specs.Attached.{IsStateIn, IsTypedState, IsJudged, Refuses, IsBreakdown}
-use Rattle.station_tables.specs.Found.{Finds}
-use Rattle.station_tables.specs.declared.fault.AttachFault.{AttachFault}
 use Rattle.station_tables.proofs.Attached.{breaks_down, in_state}
 use Rattle.station_tables.proofs.Made.{finds_up}
 

@@ -1,11 +1,9 @@
 -- What a reopening may find where no station was made.
 use Rattle.std.proofs.Common.{◌≡◌, ◌⊎◌, inl, inr, ⊎_elim, ℕ, List, Option, Some, None, sym, subst, ap}
 use Rattle.shipment_machine.proofs.Opening.{opening_lawful}
-use Rattle.station_core.specs.Step.{State, IsLawfulState, opening}
-use Rattle.station_schema.specs.Store.{View}
+use Rattle.station_tables.proofs.Common.{State, IsLawfulState, opening, View, Finds}
 use Rattle.station_engine.specs.Found as stored
 use Rattle.table_state.specs.Shown as tables
-use Rattle.station_tables.specs.Found.{Finds}
 
 -- the opening state is lawful
 pub opened_lawful : (here : List ℕ) → IsLawfulState (opening here)

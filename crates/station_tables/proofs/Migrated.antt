@@ -1,25 +1,11 @@
 -- A file of version 1 that was looked at, and its tables of version 2.
 use Rattle.std.proofs.Common.{◌≡◌, ◌≢◌, ◌∙◌, ◌⊎◌, inl, inr, ⊎_elim, Bool, true, false, Some, Result, Ok, Err, refl, sym, ap, subst, arith}
-use Rattle.std.specs.Prelude.{IsTrue, IfOk, IfErr, not}
-use Rattle.sqlite.specs.Effect.{Database}
-use Rattle.sqlite.specs.Tree.{Trees}
+use Rattle.station_tables.proofs.Common.{IsTrue, IfOk, IfErr, not, Database, Trees, HasCleanDisk, IsSettled, IsUndone, Stops, read_as, First, IsOwn, IsOldOwn, Tables, IsOldStation, tables_of, old_tables_of, upgraded, Means, State, FoundState, Unfit, IsOldStateIn, IsFoundIn, IsJudged, RefusesAs, IsBreakdown, AttachFault}
 use Rattle.sqlite.specs.State as sqlite
-use Rattle.sqlite.specs.State.{HasCleanDisk}
-use Rattle.station_schema.specs.Effects.{IsSettled, IsUndone, Stops}
-use Rattle.table_load.specs.Reading.{read_as}
-use Rattle.table_load.specs.declared.station.FileVersion.TheVariants.{First}
-use Rattle.station_schema.specs.Own.{IsOwn, IsOldOwn}
 use Rattle.station_schema.specs.Schema.{station_schema}
-use Rattle.station_schema.specs.Tables.{Tables, IsOldStation, tables_of, old_tables_of, upgraded}
-use Rattle.row_codec.specs.Meaning.{Means}
-use Rattle.station_core.specs.Step.{State}
 use Rattle.table_audits.proofs.Declared.{old_same_tables}
-use Rattle.table_audits.specs.declared.state.FoundState.{FoundState}
-use Rattle.table_audits.specs.declared.unfit.Unfit.{Unfit}
 use Rattle.table_load.specs.Upgrade.{IsUpgraded, MeansUpgraded}
-use Rattle.station_tables.specs.Attached.{IsOldStateIn, IsFoundIn, IsJudged, RefusesAs, IsBreakdown}
 use Rattle.station_tables.specs.Migrated.{IsMigrated, HasMigrated}
-use Rattle.station_tables.specs.declared.fault.AttachFault.{AttachFault}
 use Rattle.station_tables.specs.declared.fault.AttachFault.TheVariants as fault
 use Rattle.station_tables.proofs.Attached.{means, is_lawful, in_state, old_breaks_down}
 use Rattle.station_tables.proofs.Looked.{IsSeen, clean_before, either, survives_both, was_clean}
@@ -83,6 +69,15 @@ module _ {K C : Type 0} (at_ok : K → sqlite.State) (at_err : C → sqlite.Stat
       let l = look (clean_before d (at_err e.0) Commits survives clean) in
       old_breaks_down a.now s e.1 in_ (subst (λ db. RefusesAs First db e.1) l.0.same (why l.1))
 
+  -- nothing is written to tables that weren't lawful ones of version 1
+  pub only_old : sqlite.Survives a d (λ _. ⊥) → (r : Result K (C × AttachFault)) → (Commits : Trees → Type 0) → IfErr r (λ e. sqlite.Survives d (at_err e.0) Commits)
+      → (IsJudged (read_as First d.now) judged → ¬ ((s : State) × IsOldStateIn d.now s) → IfErr r (λ e. sqlite.Survives d (at_err e.0) (λ _. ⊥)))
+      → IfErr r (λ e. HasCleanDisk (at_err e.0) → ¬ ((s : State) × IsOldStateIn a.now s) → sqlite.Survives a (at_err e.0) (λ _. ⊥))
+  only_old first (Ok k) Commits survives only = tt
+  only_old first (Err e) Commits survives only = λ clean other.
+      let l = look (clean_before d (at_err e.0) Commits survives clean) in
+      survives_both a d (at_err e.0) first (only l.1 (λ it. other (it.0, subst (λ db. IsOldStateIn db it.0) l.0.same it.1)))
+
   -- and a crash leaves what it left, or the tables of version 2
   pub leaves_old : (L : Type 0) → sqlite.Survives a d (λ _. ⊥) → (IsOldOwn a.now.trees → IsTrue a.is_open → a.now ≡ a.committed → L → IsOldStation a.now)
       → (r : Result K (C × AttachFault)) → IfErr r (λ e. sqlite.Survives d (at_err e.0) (λ db. IsOldStation d.now → MeansUpgraded d.now.trees db))
@@ -115,6 +110,10 @@ store_says db (Err e) is = subst (RefusesAs First db) (sym is) tt
 pub not_store : {K C : Type 0} (P : C → Type 0) (r : Result K (C × AttachFault)) → IfErr r (λ e. e.1 ≡ fault.Store) → IfErr r (λ e. (e.1 ≢ fault.Store) → P e.0)
 not_store P (Ok k) is = tt
 not_store P (Err e) is = λ other. absurd (other is)
+
+-- a state was found, so there is one
+pub found_only : (A : Type 0) (db : Database) (found : FoundState) → IsFoundIn (read_as First db) found → ¬ ((s : State) × IsOldStateIn db s) → A
+found_only A db found at none = absurd (none (at.state, at.is_in))
 
 -- a connection that nothing was done to
 pub same_after : (s : sqlite.State) (Commits : Trees → Type 0) → sqlite.Survives s s Commits

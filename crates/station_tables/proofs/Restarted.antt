@@ -1,30 +1,15 @@
 -- What a station that stopped may leave, and what is found of it.
 use Rattle.std.proofs.Common.{◌≡◌, inl, inr, ℕ, Bool, false, List, Option, Some, None, Result, Ok, Err, refl}
-use Rattle.std.specs.Prelude.{IfOk, IfErr}
-use Rattle.station_days.specs.Date.{LocalMinute}
-use Rattle.sqlite.specs.Tree.{Trees}
-use Rattle.sqlite.specs.Effect.{Database}
-use Rattle.sqlite.specs.Held.{state}
+use Rattle.station_tables.proofs.Common.{IfOk, IfErr, LocalMinute, Trees, Database, state, Input, State, IsLawfulState, View, tables_of, meaning_of, IsReadable, IsOwn, read_as, Second, connection_in, IsBreakdown, IsStateIn, IsTypedState, Finds, AttachFault}
 use Rattle.sqlite_trees.specs.declared.store.Store.{Ghosts}
 use Rattle.shipment_machine.proofs.Conserved.{is_conserved}
 use Rattle.shipment_machine.proofs.Shown.{are_balances}
 use Rattle.station_core.specs.declared.answer.ActFault.{ActFault}
-use Rattle.station_core.specs.declared.input.Input.{Input}
 use Rattle.station_core.specs.Keeping.{IsAfterAnswered}
-use Rattle.station_core.specs.Step.{State, IsLawfulState}
-use Rattle.station_schema.specs.Store.{View}
-use Rattle.station_schema.specs.Tables.{tables_of}
-use Rattle.row_codec.specs.Meaning.{meaning_of, IsReadable}
-use Rattle.station_schema.specs.Own.{IsOwn}
 use Rattle.station_rows.specs.Own.{are_declared}
 use Rattle.station_rows.specs.View.{rows_view}
-use Rattle.table_load.specs.Reading.{read_as}
-use Rattle.table_load.specs.declared.station.FileVersion.TheVariants.{Second}
 use Rattle.station_tables.proofs.Attached.{is_lawful}
-use Rattle.station_tables.specs.Attached.{connection_in, IsBreakdown, IsStateIn, IsTypedState}
-use Rattle.station_tables.specs.Found.{Finds}
 use Rattle.station_tables.specs.Restarted.{IsRestored}
-use Rattle.station_tables.specs.declared.fault.AttachFault.{AttachFault}
 use Rattle.station_tables.specs.declared.fault.AttachFault.TheVariants as fault
 use Rattle.station_tables.specs.declared.station.Station.{Station}
 

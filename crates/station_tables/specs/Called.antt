@@ -141,8 +141,11 @@ pub record HasMoved {S : Type 0} (g : Ghosts S) (conn : Held S)
   pub unmoved : (connection_view g conn).in_transaction ≡ false
       → IfErr migrated (λ e. HasCleanDisk (state g e.0) → e.1 ≢ fault.Store
       → IsUndone (state g conn) (state g e.0))
-  -- something is written only if the store fails
+  -- something is written only if the store fails, and only to lawful tables of version 1
   pub spares : IfErr migrated (λ e. e.1 ≢ fault.Store
+      → Survives (state g conn) (state g e.0) (λ _. ⊥))
+  pub only : IfErr migrated (λ e. HasCleanDisk (state g e.0)
+      → ¬ ((s : State) × IsOldStateIn (state g conn).now s)
       → Survives (state g conn) (state g e.0) (λ _. ⊥))
 
 -- A call over a crash state of a station that returned its connection. The opened station keeps a

@@ -106,6 +106,9 @@ fn settle<S: Alter>(
         → MeansUpgraded (state S.Store conn).now.trees db)) }
     ensures spares { IfErr result (λ e. e.1 ≢ AttachFault.Store
         → Survives (state S.Store conn) (state S.Store e.0) (λ _. ⊥)) }
+    ensures only { IsJudged (read_as First (state S.Store conn).now) judged
+        → ¬ ((s : State) × IsOldStateIn (state S.Store conn).now s)
+        → IfErr result (λ e. Survives (state S.Store conn) (state S.Store e.0) (λ _. ⊥)) }
 {
     match judged {
         Ok(_) => upgrade(conn),
@@ -158,8 +161,12 @@ fn upgrade_over<S: Alter>(
         → IfErr result (λ e. HasCleanDisk (state S.Store e.0) → e.1 ≢ AttachFault.Store
         → IsUndone (state S.Store conn) (state S.Store e.0)) }
 
-    // Any fault except the store's changes nothing.
+    // Any fault except the store's changes nothing, and none changes tables that aren't lawful ones
+    // of version 1.
     ensures spares { IfErr result (λ e. e.1 ≢ AttachFault.Store
+        → Survives (state S.Store conn) (state S.Store e.0) (λ _. ⊥)) }
+    ensures only { IfErr result (λ e. HasCleanDisk (state S.Store e.0)
+        → ¬ ((s : State) × IsOldStateIn (state S.Store conn).now s)
         → Survives (state S.Store conn) (state S.Store e.0) (λ _. ⊥)) }
 {
     shows_old_own(&conn);

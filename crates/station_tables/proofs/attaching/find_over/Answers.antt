@@ -1,4 +1,4 @@
-use Rattle.sqlite.specs.Held.{state}
+use Rattle.station_tables.proofs.Common.{state}
 use Rattle.station_tables.proofs.Looked.{finds_after, finds_after_one, fit_on, own_fit_on, found_on, judged_there, leaves_on, own_on, refused_on, seen_on, survives_both, survives_same, typed_on, unwritten_at, unwritten_on, was_clean}
 use Rattle.station_tables.proofs.Migrated.{none_open, undone_read, unmoved_seen}
 use Rattle.station_tables.proofs.attaching.find_over.Goals as goal

@@ -1,4 +1,4 @@
-use Rattle.sqlite.specs.Held.{state}
+use Rattle.station_tables.proofs.Common.{state}
 use Rattle.station_tables.proofs.Attached.{has_these, is_lawful, knows, means, means_typed}
 use Rattle.station_tables.proofs.attaching.go_on.Goals as goal
 

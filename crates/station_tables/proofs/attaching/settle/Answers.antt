@@ -1,8 +1,5 @@
 use Rattle.std.proofs.Common.{subst}
-use Rattle.sqlite.specs.Held.{state}
-use Rattle.table_load.specs.Reading.{read_as}
-use Rattle.table_load.specs.declared.station.FileVersion.TheVariants.{Second}
-use Rattle.station_tables.specs.Attached.{IsJudged}
+use Rattle.station_tables.proofs.Common.{state, read_as, Second, IsJudged}
 use Rattle.station_tables.proofs.Attached.{kept_on, store_says_nothing}
 use Rattle.station_tables.proofs.Looked.{survives_same}
 use Rattle.station_tables.proofs.Migrated.{not_store, undone_same}

@@ -1,4 +1,4 @@
-use Rattle.station_core.specs.Step.{opening}
+use Rattle.station_tables.proofs.Common.{opening}
 use Rattle.station_tables.proofs.Lives.{after_lives}
 use Rattle.station_tables.proofs.laws.lives_law.Goals as goal
 

@@ -1,6 +1,5 @@
 use Rattle.std.proofs.Common.{subst}
-use Rattle.table_load.specs.Reading.{read_as}
-use Rattle.table_load.specs.declared.station.FileVersion.TheVariants.{First}
+use Rattle.station_tables.proofs.Common.{read_as, First}
 use Rattle.table_audits.specs.Verdict.{IsUnfit}
 use Rattle.station_tables.proofs.migrating.old_fault.Goals as goal
 

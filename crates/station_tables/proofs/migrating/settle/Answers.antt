@@ -1,10 +1,7 @@
 use Rattle.std.proofs.Common.{subst}
-use Rattle.sqlite.specs.Held.{state}
-use Rattle.table_load.specs.Reading.{read_as}
-use Rattle.table_load.specs.declared.station.FileVersion.TheVariants.{First}
-use Rattle.station_tables.specs.Attached.{IsJudged}
+use Rattle.station_tables.proofs.Common.{state, read_as, First, IsJudged}
 use Rattle.station_tables.proofs.Looked.{survives_same}
-use Rattle.station_tables.proofs.Migrated.{found_was, store_says, not_store, same_after, undone_same}
+use Rattle.station_tables.proofs.Migrated.{found_only, found_was, store_says, not_store, same_after, undone_same}
 use Rattle.station_tables.proofs.migrating.settle.Goals as goal
 
 pub returns-in-Ok-clause-was : goal.returns-in-Ok-clause-was
@@ -33,3 +30,9 @@ returns-in-Err-clause-undone g c = λ clean was rest. undone_same _ rest
 
 pub returns-in-Err-clause-unmoved : goal.returns-in-Err-clause-unmoved
 returns-in-Err-clause-unmoved g c = λ other rest. undone_same _ rest
+
+pub returns-in-Ok-clause-only : goal.returns-in-Ok-clause-only
+returns-in-Ok-clause-only g c = λ at none. found_only _ _ _ (subst (IsJudged (read_as First (state g.S.Store c.args.conn).now)) c.in-Ok.is at) none
+
+pub returns-in-Err-clause-only : goal.returns-in-Err-clause-only
+returns-in-Err-clause-only g c = λ at none. survives_same _

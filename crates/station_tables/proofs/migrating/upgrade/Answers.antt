@@ -1,4 +1,4 @@
-use Rattle.sqlite.specs.Held.{state}
+use Rattle.station_tables.proofs.Common.{state}
 use Rattle.station_tables.proofs.Migrated.{has_migrated}
 use Rattle.station_tables.proofs.migrating.upgrade.Goals as goal
 

@@ -1,7 +1,7 @@
 use Rattle.std.proofs.Common.{inl}
-use Rattle.sqlite.specs.Held.{state}
+use Rattle.station_tables.proofs.Common.{state}
 use Rattle.station_tables.proofs.Looked.{judged_there, survives_both, was_clean}
-use Rattle.station_tables.proofs.Migrated.{clean_on, fit_old, leaves_old, left_of, moved_on, none_open, refused_old, spares_old, undone_dead, undone_on, undone_read, unmoved_on, was_on}
+use Rattle.station_tables.proofs.Migrated.{clean_on, fit_old, leaves_old, left_of, moved_on, none_open, only_old, refused_old, spares_old, undone_dead, undone_on, undone_read, unmoved_on, was_on}
 use Rattle.station_tables.proofs.migrating.upgrade_over.Goals as goal
 
 pub returns-then-not-is_autocommit-clause-leaves : goal.returns-then-not-is_autocommit-clause-leaves
@@ -80,3 +80,14 @@ returns-in-Err-clause-unmoved g c = λ outside clean other.
     let live = c.is_live.ensures.same c.if-not-is_live.false (was_clean _ _ c.in-Err.ensures.survives clean) in
     undone_read (state g.S.Store c.args.conn) (c.is_autocommit.ensures.settled c.if-not-is_autocommit.false) outside _ _ live
     (c.in-Err.ensures.read clean live.0.is_open)
+
+pub returns-then-not-is_live-clause-only : goal.returns-then-not-is_live-clause-only
+returns-then-not-is_live-clause-only g c = λ clean other. c.is_live.ensures.survives
+
+pub returns-in-Ok-clause-only : goal.returns-in-Ok-clause-only
+returns-in-Ok-clause-only g c = only_old (state g.S.Store) (state g.S.Store) _ _ _
+    (judged_there _ _ _ _ c.is_autocommit.ensures.value c.is_autocommit.ensures.settled c.if-not-is_autocommit.false (c.is_live.ensures.same c.if-not-is_live.false) c.in-Ok.ensures.survives _ _ c.in-Ok.ensures.read)
+    (survives_both _ _ _ c.is_live.ensures.survives c.in-Ok.ensures.survives) _ _ c.settle.ensures.survives c.settle.ensures.only
+
+pub returns-in-Err-clause-only : goal.returns-in-Err-clause-only
+returns-in-Err-clause-only g c = λ clean other. survives_both _ _ _ c.is_live.ensures.survives c.in-Err.ensures.survives

@@ -1,4 +1,4 @@
-use Rattle.station_core.specs.Step.{opening}
+use Rattle.station_tables.proofs.Common.{opening}
 use Rattle.station_tables.proofs.Made.{made_or_before, opened_lawful}
 use Rattle.station_tables.proofs.opening.make_over.Goals as goal
 

@@ -1,11 +1,5 @@
 use Rattle.std.proofs.Common.{inl}
-use Rattle.sqlite.specs.Held.{state}
-use Rattle.sqlite.specs.State.{HasCleanDisk, Survives}
-use Rattle.station_schema.specs.Effects.{IsUndone}
-use Rattle.station_schema.specs.Own.{IsOwn, LiesInOrder}
-use Rattle.station_schema.specs.Connection.{connection_view}
-use Rattle.station_tables.specs.Attached.{connection_in}
-use Rattle.station_tables.specs.Found.{Finds}
+use Rattle.station_tables.proofs.Common.{state, HasCleanDisk, Survives, IsUndone, IsOwn, LiesInOrder, connection_view, connection_in, Finds}
 use Rattle.station_tables.proofs.Again.{left_on, memory_on, named_other, never_named, never_named_clean, refuses_on, repeated_on, sound_on, spared_on, untouched_on}
 use Rattle.station_tables.specs.contracts.station.StationKeeper.TheImpl.{ghosts}
 use Rattle.station_tables.proofs.repeating.attach_and_repeat.Goals as goal

@@ -1,0 +1,22 @@
+-- The names that proofs of this crate cite, passed on from one place. Declares nothing.
+pub use Rattle.row_codec.specs.Meaning.{IsReadable, Means, meaning_of}
+pub use Rattle.sqlite.specs.Effect.{Database}
+pub use Rattle.sqlite.specs.Held.{state}
+pub use Rattle.sqlite.specs.State.{HasCleanDisk, Survives}
+pub use Rattle.sqlite.specs.Tree.{Trees}
+pub use Rattle.station_core.specs.Step.{IsLawfulState, State, after_all, answered, opening, repeated, step, stepped}
+pub use Rattle.station_core.specs.declared.input.Input.{Input}
+pub use Rattle.station_days.specs.Date.{LocalMinute}
+pub use Rattle.station_schema.specs.Connection.{connection_view, view_of}
+pub use Rattle.station_schema.specs.Effects.{IsSettled, IsUndone, Reads, Stops}
+pub use Rattle.station_schema.specs.Own.{IsOldOwn, IsOwn, LiesInOrder}
+pub use Rattle.station_schema.specs.Store.{IsUnchanged, View}
+pub use Rattle.station_schema.specs.Tables.{IsOldStation, IsStation, Message, Tables, old_tables_of, tables_of, upgraded}
+pub use Rattle.station_tables.specs.Attached.{IsBreakdown, IsFoundIn, IsJudged, IsOldStateIn, IsStateIn, IsStateOf, IsTypedState, Refuses, RefusesAs, connection_in}
+pub use Rattle.station_tables.specs.Found.{Finds}
+pub use Rattle.station_tables.specs.declared.fault.AttachFault.{AttachFault}
+pub use Rattle.std.specs.Prelude.{IfErr, IfOk, IsTrue, if◌then◌else◌, not}
+pub use Rattle.table_audits.specs.declared.state.FoundState.{FoundState}
+pub use Rattle.table_audits.specs.declared.unfit.Unfit.{Unfit}
+pub use Rattle.table_load.specs.Reading.{Reading, read_as}
+pub use Rattle.table_load.specs.declared.station.FileVersion.TheVariants.{First, Second}
