@@ -126,15 +126,14 @@ pub fn run_over<R: InputReader + Drop>(rt: &HostRuntime, line: &Line<'_>, task: 
     } else {
         open_file(rt, path, is_migration(line))
     };
-    match opened {
-        Ok(FileConnection::Whole(conn)) => { end_file(rt, path, run_in_file(rt, line, conn, task)) }
-        Ok(FileConnection::Beside(conn)) => {
-            end_file(rt, path, run_in_file(rt, line, conn, task))
-        }
+    let ended = match opened {
+        Ok(FileConnection::Whole(conn)) => run_in_file(rt, line, conn, task),
+        Ok(FileConnection::Beside(conn)) => run_in_file(rt, line, conn, task),
         Err(fault) => {
             let status = end_call(rt, Err(fault.ended()));
             tell_unopened(rt, path, fault);
-            status
+            return status;
         }
-    }
+    };
+    end_file(rt, path, ended)
 }
