@@ -1,5 +1,6 @@
 -- Sums of each waybill at each place, and what moves make of them.
-use Rattle.std.specs.Prelude.{ℕ, pos, ◌+ℤ◌, neg_ℤ, ◌==◌, Bool, true, false, ◌&&◌, if◌then◌else◌}
+use Rattle.std.specs.Prelude.{ℕ, pos, ◌+ℤ◌, neg_ℤ, ◌==◌, Bool, true, false, ◌&&◌, if◌then◌else◌, FitsSigned}
+use Rattle.std.specs.Int.{w64}
 use Rattle.shipment_machine.specs.Book.{same_place}
 use Rattle.shipment_machine.specs.declared.moves.Move.{Move}
 use Rattle.shipment_machine.specs.declared.moves.Place.{Place}
@@ -11,6 +12,14 @@ use Rattle.row_codec.specs.declared.tally.Tally.{Tally}
 abbrev pub plus : Tally → Tally → Tally
 plus a b = record { pieces = a.pieces +ℤ b.pieces; tenths = a.tenths +ℤ b.tenths }
 
+-- an amount with the other sign
+abbrev pub negated : Tally → Tally
+negated t = record { pieces = neg_ℤ t.pieces; tenths = neg_ℤ t.tenths }
+
+-- an amount whose numbers fit into 64 bits
+abbrev pub IsTally : Tally → Type 0
+IsTally t = FitsSigned w64 t.pieces × FitsSigned w64 t.tenths
+
 -- an amount more of a waybill at a place
 abbrev pub posting : ℕ → Place → Tally → Sums → Sums
 posting awb place by sums w p = if (awb == w) && same_place p place then plus (sums w p) by else sums w p
@@ -20,7 +29,7 @@ abbrev pub come : Move → Tally
 come m = record { pieces = pos m.pieces; tenths = pos m.tenths }
 
 abbrev pub gone : Move → Tally
-gone m = record { pieces = neg_ℤ (pos m.pieces); tenths = neg_ℤ (pos m.tenths) }
+gone m = negated (come m)
 
 -- whether a place is on a flight
 abbrev pub is_built : Place → Bool

@@ -1,7 +1,8 @@
-ghost use Rattle.std.specs.Prelude.{◌≡◌, ℤ, pos, neg_ℤ, ◌-ℤ◌, option_map, IfOk, IfSome};
+ghost use Rattle.std.specs.Option.{SomeIff};
+ghost use Rattle.std.specs.Prelude.{◌≡◌, ℤ, pos, ◌-ℤ◌, option_map, IfOk};
 ghost use Rattle.station_rows.specs.Meant.{build_meant, count_meant};
 ghost use Rattle.row_codec.specs.Counts.{is_nothing, running_in, running_on, unless_nothing};
-ghost use Rattle.row_codec.specs.Sums.{plus};
+ghost use Rattle.row_codec.specs.Sums.{negated, plus, IsTally};
 ghost use Rattle.row_codec.specs.Stored.{come_to, pieces_found};
 
 use shipment_machine::Amount;
@@ -74,7 +75,7 @@ impl Tally {
 
     /// Returns the sum of two tallies, or `None` if it doesn't fit into 64 bits.
     pub fn plus(self, other: Tally) -> Option<Tally>
-        ensures { IfSome result (λ sum. sum ≡ plus self other) }
+        ensures { SomeIff result (IsTally (plus self other)) (plus self other) }
     {
         Some(Tally {
             pieces: self.pieces.checked_add(other.pieces)?,
@@ -84,8 +85,7 @@ impl Tally {
 
     /// Returns the negated tally, or `None` if it doesn't fit into 64 bits.
     pub fn negated(self) -> Option<Tally>
-        ensures { IfSome result (λ back. back ≡ record
-            { pieces = neg_ℤ self.pieces; tenths = neg_ℤ self.tenths }) }
+        ensures { SomeIff result (IsTally (negated self)) (negated self) }
     {
         Some(Tally {
             pieces: self.pieces.checked_neg()?,
