@@ -16,7 +16,7 @@ pub use Rattle.row_codec.specs.Numbers.{AreNumbered, is_count, is_day, is_number
 pub use Rattle.row_codec.specs.Replies.{AreRequests, is_kept_row, is_kept_text_row}
 pub use Rattle.row_codec.specs.Stock.{are_apart, holder_by, holders_in, is_behind, is_stock_row, stands_for, unnamed_holder}
 pub use Rattle.row_codec.specs.Stored.{come_to}
-pub use Rattle.row_codec.specs.Sums.{come, gone, is_built, plus, posting}
+pub use Rattle.row_codec.specs.Sums.{come, gone, is_built, negated, plus, posting}
 pub use Rattle.row_codec.specs.Waybills.{declared_by, declared_in, is_waybill_row}
 pub use Rattle.shipment_machine.proofs.FlightKeys.{same-is, same-refl}
 pub use Rattle.shipment_machine.specs.Book.{built, drawn, moved_in, moved_out, pieces_of, same_place, taken_and_found, tenths_of, waybills_on}

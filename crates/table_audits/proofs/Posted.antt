@@ -1,6 +1,6 @@
 -- What an amount that is posted makes of the sums.
-use Rattle.std.proofs.Common.{◌≡◌, ◌≢◌, ℕ, ℤ, pos, negsuc, neg_ℤ, ◌==◌, Bool, true, false, cond, ◌&&◌, List, [], ◌∷◌, ◌++◌, Option, Some, None, option_map, refl, sym, ap, ap₂, subst, ◌∙◌, arith, int_eq, int_cmp, nat_cmp, slice_get}
-use Rattle.table_audits.proofs.Common.{nat_tests, eq_by_cmp, eq_by_cmp_equiv, same_place, same_flight_date, FlightDate, Move, Place, Built, same-is, same-refl, pair_eq, int_tied, first_true, second_true, Count, CountKey, count_cmp, Build, Tally, running, unless_nothing, running_in, running_on, count_row, build_row, place_code, plain_place, Sums, plus, posting, come, gone, is_built, count_in, count_here, same_bool, is_false, and_no, some_is, none_is, int_pos, is_nat, counts_total, CountPlace, BuildPlace, BookSums, Posting, come_to, count_place_cmp, build_place_cmp, count_told, build_told, build_due, AreDistinct, AreSums, IsPosting}
+use Rattle.std.proofs.Common.{◌≡◌, ◌≢◌, ℕ, ℤ, pos, negsuc, ◌==◌, Bool, true, false, cond, ◌&&◌, List, [], ◌∷◌, ◌++◌, Option, Some, None, option_map, refl, sym, ap, ap₂, subst, ◌∙◌, arith, int_eq, int_cmp, nat_cmp, slice_get}
+use Rattle.table_audits.proofs.Common.{nat_tests, eq_by_cmp, eq_by_cmp_equiv, same_place, same_flight_date, FlightDate, Move, Place, Built, same-is, same-refl, pair_eq, int_tied, first_true, second_true, Count, CountKey, count_cmp, Build, Tally, running, unless_nothing, running_in, running_on, count_row, build_row, place_code, plain_place, Sums, plus, posting, come, gone, negated, is_built, count_in, count_here, same_bool, is_false, and_no, some_is, none_is, int_pos, is_nat, counts_total, CountPlace, BuildPlace, BookSums, Posting, come_to, count_place_cmp, build_place_cmp, count_told, build_told, build_due, AreDistinct, AreSums, IsPosting}
 use Rattle.std.specs.BTreeMap.{get}
 use Rattle.row_codec.proofs.Storing.{comes_to_sum}
 use Rattle.row_codec.proofs.Codes as codes
@@ -167,12 +167,12 @@ posted_build flights old new s key by distinct are told same a f awb_is flight_i
 -- ---- a move
 
 pub moved : (flights : List FlightDate) (book : List Move) (m : Move) (p : Posting) (back : Tally) (new : BookSums) → IsPosting flights p m
-    → back ≡ record { pieces = neg_ℤ p.amount.pieces; tenths = neg_ℤ p.amount.tenths }
+    → back ≡ negated p.amount
     → AreSums flights new (posting m.awb m.to p.amount (posting m.awb m.from back (running book)))
     → AreSums flights new (running (book ++ m ∷ []))
 moved flights book m p back new is back_is are =
     let came : p.amount ≡ come m = λ i. record { pieces = is.pieces_is i; tenths = is.tenths_is i } in
-    let went : back ≡ gone m = back_is ∙ (λ i. record { pieces = neg_ℤ (is.pieces_is i); tenths = neg_ℤ (is.tenths_is i) }) in
+    let went : back ≡ gone m = back_is ∙ ap negated came in
     subst (AreSums flights new)
     (ap (λ r. posting m.awb m.to r (posting m.awb m.from back (running book))) came
     ∙ ap (λ r. posting m.awb m.to (come m) (posting m.awb m.from r (running book))) went
