@@ -1,12 +1,10 @@
 -- A station that is opened again and given the input that may have been interrupted.
-use Rattle.std.proofs.Common.{◌≡◌, ◌⊎◌, inl, inr, Option, Some, Result, Ok, Err, sym, ap, subst, ◌∙◌}
-use Rattle.station_tables.proofs.Common.{IfOk, IfErr, LocalMinute, Input, State, answered, repeated, step, stepped, Database, IsBreakdown, IsStateIn, Refuses, AttachFault}
+use Rattle.station_tables.proofs.Common.{Answers, AttachFault, Database, Err, IfErr, IfOk, Input, IsBreakdown, IsStateIn, LocalMinute, MayLeave, Ok, Option, Refuses, Result, Some, State, answered, ap, inl, inr, repeated, step, stepped, subst, sym, ◌∙◌, ◌≡◌, ◌⊎◌}
 use Rattle.station_core.specs.declared.answer.ActFault as act
 use Rattle.station_core.specs.declared.answer.ActFault.TheVariants as cause
 use Rattle.station_core.specs.declared.answer.Answer.{Answer}
 use Rattle.station_core.specs.declared.answer.Answer.TheVariants.{Done}
 use Rattle.station_core.specs.declared.answer.Reply.{Reply}
-use Rattle.station_core.specs.Keeping.{Answers, MayLeave}
 use Rattle.station_tables.specs.Repeated.{HasAnswered, HasRepeated, IsBeforeOrAfter}
 use Rattle.station_tables.specs.declared.fault.AttachFault.TheVariants as fault
 

@@ -1,6 +1,5 @@
 -- A station whose tables were found goes on from what they mean.
-use Rattle.std.proofs.Common.{◌≡◌, ◌∙◌, false, Some, Result, Ok, Err, refl, sym, ap, subst}
-use Rattle.station_tables.proofs.Common.{IfOk, IfErr, Database, Reading, read_as, First, Second, State, IsLawfulState, view_of, View, IsUnchanged, Tables, Message, IsStation, tables_of, meaning_of, IsReadable, Means, FoundState, Unfit, Reads, IsStateOf, IsStateIn, IsOldStateIn, IsTypedState, IsFoundIn, IsJudged, RefusesAs, Refuses, IsBreakdown, AttachFault}
+use Rattle.station_tables.proofs.Common.{AttachFault, Database, Err, First, FoundState, IfErr, IfOk, IsBreakdown, IsFoundIn, IsJudged, IsLawfulState, IsOldStateIn, IsReadable, IsStateIn, IsStateOf, IsStation, IsTypedState, IsUnchanged, Judges, Means, Message, Ok, Reading, Reads, Refuses, RefusesAs, Result, Second, Some, State, Tables, Tells, Unfit, View, ap, each_lawful, false, meaning_of, read_as, refl, same_tables, subst, sym, tables_of, view_of, ◌∙◌, ◌≡◌}
 use Rattle.std.proofs.lemmas.List.{length-map}
 use Rattle.sqlite.specs.State as sqlite
 use Rattle.row_codec.specs.Logs.{line_by}
@@ -8,11 +7,9 @@ use Rattle.row_codec.specs.Moves.{move_by}
 use Rattle.state_store.specs.Store.{at_rest}
 use Rattle.table_state.specs.Shown.{Knows, HasThese}
 use Rattle.table_audits.proofs.LawfulTables.{lawful_each}
-use Rattle.table_audits.proofs.Declared.{each_lawful, same_tables}
 use Rattle.table_audits.proofs.Judged.{fit}
 use Rattle.table_audits.proofs.Typed.{station_held_whole}
 use Rattle.table_audits.specs.Good.{IsStationOf}
-use Rattle.table_audits.specs.Verdict.{Tells, Judges}
 use Rattle.table_audits.specs.declared.unfit.Unfit.TheVariants as unfit
 use Rattle.sqlite.specs.declared.error.Error.{Error}
 use Rattle.station_tables.specs.declared.fault.AttachFault.TheVariants as fault

@@ -1,6 +1,5 @@
 -- Calls as events.
-use Rattle.std.proofs.Common.{◌≡◌, inl, inr, true, false, List, [], ◌∷◌, ◌++◌, Some, None, Ok, Err, refl, sym, ap, subst, ◌∙◌}
-use Rattle.station_tables.proofs.Common.{if◌then◌else◌, LocalMinute, Input, State, step}
+use Rattle.station_tables.proofs.Common.{Err, Input, List, LocalMinute, None, Ok, Some, State, [], ap, false, if◌then◌else◌, inl, inr, refl, step, subst, sym, true, ◌++◌, ◌∙◌, ◌∷◌, ◌≡◌}
 use Rattle.station_core.specs.declared.answer.ActFault.TheVariants as fault
 use Rattle.station_core.specs.Retries.{RetryEvent, sent, cut_before, cut_after, reopened, World, world_after, after_events, started, ActsOnce}
 use Rattle.station_tables.specs.Calls.{Call, acted, attached, repeated, Desk, at, Does, DoAll, StandsFor, StandForAll, CallsActOnce}

@@ -1,9 +1,6 @@
 -- The state after the lives of a file.
-use Rattle.std.proofs.Common.{◌≡◌, ◌↔◌, inl, inr, ℕ, ◌+◌, List, [], ◌∷◌, ◌++◌, zero, suc, take, Option, Some, None, refl, sym, ap, subst, ◌∙◌, arith}
+use Rattle.station_tables.proofs.Common.{Input, IsLawfulState, List, LocalMinute, None, Option, Some, State, [], after_all, ap, are_balances, arith, inl, inr, is_conserved, refl, step, subst, suc, sym, take, zero, ℕ, ◌++◌, ◌+◌, ◌↔◌, ◌∙◌, ◌∷◌, ◌≡◌}
 use Rattle.std.specs.List.{AllByRecursion}
-use Rattle.station_tables.proofs.Common.{LocalMinute, Input, State, IsLawfulState, step, after_all}
-use Rattle.shipment_machine.proofs.Conserved.{is_conserved}
-use Rattle.shipment_machine.proofs.Shown.{are_balances}
 use Rattle.station_core.specs.Ranges.{IsInput, AreInputs}
 use Rattle.station_tables.specs.Lives.{Life, IsAfterLife, AreLives, Counts, AreCounted, in_order, IsAfterLives, migration}
 

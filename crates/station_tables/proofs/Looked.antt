@@ -1,6 +1,5 @@
 -- What is seen of a connection that was looked at and not changed.
-use Rattle.std.proofs.Common.{◌≡◌, ◌∙◌, ℕ, ◌≤◌, ◌⊎◌, inl, inr, Bool, true, false, Option, Result, Ok, Err, refl, sym, subst, arith}
-use Rattle.station_tables.proofs.Common.{IsTrue, IfOk, IfErr, not, Database, read_as, Second, Trees, HasCleanDisk, Reads, State, IsLawfulState, IsOwn, view_of, View, Tables, IsStation, FoundState, Unfit, IsStateIn, IsTypedState, IsJudged, Refuses, IsBreakdown, Finds, AttachFault}
+use Rattle.station_tables.proofs.Common.{AttachFault, Bool, Database, Err, Finds, FoundState, HasCleanDisk, IfErr, IfOk, IsBreakdown, IsJudged, IsLawfulState, IsOwn, IsStateIn, IsStation, IsTrue, IsTypedState, Ok, Option, Reads, Refuses, Result, Second, State, Tables, Trees, Unfit, View, arith, false, inl, inr, not, read_as, refl, subst, sym, true, view_of, ℕ, ◌∙◌, ◌≡◌, ◌≤◌, ◌⊎◌}
 use Rattle.table_load.specs.declared.station.FileVersion.{FileVersion}
 use Rattle.sqlite.specs.State as sqlite
 use Rattle.sqlite.proofs.Callers.{unchanged_then}

@@ -1,7 +1,6 @@
 -- What a reopening may find where no station was made.
-use Rattle.std.proofs.Common.{◌≡◌, ◌⊎◌, inl, inr, ⊎_elim, ℕ, List, Option, Some, None, sym, subst, ap}
+use Rattle.station_tables.proofs.Common.{Finds, IsLawfulState, List, None, Option, Some, State, View, ap, inl, inr, opening, subst, sym, ℕ, ⊎_elim, ◌≡◌, ◌⊎◌}
 use Rattle.shipment_machine.proofs.Opening.{opening_lawful}
-use Rattle.station_tables.proofs.Common.{State, IsLawfulState, opening, View, Finds}
 use Rattle.station_engine.specs.Found as stored
 use Rattle.table_state.specs.Shown as tables
 

@@ -1,9 +1,7 @@
 -- A file of version 1 that was looked at, and its tables of version 2.
-use Rattle.std.proofs.Common.{◌≡◌, ◌≢◌, ◌∙◌, ◌⊎◌, inl, inr, ⊎_elim, Bool, true, false, Some, Result, Ok, Err, refl, sym, ap, subst, arith}
-use Rattle.station_tables.proofs.Common.{IsTrue, IfOk, IfErr, not, Database, Trees, HasCleanDisk, IsSettled, IsUndone, Stops, read_as, First, IsOwn, IsOldOwn, Tables, IsOldStation, tables_of, old_tables_of, upgraded, Means, State, FoundState, Unfit, IsOldStateIn, IsFoundIn, IsJudged, RefusesAs, IsBreakdown, AttachFault}
+use Rattle.station_tables.proofs.Common.{AttachFault, Bool, Database, Err, First, FoundState, HasCleanDisk, IfErr, IfOk, IsBreakdown, IsFoundIn, IsJudged, IsOldOwn, IsOldStateIn, IsOldStation, IsOwn, IsSettled, IsTrue, IsUndone, Means, Ok, RefusesAs, Result, Some, State, Stops, Tables, Trees, Unfit, ap, arith, false, inl, inr, not, old_same_tables, old_tables_of, read_as, refl, subst, sym, tables_of, true, upgraded, ⊎_elim, ◌∙◌, ◌≡◌, ◌≢◌, ◌⊎◌}
 use Rattle.sqlite.specs.State as sqlite
 use Rattle.station_schema.specs.Schema.{station_schema}
-use Rattle.table_audits.proofs.Declared.{old_same_tables}
 use Rattle.table_load.specs.Upgrade.{IsUpgraded, MeansUpgraded}
 use Rattle.station_tables.specs.Migrated.{IsMigrated, HasMigrated}
 use Rattle.station_tables.specs.declared.fault.AttachFault.TheVariants as fault

@@ -1,13 +1,7 @@
 -- What a station that stopped may leave, and what is found of it.
-use Rattle.std.proofs.Common.{◌≡◌, inl, inr, ℕ, Bool, false, List, Option, Some, None, Result, Ok, Err, refl}
-use Rattle.station_tables.proofs.Common.{IfOk, IfErr, LocalMinute, Trees, Database, state, Input, State, IsLawfulState, View, tables_of, meaning_of, IsReadable, IsOwn, read_as, Second, connection_in, IsBreakdown, IsStateIn, IsTypedState, Finds, AttachFault}
+use Rattle.station_tables.proofs.Common.{AttachFault, Bool, Database, Err, Finds, IfErr, IfOk, Input, IsAfterAnswered, IsBreakdown, IsLawfulState, IsOwn, IsReadable, IsStateIn, IsTypedState, List, LocalMinute, None, Ok, Option, Result, Second, Some, State, Trees, View, are_balances, are_declared, connection_in, false, inl, inr, is_conserved, meaning_of, read_as, refl, rows_view, state, tables_of, ℕ, ◌≡◌}
 use Rattle.sqlite_trees.specs.declared.store.Store.{Ghosts}
-use Rattle.shipment_machine.proofs.Conserved.{is_conserved}
-use Rattle.shipment_machine.proofs.Shown.{are_balances}
 use Rattle.station_core.specs.declared.answer.ActFault.{ActFault}
-use Rattle.station_core.specs.Keeping.{IsAfterAnswered}
-use Rattle.station_rows.specs.Own.{are_declared}
-use Rattle.station_rows.specs.View.{rows_view}
 use Rattle.station_tables.proofs.Attached.{is_lawful}
 use Rattle.station_tables.specs.Restarted.{IsRestored}
 use Rattle.station_tables.specs.declared.fault.AttachFault.TheVariants as fault

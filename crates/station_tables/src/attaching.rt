@@ -1,4 +1,4 @@
-ghost use Rattle.std.specs.Prelude.{◌≡◌, ◌≢◌, true, false, Option, Some, Err, IsTrue, IfOk, IfErr};
+ghost use Rattle.std.specs.Prelude.{◌≡◌, ◌≢◌, true, false, Some, Err, IsTrue, IfOk, IfErr};
 ghost use Rattle.sqlite.specs.State.{HasCleanDisk, IsUnchanged, Survives};
 ghost use Rattle.station_schema.specs.Effects.{IsSettled, IsUndone, Reads};
 ghost use Rattle.sqlite.specs.Held.{state};
@@ -18,7 +18,6 @@ ghost use Rattle.station_rows.specs.Own.{are_declared};
 ghost use Rattle.table_audits.specs.Verdict.{IsUnfit, Tells};
 ghost use Rattle.station_tables.specs.Attached.{connection_in, IsBreakdown, IsJudged, IsStateIn, IsTypedState, Refuses};
 ghost use Rattle.station_tables.specs.Called.{HasFound};
-ghost use Rattle.station_tables.specs.Found.{Finds};
 
 use crate::fault::AttachFault;
 use crate::station::Station;
@@ -188,65 +187,13 @@ fn settle<S: Alter>(
     }
 }
 
-/// Returns the station over the tables of a store, with its contract clause by clause.
-fn find_over<S: Alter>(
+/// Opens the station in a store. Each table is read in full by one statement, and the tables are
+/// audited in the order of `TableName`. Nothing is written.
+pub fn attach<S: Alter>(
     alloc: Global,
     mut conn: Connection<S>,
 ) -> Result<Station<S>, (Connection<S>, AttachFault)>
-    ensures inside { (connection_view S.Store conn).in_transaction ≡ true
-        → result ≡ Err (conn, AttachFault.Store) }
-    ensures works { IfOk result
-        (λ station. ⟦<Station<S> as Keeper>⟧.keeping.is_broken station ≡ false) }
-    ensures sound { IfOk result (λ station. ⟦<Station<S> as Keeper>⟧.keeping.is_sound station
-        → (connection_view S.Store conn).IsSound) }
-
-    // The tables are a station's and lawful, and the station keeps their state.
-    ensures found { IfOk result (λ station. HasCleanDisk (state S.Store (connection_in station))
-        → (s : State) × IsStateIn (state S.Store conn).now s
-        × ⟦<Station<S> as Keeper>⟧.keeping.keeps station s) }
-    ensures own { IfOk result (λ station. HasCleanDisk (state S.Store (connection_in station))
-        → IsOwn (state S.Store conn).now.trees
-        → are_declared station.stored.store.store ≡ true) }
-
-    ensures typed { IfOk result (λ station. ⟦<Station<S> as Keeper>⟧.keeping.is_sound station
-        → (s : State) → IsStateIn (state S.Store conn).now s → IsTypedState (state S.Store conn).now
-        s) }
-
-    // A fault is true of the tables. If they are a station's and lawful, the store failed or memory
-    // ran out.
-    ensures refused { IfErr result (λ e. HasCleanDisk (state S.Store e.0)
-        → Refuses (state S.Store conn).now e.1) }
-    ensures fit { IfErr result (λ e. HasCleanDisk (state S.Store e.0) → (s : State)
-        → IsStateIn (state S.Store conn).now s → IsBreakdown e.1) }
-
-    // Opening never returns `Occupied`.
-    ensures never { IfErr result (λ e. e.1 ≢ AttachFault.Occupied) }
-
-    // The same if a station wrote the tables and they mean a lawful state.
-    ensures own_fit { IfErr result (λ e. HasCleanDisk (state S.Store e.0)
-        → IsOwn (state S.Store conn).now.trees → LiesInOrder S.Store
-        → (s : State) → IsTypedState (state S.Store conn).now s → IsLawfulState s
-        → IsBreakdown e.1) }
-
-    // The crash states are those from before.
-    ensures leaves { IfErr result (λ e. (connection_view S.Store e.0).IsSound
-        → (found : Option State)
-        → Finds (connection_view S.Store e.0) found → Finds (connection_view S.Store conn) found) }
-
-    // Nothing is written in any case. At Ok the connection shows what it showed.
-    ensures unwritten { IfOk result
-        (λ station. Survives (state S.Store conn) (state S.Store (connection_in station))
-        (λ _. ⊥)) }
-    ensures seen { IfOk result (λ station. HasCleanDisk (state S.Store (connection_in station))
-        → IsUnchanged (state S.Store conn) (state S.Store (connection_in station))) }
-    ensures unwritten_at_err { IfErr result
-        (λ e. Survives (state S.Store conn) (state S.Store e.0) (λ _. ⊥)) }
-
-    // After any fault except the store's, no transaction is open, and an open connection shows what
-    // it showed.
-    ensures unmoved { (connection_view S.Store conn).in_transaction ≡ false
-        → IfErr result (λ e. HasCleanDisk (state S.Store e.0) → e.1 ≢ AttachFault.Store
-        → IsUndone (state S.Store conn) (state S.Store e.0)) }
+    ensures { HasFound S.Store ⟦<Station<S> as Keeper>⟧.keeping conn result }
 {
     shows_own_station(&conn);
     if !conn.is_autocommit() {
@@ -262,15 +209,4 @@ fn find_over<S: Alter>(
             Err((conn, fault))
         }
     }
-}
-
-/// Opens the station in a store. Each table is read in full by one statement, and the tables are
-/// audited in the order of `TableName`. Nothing is written.
-pub fn attach<S: Alter>(
-    alloc: Global,
-    conn: Connection<S>,
-) -> Result<Station<S>, (Connection<S>, AttachFault)>
-    ensures { HasFound S.Store ⟦<Station<S> as Keeper>⟧.keeping conn result }
-{
-    find_over(alloc, conn)
 }

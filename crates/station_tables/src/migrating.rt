@@ -1,20 +1,18 @@
 //! Upgrades of files from version 1 to version 2.
-ghost use Rattle.std.specs.Prelude.{◌≡◌, ◌≢◌, ◌⊎◌, true, false, Err, IsTrue, IfOk, IfErr};
+ghost use Rattle.std.specs.Prelude.{◌≡◌, ◌≢◌, Err, IsTrue, IfOk, IfErr};
 ghost use Rattle.table_load.specs.Reading.{read_as};
 ghost use Rattle.table_load.specs.declared.station.FileVersion.TheVariants.{First};
 ghost use Rattle.station_schema.specs.Effects.{IsSettled, IsUndone};
-ghost use Rattle.station_schema.specs.Connection.{connection_view};
 ghost use Rattle.station_schema.specs.Own.{IsOldOwn, LiesInOrder};
 ghost use Rattle.station_schema.specs.Tables.{IsOldStation};
 ghost use Rattle.sqlite.specs.Effect.{Database};
 ghost use Rattle.sqlite.specs.Held.{state};
 ghost use Rattle.sqlite.specs.State.{HasCleanDisk, Survives};
-ghost use Rattle.sqlite.specs.Tree.{Trees};
 ghost use Rattle.table_audits.specs.Verdict.{IsUnfit};
 ghost use Rattle.station_core.specs.Step.{State};
-ghost use Rattle.station_tables.specs.Attached.{IsBreakdown, IsJudged, IsOldStateIn, RefusesAs, old_name};
+ghost use Rattle.station_tables.specs.Attached.{IsJudged, IsOldStateIn, RefusesAs, old_name};
 ghost use Rattle.station_tables.specs.Called.{HasMoved};
-ghost use Rattle.station_tables.specs.Migrated.{HasMigrated, IsMigrated};
+ghost use Rattle.station_tables.specs.Migrated.{HasMigrated};
 ghost use Rattle.table_load.specs.Upgrade.{MeansUpgraded};
 
 use crate::attaching::{breakdown, judge};
@@ -116,75 +114,6 @@ fn settle<S: Alter>(
     }
 }
 
-/// Upgrades a file, with its contract clause by clause.
-fn upgrade_over<S: Alter>(
-    alloc: Global,
-    mut conn: Connection<S>,
-) -> Result<Connection<S>, (Connection<S>, AttachFault)>
-    ensures inside { (connection_view S.Store conn).in_transaction ≡ true
-        → result ≡ Err (conn, AttachFault.Store) }
-
-    // If the disk is clean afterwards, it was clean before.
-    ensures clean { IfOk result (λ new. HasCleanDisk (state S.Store new)
-        → HasCleanDisk (state S.Store conn)) }
-
-    // The file was a station's of version 1, and all its tables were lawful.
-    ensures was { IfOk result (λ new. HasCleanDisk (state S.Store new) → (s : State)
-        × IsOldStateIn (state S.Store conn).now s) }
-
-    // If a station of version 1 wrote the tables, they are of version 2 now, with the same state.
-    ensures moved { IfOk result (λ new. HasCleanDisk (state S.Store new)
-        → IsOldOwn (state S.Store conn).now.trees
-        → LiesInOrder S.Store → HasMigrated (state S.Store conn).now (state S.Store new)) }
-
-    // A fault is true of the tables. If they are a station's of version 1 and lawful, the store
-    // failed or memory ran out.
-    ensures refused { IfErr result (λ e. HasCleanDisk (state S.Store e.0)
-        → RefusesAs First (state S.Store conn).now e.1) }
-    ensures fit { IfErr result (λ e. HasCleanDisk (state S.Store e.0) → (s : State)
-        → IsOldStateIn (state S.Store conn).now s
-        → IsBreakdown e.1) }
-    ensures never { IfErr result (λ e. e.1 ≢ AttachFault.Occupied) }
-
-    // The crash states are those from before, or the tables of version 2 with the same state.
-    ensures leaves { IfErr result (λ e. HasCleanDisk (state S.Store e.0)
-        → IsOldOwn (state S.Store conn).now.trees
-        → LiesInOrder S.Store → (db : Trees) → (state S.Store e.0).may_leave db
-        → (state S.Store conn).may_leave db ⊎ IsMigrated (state S.Store conn).now db) }
-
-    // After a fault no transaction is open, and an open connection shows the last commit.
-    ensures undone { (connection_view S.Store conn).in_transaction ≡ false
-        → IfErr result (λ e. HasCleanDisk (state S.Store e.0)
-        → IsOldOwn (state S.Store conn).now.trees → LiesInOrder S.Store
-        → IsUndone (state S.Store conn) (state S.Store e.0)) }
-    ensures unmoved { (connection_view S.Store conn).in_transaction ≡ false
-        → IfErr result (λ e. HasCleanDisk (state S.Store e.0) → e.1 ≢ AttachFault.Store
-        → IsUndone (state S.Store conn) (state S.Store e.0)) }
-
-    // Any fault except the store's changes nothing, and none changes tables that aren't lawful ones
-    // of version 1.
-    ensures spares { IfErr result (λ e. e.1 ≢ AttachFault.Store
-        → Survives (state S.Store conn) (state S.Store e.0) (λ _. ⊥)) }
-    ensures only { IfErr result (λ e. HasCleanDisk (state S.Store e.0)
-        → ¬ ((s : State) × IsOldStateIn (state S.Store conn).now s)
-        → Survives (state S.Store conn) (state S.Store e.0) (λ _. ⊥)) }
-{
-    shows_old_own(&conn);
-    if !conn.is_autocommit() {
-        return Err((conn, AttachFault::Store));
-    }
-    if !station_schema::is_live(&mut conn) {
-        return Err((conn, AttachFault::Store));
-    }
-    match judge(alloc, &mut conn, FileVersion::First) {
-        Ok(judged) => settle(conn, judged),
-        Err(error) => {
-            let fault = breakdown(&error);
-            Err((conn, fault))
-        }
-    }
-}
-
 /// Upgrades a file from version 1 to version 2 in one transaction: `waybill2` gets the waybills,
 /// without their days, `waybill` is emptied, and the version is raised. Before that, each table is
 /// read in full and audited as version 1.
@@ -202,9 +131,22 @@ fn upgrade_over<S: Alter>(
 /// - [`AttachFault::Store`]: the store failed, or a transaction was open.
 pub fn migrate<S: Alter>(
     alloc: Global,
-    conn: Connection<S>,
+    mut conn: Connection<S>,
 ) -> Result<Connection<S>, (Connection<S>, AttachFault)>
     ensures { HasMoved S.Store conn result }
 {
-    upgrade_over(alloc, conn)
+    shows_old_own(&conn);
+    if !conn.is_autocommit() {
+        return Err((conn, AttachFault::Store));
+    }
+    if !station_schema::is_live(&mut conn) {
+        return Err((conn, AttachFault::Store));
+    }
+    match judge(alloc, &mut conn, FileVersion::First) {
+        Ok(judged) => settle(conn, judged),
+        Err(error) => {
+            let fault = breakdown(&error);
+            Err((conn, fault))
+        }
+    }
 }

@@ -1,18 +1,9 @@
-ghost use Rattle.std.specs.Prelude.{◌≡◌, true, false, Err, Option};
+ghost use Rattle.std.specs.Prelude.{◌≡◌, false, Err};
 ghost use Rattle.sqlite.specs.Held.{state};
 ghost use Rattle.sqlite.specs.State.{HasCleanDisk};
-ghost use Rattle.sqlite.specs.State as connection;
-ghost use Rattle.sqlite.specs.Tree.{Trees};
 ghost use Rattle.station_core.specs.Keeping.{Acts, Breaks, FindsOnly, IfWorks, Leaves, Reopens};
 ghost use Rattle.station_tables.specs.Attached.{connection_in};
-ghost use Rattle.station_schema.specs.Connection.{connection_view};
-ghost use Rattle.station_schema.specs.Own.{IsOwn, LiesInOrder};
-ghost use Rattle.station_core.specs.Step.{State};
-ghost use Rattle.station_rows.specs.Own.{are_declared};
-ghost use Rattle.station_rows.specs.View.{rows_view};
-ghost use Rattle.table_state.specs.Shown.{IfGivenBack};
 ghost use Rattle.station_tables.specs.Called.{HasReleased};
-ghost use Rattle.station_tables.specs.Found.{Finds};
 
 use agent_stock::{Holder, StockRun};
 use awb_number::Awb;
@@ -69,38 +60,12 @@ impl<S: Alter> Station<S> {
         self.stored.act_on(input, at)
     }
 
-    /// Returns the connection, with its contract clause by clause.
-    fn give_back(self) -> Connection<S>
-        ensures clean { HasCleanDisk (state S.Store result)
-            → HasCleanDisk (state S.Store (connection_in self)) }
-
-        // The crash states are those from before, for the database: a station's own trees, if they
-        // were.
-        ensures survives { connection.Survives (state S.Store (connection_in self))
-            (state S.Store result) (λ _. ⊥) }
-        ensures own { HasCleanDisk (state S.Store result)
-            → are_declared self.stored.store.store ≡ true → LiesInOrder S.Store
-            → (db : Trees) → (state S.Store result).may_leave db → IsOwn db }
-        ensures leaves { (connection_view S.Store result).IsSound → (found : Option State) → Finds
-            (connection_view S.Store result) found → ⟦<Station<S> as Keeper>⟧.keeping.may_find self
-            found }
-        ensures sound { (rows_view S.Store result (are_declared self.stored.store.store)).IsSound
-            → ⟦<Station<S> as Keeper>⟧.keeping.is_sound self }
-
-        // If the connection is open, it is outside a transaction, and its tables mean the station's
-        // state.
-        ensures shown { (s : State) → ⟦<Station<S> as Keeper>⟧.keeping.keeps self s → IfGivenBack
-            (rows_view S.Store result (are_declared self.stored.store.store)) s }
-    {
-        let Station { stored } = self;
-        stored.into_store().release()
-    }
-
     /// Returns the connection, whatever its state.
     pub fn release(self) -> Connection<S>
         ensures { HasReleased ⟦<Station<S> as Keeper>⟧.keeping self result }
     {
-        self.give_back()
+        let Station { stored } = self;
+        stored.into_store().release()
     }
 }
 

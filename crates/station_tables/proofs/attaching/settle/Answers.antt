@@ -1,5 +1,4 @@
-use Rattle.std.proofs.Common.{subst}
-use Rattle.station_tables.proofs.Common.{state, read_as, Second, IsJudged}
+use Rattle.station_tables.proofs.Common.{IsJudged, Second, read_as, state, subst}
 use Rattle.station_tables.proofs.Attached.{kept_on, store_says_nothing}
 use Rattle.station_tables.proofs.Looked.{survives_same}
 use Rattle.station_tables.proofs.Migrated.{not_store, undone_same}

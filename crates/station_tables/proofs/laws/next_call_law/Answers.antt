@@ -1,7 +1,4 @@
-use Rattle.std.proofs.Common.{refl}
-use Rattle.station_tables.proofs.Common.{state, connection_in, Finds}
-use Rattle.station_rows.specs.Own.{are_declared}
-use Rattle.station_rows.specs.View.{rows_view}
+use Rattle.station_tables.proofs.Common.{Finds, are_declared, connection_in, refl, rows_view, state}
 use Rattle.station_tables.proofs.Looked.{either}
 use Rattle.station_tables.proofs.Restarted.{finds, fits_on, goes_on, leaves_own, opens_on, sounds_on}
 use Rattle.station_tables.proofs.laws.next_call_law.Goals as goal

@@ -1,6 +1,4 @@
-use Rattle.std.proofs.Common.{subst}
-use Rattle.station_tables.proofs.Common.{read_as, First}
-use Rattle.table_audits.specs.Verdict.{IsUnfit}
+use Rattle.station_tables.proofs.Common.{First, IsUnfit, read_as, subst}
 use Rattle.station_tables.proofs.migrating.old_fault.Goals as goal
 
 pub returns-in-Unlawful-clause-refuses : goal.returns-in-Unlawful-clause-refuses

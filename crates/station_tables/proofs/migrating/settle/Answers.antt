@@ -1,5 +1,4 @@
-use Rattle.std.proofs.Common.{subst}
-use Rattle.station_tables.proofs.Common.{state, read_as, First, IsJudged}
+use Rattle.station_tables.proofs.Common.{First, IsJudged, read_as, state, subst}
 use Rattle.station_tables.proofs.Looked.{survives_same}
 use Rattle.station_tables.proofs.Migrated.{found_only, found_was, store_says, not_store, same_after, undone_same}
 use Rattle.station_tables.proofs.migrating.settle.Goals as goal

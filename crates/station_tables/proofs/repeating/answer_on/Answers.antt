@@ -1,6 +1,5 @@
-use Rattle.std.proofs.Common.{refl, sym, ◌∙◌, ap, subst, Some, inl, inr, ⊎_elim}
+use Rattle.station_tables.proofs.Common.{Some, ap, ghosts, inl, inr, refl, subst, sym, ⊎_elim, ◌∙◌}
 use Rattle.station_core.proofs.Refusals.{refused_stays}
-use Rattle.station_tables.specs.contracts.station.StationKeeper.TheImpl.{ghosts}
 use Rattle.station_tables.proofs.repeating.answer_on.Goals as goal
 
 pub returns-in-Err-Store-clause-leaves : goal.returns-in-Err-Store-clause-leaves

@@ -1,7 +1,5 @@
-use Rattle.std.proofs.Common.{inl}
-use Rattle.station_tables.proofs.Common.{state, HasCleanDisk, Survives, IsUndone, IsOwn, LiesInOrder, connection_view, connection_in, Finds}
+use Rattle.station_tables.proofs.Common.{Finds, HasCleanDisk, IsOwn, IsUndone, LiesInOrder, Survives, connection_in, connection_view, ghosts, inl, state}
 use Rattle.station_tables.proofs.Again.{left_on, memory_on, named_other, never_named, never_named_clean, refuses_on, repeated_on, sound_on, spared_on, untouched_on}
-use Rattle.station_tables.specs.contracts.station.StationKeeper.TheImpl.{ghosts}
 use Rattle.station_tables.proofs.repeating.attach_and_repeat.Goals as goal
 
 pub returns-in-Ok-clause-repeated : goal.returns-in-Ok-clause-repeated
