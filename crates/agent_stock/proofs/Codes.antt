@@ -1,8 +1,6 @@
 -- The length of an agent's code.
-use Rattle.std.proofs.Common.{◌≡◌, ◌≤◌, ℕ, Bool, true, false, ◌&&◌, nat_le, List, length, arith}
-use Rattle.agent_stock.proofs.Common.{nat_tests, list_all, is_agent_code}
+use Rattle.agent_stock.proofs.Common.{Bool, IsAscii, List, arith, false, is_agent_code, length, list_all, nat_le, nat_tests, true, ℕ, ◌&&◌, ◌≡◌, ◌≤◌}
 use Rattle.awb_number.specs.Digits.{is_letter_or_digit}
-use Rattle.std.specs.Str.{IsAscii}
 use Rattle.awb_number.specs.Ascii.{IsAscii-tested, ascii-letter_or_digit}
 
 middle : (n : ℕ) (a b : Bool) → (a && nat_le n 11 && b) ≡ true → n ≤ 11

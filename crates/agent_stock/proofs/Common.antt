@@ -6,7 +6,11 @@ pub use Rattle.agent_stock.specs.Stock.{Holders, after_order, is_among, is_run, 
 pub use Rattle.agent_stock.specs.declared.runs.StockRun.{StockRun}
 pub use Rattle.agent_stock.specs.declared.stock.Holder.{Holder}
 pub use Rattle.awb_number.specs.Number.{IsNumber, prefix_of, serial_of}
+pub use Rattle.std.proofs.Common.{Bool, IfSome, List, None, Option, Some, [], ap, append-nil, arith, cond, drop, false, inl, inr, length, lit<, min, nat_le, nat_lt, not, refl, subst, suc, sym, take, true, true≢false, ℕ, ◌%◌, ◌&&◌, ◌++◌, ◌+◌, ◌-◌, ◌/◌, ◌<◌, ◌^◌, ◌||◌, ◌∙◌, ◌∷◌, ◌≡◌, ◌≢◌, ◌≤◌, ◌⊎◌}
 pub use Rattle.std.proofs.lemmas.Bool.Decides.{nat_tests}
+pub use Rattle.std.proofs.lemmas.Bool.{and_from, and_parts, cases_lt, cond-false, cond-true, le-leb, leb-true, lt-ltb, ltb-true, or_left, or_right}
+pub use Rattle.std.specs.BTreeMap.{get, is_at}
 pub use Rattle.std.specs.List.{AllByRecursion, find, list_all, list_any, range_with_len}
 pub use Rattle.std.specs.Ordering.{is_eq, nat_cmp}
 pub use Rattle.std.specs.Prelude.{IsSome, IsTrue, codes, is_some, map, nat_eq}
+pub use Rattle.std.specs.Str.{IsAscii}

@@ -1,7 +1,5 @@
 -- The maximal runs of a stock, with the numbers of one run more behind them.
-use Rattle.std.proofs.Common.{◌≡◌, ◌≢◌, ℕ, ◌+◌, ◌-◌, ◌<◌, ◌≤◌, ◌⊎◌, inl, inr, Bool, true, false, ◌||◌, Option, Some, None, List, [], ◌∷◌, ◌++◌, refl, sym, ap, ◌∙◌, subst, arith}
-use Rattle.agent_stock.proofs.Common.{IsTrue, IsSome, is_some, AllByRecursion, list_any, prefix_of, serial_of, Holders, is_among, Holder, StockRun, IsMaximalRun, AreApart, AreStockRuns, IsNoneFrom, with_run, GoesOn}
-use Rattle.std.proofs.lemmas.Bool.{and_parts, and_from, or_left, or_right, cases_lt, cond-true, cond-false, le-leb, leb-true, lt-ltb, ltb-true}
+use Rattle.agent_stock.proofs.Common.{AllByRecursion, AreApart, AreStockRuns, Bool, GoesOn, Holder, Holders, IsMaximalRun, IsNoneFrom, IsSome, IsTrue, List, None, Option, Some, StockRun, [], and_from, and_parts, ap, arith, cases_lt, cond-false, cond-true, false, inl, inr, is_among, is_some, le-leb, leb-true, list_any, lt-ltb, ltb-true, or_left, or_right, prefix_of, refl, serial_of, subst, sym, true, with_run, ℕ, ◌++◌, ◌+◌, ◌-◌, ◌<◌, ◌||◌, ◌∙◌, ◌∷◌, ◌≡◌, ◌≢◌, ◌≤◌, ◌⊎◌}
 
 covered : (row : StockRun) (q : ℕ) → IsTrue (is_among row.first row.count q) → (row.first ≤ q) × (q < row.first + row.count)
 covered row q h =

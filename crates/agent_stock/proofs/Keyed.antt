@@ -1,10 +1,8 @@
 -- The numbers of a map in key order, each as a row of one.
-use Rattle.std.proofs.Common.{◌≡◌, ℕ, ◌+◌, ◌<◌, ◌≤◌, ◌&&◌, List, [], ◌∷◌, ◌++◌, append-nil, Some, refl, sym, ap, ◌∙◌, arith, map, cond, nat_eq, nat_le, nat_lt}
-use Rattle.agent_stock.proofs.Common.{nat_cmp, AllByRecursion, nat_tests, is_among, Holder, StockRun, AreRuns, IsRunRow, StandFrom, holders_by}
+use Rattle.agent_stock.proofs.Common.{AllByRecursion, AreRuns, Holder, IsRunRow, List, Some, StandFrom, StockRun, [], ap, append-nil, arith, cond, holders_by, is_among, is_at, map, nat_cmp, nat_eq, nat_le, nat_lt, nat_tests, refl, sym, ℕ, ◌&&◌, ◌++◌, ◌+◌, ◌<◌, ◌∙◌, ◌∷◌, ◌≡◌, ◌≤◌}
 use Rattle.std.specs.declared.cmp.Ordering.TheVariants.{Less}
 use Rattle.std.specs.List.Sorted.{IsStrictlySortedBy}
 use Rattle.std.specs.Map.{keys_of, lookup}
-use Rattle.std.specs.BTreeMap.{is_at}
 use Rattle.std.proofs.lemmas.Map.Keys.{sorted_head, sorted_tail}
 use Rattle.agent_stock.proofs.Serials.{key_is}
 

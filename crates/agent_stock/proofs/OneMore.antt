@@ -1,7 +1,5 @@
 -- Rows of runs that rise, and one more behind them.
-use Rattle.std.proofs.Common.{◌≡◌, ◌∙◌, ℕ, ◌+◌, ◌<◌, ◌≤◌, false, cond, ◌&&◌, nat_le, nat_lt, inl, inr, Some, List, [], ◌∷◌, ◌++◌, refl, sym, ap, arith}
-use Rattle.agent_stock.proofs.Common.{AllByRecursion, nat_tests, is_among, StockRun, AreStockRuns, IsNoneFrom, StandFrom, end_of, holders_by, with_run}
-use Rattle.std.proofs.lemmas.Bool.{cases_lt, cond-false}
+use Rattle.agent_stock.proofs.Common.{AllByRecursion, AreStockRuns, IsNoneFrom, List, Some, StandFrom, StockRun, [], ap, arith, cases_lt, cond, cond-false, end_of, false, holders_by, inl, inr, is_among, nat_le, nat_lt, nat_tests, refl, sym, with_run, ℕ, ◌&&◌, ◌++◌, ◌+◌, ◌<◌, ◌∙◌, ◌∷◌, ◌≡◌, ◌≤◌}
 
 -- a number before a run, and one behind it
 pub under : (a c q : ℕ) → q < a → (nat_le a q && nat_lt q (a + c)) ≡ false

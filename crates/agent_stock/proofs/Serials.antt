@@ -1,8 +1,6 @@
 -- Runs of numbers, one number further.
-use Rattle.std.proofs.Common.{◌≡◌, ℕ, suc, ◌+◌, ◌<◌, ◌≤◌, Bool, true, false, cond, ◌&&◌, nat_le, nat_lt, Option, Some, ◌∙◌, ap, arith}
-use Rattle.std.proofs.Common.{◌%◌, ◌/◌, ◌-◌, None, IsSome, IfSome}
+use Rattle.agent_stock.proofs.Common.{Bool, Holder, IfSome, IsNumber, IsSome, None, Option, Some, ap, arith, cond, false, find, is_eq, nat_cmp, nat_eq, nat_le, nat_lt, nat_tests, range_with_len, suc, true, ℕ, ◌%◌, ◌&&◌, ◌+◌, ◌-◌, ◌/◌, ◌<◌, ◌∙◌, ◌≡◌, ◌≤◌}
 use Rattle.std.proofs.lemmas.Grind.{common_steps}
-use Rattle.agent_stock.proofs.Common.{is_eq, nat_cmp, IsNumber, nat_eq, find, range_with_len, nat_tests, Holder}
 
 module _ (p : ℕ → Bool) (from n k : ℕ) (more : n ≡ suc k) where
   pub find_next : p from ≡ false → find p (range_with_len from n) ≡ find p (range_with_len (from + 1) k)

@@ -1,11 +1,8 @@
 -- The members of a line of `acts`.
-use Rattle.std.proofs.Common.{◌≡◌, ◌∙◌, ℕ, suc, List, [], ◌∷◌, length, Option, Some, None, refl, sym, ap, String}
-use Rattle.cli_run.proofs.Common.{option_map}
+use Rattle.cli_run.proofs.Common.{Data, List, None, Option, Some, String, [], ap, length, members_view, option_map, refl, string, suc, sym, ℕ, ◌∙◌, ◌∷◌, ◌≡◌}
 use Rattle.std.specs.Option.{option_and_then}
 use Rattle.std.specs.declared.alloc.Global.{Global}
-use Rattle.serde_json.specs.Data.{Data, string}
 use Rattle.serde_json.specs.Find.{as_object, as_str}
-use Rattle.serde_json.specs.View.{members_view}
 use Rattle.serde_json.specs.declared.value.Value.{Value}
 use Rattle.desk_commands.specs.Body.{members_len, member_count}
 

@@ -1,6 +1,5 @@
 -- The lines of `acts`, one after another.
-use Rattle.std.proofs.Common.{◌≡◌, ℕ, ◌+◌, Bool, true, false, ◌&&◌, inl, inr, Ok, Result, List, [], ◌∷◌, ◌++◌, refl, sym, ap, ap₂, subst, ◌∙◌}
-use Rattle.cli_run.proofs.Common.{append-nil, append_assoc, LocalMinute, Given, State, RunFault, HasAnsweredLine, asked_after, Keeping, Call, AreAnswered}
+use Rattle.cli_run.proofs.Common.{AreAnswered, Bool, Call, Given, HasAnsweredLine, Keeping, List, LocalMinute, Ok, Result, RunFault, State, [], ap, append-nil, append_assoc, ap₂, asked_after, false, inl, inr, refl, subst, sym, true, ℕ, ◌&&◌, ◌++◌, ◌+◌, ◌∙◌, ◌∷◌, ◌≡◌}
 use Rattle.cli_run.specs.ActsLaw.{acts_lines, AreAsked, HasRunActs}
 use Rattle.cli_run.proofs.Ran.{items_serve, line_service}
 

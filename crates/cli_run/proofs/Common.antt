@@ -21,16 +21,23 @@ pub use Rattle.csv.specs.Reading.{AreRecords, ReadRecord, Ready, default_config,
 pub use Rattle.csv.specs.Records.{fields_of}
 pub use Rattle.imp_fields.specs.TextSize.{most_bytes}
 pub use Rattle.input_reasons.specs.Reason.{HasReason, is_unread, numbered_head}
+pub use Rattle.serde_json.specs.Data.{Data, string}
+pub use Rattle.serde_json.specs.View.{members_view, view}
 pub use Rattle.station_core.proofs.Premise.{kept_at, kept_on}
 pub use Rattle.station_core.specs.Ends.{HasCause, HasSent, NoneFailed, ReadStep}
 pub use Rattle.station_core.specs.Given.{Given}
 pub use Rattle.station_core.specs.Keeping.{Answers, IsBrokenAfter, IsMemoryOrStore, Keeping, MayLeave, OnlyReads, StaysInService}
 pub use Rattle.station_core.specs.Step.{State, after_all, answers_of, step}
+pub use Rattle.station_core.specs.declared.answer.ActFault.{ActFault}
 pub use Rattle.station_core.specs.declared.input.Input.{Input}
 pub use Rattle.station_days.specs.Date.{LocalMinute}
 pub use Rattle.std.proofs.BufReadLemmas.{Consumes_shown, Consumes_through, drop_through-append, take_through-append, take_through-nil}
+pub use Rattle.std.proofs.Common.{All, Bool, Err, Fits, IfSome, IsSome, IsTrue, List, None, Ok, OnSome, Option, Result, Some, String, [], ap, ap₂, arith, cond, false, get_or, inl, inr, is_some, le_refl, length, map, refl, rules, subst, suc, sym, take, take_all, true, w64, zero, ℕ, ⊎_elim, ◌++◌, ◌+◌, ◌-◌, ◌<◌, ◌==◌, ◌∙◌, ◌∷◌, ◌≡◌, ◌≢◌, ◌≤◌}
+pub use Rattle.std.proofs.Math.Seq.{take-append-add, take-append_seam, take-length}
+pub use Rattle.std.proofs.lemmas.Bool.{false≢true}
 pub use Rattle.std.proofs.lemmas.List.{append-nil, append_assoc, length-append, take-append-le}
 pub use Rattle.std.specs.Io.BufRead.{DropsConsumable, DropsThrough, FillKeeps, drop_through, take_through}
 pub use Rattle.std.specs.Io.KnownBytes.{Consumes, IsAtEnd, Keeps}
+pub use Rattle.std.specs.List.{AllByRecursion, list_all}
 pub use Rattle.std.specs.Prelude.{IfErr, IfOk, OnOk, codes, option_map, string_bytes, ◌&&◌, ◌^◌, ◌⊎◌}
 pub use Rattle.std.specs.Result.{IsErrAnd}

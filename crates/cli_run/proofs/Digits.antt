@@ -1,6 +1,5 @@
 -- What seven digits at most can write.
-use Rattle.std.proofs.Common.{◌≡◌, ℕ, ◌<◌, ◌≤◌, Option, Some, None, IsSome, IfSome, ap, arith}
-use Rattle.cli_run.proofs.Common.{◌^◌}
+use Rattle.cli_run.proofs.Common.{IfSome, IsSome, None, Option, Some, ap, arith, ℕ, ◌<◌, ◌^◌, ◌≡◌, ◌≤◌}
 use Rattle.std.proofs.Math.Nat.{pow-le-pow_right}
 
 pub seven_digits : (n length : ℕ) → n < 10 ^ length → length ≤ 7 → n ≤ 9_999_999

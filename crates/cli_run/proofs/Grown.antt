@@ -1,6 +1,6 @@
 -- What has come of an input, read by read.
 use Rattle.std.proofs.Common.{◌≡◌, ◌∙◌, ap, sym, refl, arith, ℕ, ◌<◌, ◌≤◌, List, [], ◌++◌, length, append_assoc, length-append, length-take-le, Result, Ok, Err, take}
-use Rattle.cli_run.proofs.Common.{◌⊎◌, Given, ReadStep, most_bytes, most_come, most_read, HasGrown, HasCome, IsWithin}
+use Rattle.cli_run.proofs.Common.{Given, HasCome, HasGrown, IsWithin, ReadStep, most_bytes, most_come, most_read, ◌⊎◌}
 use Rattle.station_core.specs.declared.ends.ReadFault.{ReadFault}
 use Rattle.station_core.specs.declared.ends.ReadFault.TheVariants as fault
 

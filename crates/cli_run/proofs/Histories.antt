@@ -1,6 +1,5 @@
 -- The history of a waybill that is written.
-use Rattle.std.proofs.Common.{◌≡◌, ◌∙◌, refl, subst, sym, ℕ, Bool, Option, Some, None, Result, Ok, Err, codes}
-use Rattle.cli_run.proofs.Common.{Given, State, RunFault}
+use Rattle.cli_run.proofs.Common.{Bool, Err, Given, None, Ok, Option, Result, RunFault, Some, State, codes, refl, subst, sym, ℕ, ◌∙◌, ◌≡◌}
 use Rattle.station_core.specs.declared.rows.Waybill.{Waybill}
 use Rattle.cli_run.specs.declared.fault.RunFault.TheVariants as fault
 use Rattle.cli_run.specs.History.{HasToldHistory}

@@ -1,6 +1,5 @@
 -- One item more, and one input more.
-use Rattle.std.proofs.Common.{arith, ◌≡◌, ◌∙◌, sym, refl, ap, subst, inl, inr, ℕ, suc, ◌+◌, ◌<◌, Bool, true, false, ◌&&◌, List, [], ◌∷◌, ◌++◌, length, Option, Some, None, IfSome, Result, Ok, Err}
-use Rattle.cli_run.proofs.Common.{IsErrAnd, append-nil, RunFault, told_by, AreAnswered, AreFirst, AreMade, HasEndedAt, HaveBeenAnswered, HaveBeenMade}
+use Rattle.cli_run.proofs.Common.{AreAnswered, AreFirst, AreMade, Bool, Err, HasEndedAt, HaveBeenAnswered, HaveBeenMade, IfSome, IsErrAnd, List, None, Ok, Option, Result, RunFault, Some, [], ap, append-nil, arith, false, inl, inr, length, refl, subst, suc, sym, told_by, true, ℕ, ◌&&◌, ◌++◌, ◌+◌, ◌<◌, ◌∙◌, ◌∷◌, ◌≡◌}
 use Rattle.cli_run.specs.declared.fault.RunFault.TheVariants as fault
 
 and_true : (b : Bool) → (b && true) ≡ b

@@ -1,8 +1,7 @@
 -- A line of `acts`, read in parts as far as it is kept.
-use Rattle.std.proofs.Common.{◌≡◌, ◌≢◌, ◌≤◌, ◌<◌, ◌+◌, ◌-◌, ◌∙◌, arith, sym, ap, ℕ, List, ◌++◌, All, length, take, take_all, get_or, subst, le_refl, Option, Some, None, IfSome, OnSome}
+use Rattle.cli_run.proofs.Common.{All, Consumes, Consumes_through, DropsThrough, IfSome, IsAtEnd, List, None, OnSome, Option, Some, ap, arith, drop_through, drop_through-append, get_or, kept, le_refl, length, most_line, subst, sym, take, take_all, take_through, take_through-append, ℕ, ◌++◌, ◌+◌, ◌-◌, ◌<◌, ◌∙◌, ◌≡◌, ◌≢◌, ◌≤◌}
 use lib.Seq.{take-append_seam}
 use Rattle.std.specs.Io.{IsEmptyOrEndsWith, StopsAt}
-use Rattle.cli_run.proofs.Common.{take_through, drop_through, DropsThrough, Consumes, IsAtEnd, Consumes_through, take_through-append, drop_through-append, kept, most_line}
 use Rattle.std.proofs.lemmas.List.Elements.{All-more}
 
 -- a part that has no end

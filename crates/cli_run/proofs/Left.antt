@@ -1,8 +1,5 @@
 -- What each command leaves is the state after some of what it asks.
-use Rattle.std.proofs.Common.{◌≡◌, ◌⊎◌, ℕ, zero, suc, ◌+◌, Bool, false, inl, inr, Ok, Err, Result, Option, Some, None, List, [], ◌∷◌, ◌++◌, length, refl, sym, ap, subst, ◌∙◌, arith, ⊎_elim}
-use Rattle.std.specs.List.{AllByRecursion}
-use Rattle.std.proofs.Math.Seq.{take-append_seam, take-append-add, take-length}
-use Rattle.cli_run.proofs.Common.{length-append, Order, LocalMinute, Given, Input, Keeping, OnlyReads, StaysInService, State, step, after_all, RunFault, input_of, Row, stock_rows, row_asks, Request, HasAnsweredAsks, HasAnsweredLine, HasAnsweredRow, IsActAsked, asked_after, IsTelegramAsked, IsCommandAsked, HasAnswered, HasAnsweredAsked, HasNotReceived, HasReceived, call_to, Ends, Call, AreAnswered, HasEndedAt, HaveBeenAnswered, kept_lines, AreMade, HaveBeenMade, HasTakenNext}
+use Rattle.cli_run.proofs.Common.{AllByRecursion, AreAnswered, AreMade, Bool, Call, Ends, Err, Given, HasAnswered, HasAnsweredAsked, HasAnsweredAsks, HasAnsweredLine, HasAnsweredRow, HasEndedAt, HasNotReceived, HasReceived, HasTakenNext, HaveBeenAnswered, HaveBeenMade, Input, IsActAsked, IsCommandAsked, IsTelegramAsked, Keeping, List, LocalMinute, None, Ok, OnlyReads, Option, Order, Request, Result, Row, RunFault, Some, State, StaysInService, [], after_all, ap, arith, asked_after, call_to, false, inl, input_of, inr, kept_lines, length, length-append, refl, row_asks, step, stock_rows, subst, suc, sym, take-append-add, take-append_seam, take-length, zero, ℕ, ⊎_elim, ◌++◌, ◌+◌, ◌∙◌, ◌∷◌, ◌≡◌, ◌⊎◌}
 use Rattle.cli_run.specs.declared.fault.RunFault.TheVariants as fault
 use Rattle.cli_words.specs.declared.line.LineCommand.{LineCommand}
 use Rattle.cli_words.specs.declared.line.LineCommand.TheVariants as command

@@ -1,6 +1,6 @@
 -- The lines of a text, read one after another.
 use Rattle.std.proofs.Common.{arith, ◌≡◌, ◌∙◌, sym, refl, ap, subst, ℕ, ◌+◌, ◌<◌, ◌==◌, Bool, true, false, cond, List, [], ◌∷◌, ◌++◌, map, length, length-take, append_assoc, Option, Some, None, IfSome}
-use Rattle.cli_run.proofs.Common.{take_through, drop_through, append-nil, take_through-nil, AreFirst, in_front, kept_lines, lines_of, kept, most_line}
+use Rattle.cli_run.proofs.Common.{AreFirst, append-nil, drop_through, in_front, kept, kept_lines, lines_of, most_line, take_through, take_through-nil}
 
 -- the first line of a text, and the lines behind it
 abbrev Cut : List ℕ → Type 0

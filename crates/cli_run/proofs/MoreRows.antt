@@ -1,10 +1,9 @@
 -- One row more.
-use Rattle.std.proofs.Common.{ℕ, ◌+◌, ◌≡◌, ◌∙◌, sym, refl, ap, true, false, List, [], ◌∷◌, ◌++◌, length, Option, Some, None, IfSome, option_map, inl, inr}
+use Rattle.cli_run.proofs.Common.{AreFirst, IfSome, IsReadersFault, List, None, Option, ReadRecord, Row, Some, [], ap, default_config, false, inl, inr, length, option_map, reader_fault, refl, source_of, stock_rows, strip_bom, sym, true, ℕ, ◌++◌, ◌+◌, ◌∙◌, ◌∷◌, ◌≡◌}
 use Rattle.csv.specs.declared.error.ErrorKind.{ErrorKind}
 use Rattle.csv.specs.declared.error.ErrorKind.TheVariants as kind
 use Rattle.csv.specs.declared.parser.State.TheVariants as st
 use Rattle.csv.specs.declared.reader.Reader.{Reader}
-use Rattle.cli_run.proofs.Common.{ReadRecord, default_config, source_of, strip_bom, Row, stock_rows, IsReadersFault, reader_fault, AreFirst}
 use Rattle.csv.specs.Reading.{Reached}
 use Rattle.csv.proofs.ReadFacts.{rows-end, rows-more}
 use Rattle.cli_run.proofs.InTurn.{length_more}

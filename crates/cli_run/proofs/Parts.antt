@@ -1,7 +1,6 @@
 -- A line that goes out in parts.
 use Rattle.std.proofs.Common.{arith, ◌≡◌, ◌∙◌, ap, sym, ℕ, ◌+◌, List, ◌++◌, length, take, append_assoc, length-append, inl, inr, ⊎_elim}
-use Rattle.std.proofs.Math.Seq.{take-append-add}
-use Rattle.cli_run.proofs.Common.{take-append-le, Given, HasCause, HasSent, NoneFailed}
+use Rattle.cli_run.proofs.Common.{Given, HasCause, HasSent, NoneFailed, take-append-add, take-append-le}
 
 -- a beginning of its first part
 pub first_part : (a b : List ℕ) (old new : Given) → HasSent a old new → HasSent (a ++ b) old new

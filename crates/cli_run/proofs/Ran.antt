@@ -1,6 +1,5 @@
 -- The station after inputs, and inputs that weren't received.
-use Rattle.cli_run.proofs.Common.{IsErrAnd, LocalMinute, kept_at, kept_on, Order, Given, Keeping, StaysInService, RunFault, Call, IsReadersFault, Request, HasAnsweredAsks, HasAnsweredLine, HasAnsweredRow, Row, row_asks, AreAnswered, HasEndedAt, HaveBeenAnswered, AreMade, HaveBeenMade, HasAnswered, HasAnsweredAsked, HasNotReceived, IsTelegramAsked, HasTakenNext}
-use Rattle.std.proofs.Common.{◌≡◌, ◌∙◌, refl, sym, ap, subst, inl, inr, ⊎_elim, ℕ, zero, suc, ◌+◌, Bool, List, [], ◌∷◌, length, ◌⊎◌, Option, None, Some, Result, Ok, Err, OnOk, IfErr}
+use Rattle.cli_run.proofs.Common.{AreAnswered, AreMade, Bool, Call, Err, Given, HasAnswered, HasAnsweredAsked, HasAnsweredAsks, HasAnsweredLine, HasAnsweredRow, HasEndedAt, HasNotReceived, HasTakenNext, HaveBeenAnswered, HaveBeenMade, IfErr, IsErrAnd, IsReadersFault, IsTelegramAsked, Keeping, List, LocalMinute, None, Ok, OnOk, Option, Order, Request, Result, Row, RunFault, Some, StaysInService, [], ap, inl, inr, kept_at, kept_on, length, refl, row_asks, subst, suc, sym, zero, ℕ, ⊎_elim, ◌+◌, ◌∙◌, ◌∷◌, ◌≡◌, ◌⊎◌}
 
 pub always : {A : Type 0} (r : Result Bool RunFault) → A → OnOk r A
 always (Ok good) a = a

@@ -1,11 +1,10 @@
 -- What goes to standard error, by what was asked.
-use Rattle.cli_run.proofs.Common.{IsErrAnd, LocalMinute, Given, State, Input, HasReason, RunFault, Request, Keeping, asked_unread, is_command, reason_head, HasToldWhy, HasGivenReason, HasExplained, Call}
+use Rattle.cli_run.proofs.Common.{Bool, Call, Err, Given, HasExplained, HasGivenReason, HasReason, HasToldWhy, Input, IsErrAnd, Keeping, List, LocalMinute, Ok, Option, Request, Result, RunFault, State, asked_unread, false, is_command, reason_head, refl, true, ℕ, ◌≡◌}
 use Rattle.station_core.specs.declared.answer.Answer.{Answer}
 use Rattle.station_core.specs.declared.input.Input.TheVariants.{Keyed, Wire}
 use Rattle.cli_run.specs.Explained.{answered_unread}
 use Rattle.cli_run.specs.declared.request.Request.TheVariants as asked
 use Rattle.cli_run.proofs.Ran.{always}
-use Rattle.std.proofs.Common.{◌≡◌, refl, ℕ, Bool, true, false, List, Option, Result, Ok, Err}
 
 pub told_if : {E : Type 0} (taken : E → Given) (unread : Bool) (head : List ℕ) (old new : E) → unread ≡ true
     → HasReason head (taken old).bytes (taken new).bytes → HasToldWhy taken unread head old new

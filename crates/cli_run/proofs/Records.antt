@@ -1,7 +1,5 @@
 -- The records that a reader gave, up to the end of the text, are `records` of the text.
-use Rattle.cli_run.proofs.Common.{◌&&◌, AreRecords, records}
-use Rattle.std.proofs.Common.{arith, ℕ, zero, suc, ◌+◌, ◌<◌, ◌≤◌, ◌≡◌, ◌∙◌, ◌==◌, sym, refl, ap, Bool, true, false, cond, List, [], ◌∷◌, ◌++◌, length, Option, Some, None}
-use Rattle.std.proofs.lemmas.Bool.{false≢true}
+use Rattle.cli_run.proofs.Common.{AreRecords, Bool, List, None, Option, Some, [], ap, arith, cond, false, false≢true, length, records, refl, suc, sym, true, zero, ℕ, ◌&&◌, ◌++◌, ◌+◌, ◌<◌, ◌==◌, ◌∙◌, ◌∷◌, ◌≡◌, ◌≤◌}
 use Rattle.csv.specs.Machine.{Read, step, in_field, start_field, start_record, after_end, ends_with, is_byte, is_end, ends_at_end, fields_after, field_after, next_record, line_feed}
 use Rattle.csv.specs.Reading.{Reached, records_from}
 use Rattle.csv.specs.declared.parser.Config.{Config}

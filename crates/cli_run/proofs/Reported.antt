@@ -1,8 +1,6 @@
 -- How a run of a report ends, by how the report ended.
-use Rattle.std.proofs.Common.{◌≡◌, ℕ, Result, Ok, Err, OnOk, List, []}
-use Rattle.cli_run.proofs.Common.{Given, HasCause, State, run_fault}
+use Rattle.cli_run.proofs.Common.{ActFault, Err, Given, HasCause, List, Ok, OnOk, Result, State, [], run_fault, ℕ, ◌≡◌}
 use Rattle.station_core.specs.Keeping.{IsReadersFault}
-use Rattle.station_core.specs.declared.answer.ActFault.{ActFault}
 use Rattle.station_core.specs.declared.answer.ActFault.TheVariants as act
 use Rattle.reports.specs.Ended.{HasEnded, HasEndedBy, HasTold, IsCause, StopsBy, StopsWriting}
 use Rattle.reports.specs.declared.fault.ReportCause.{ReportCause}

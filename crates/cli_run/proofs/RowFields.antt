@@ -1,7 +1,6 @@
 -- The fields of a row.
-use Rattle.std.proofs.Common.{◌≡◌, ℕ, zero, suc, ◌<◌, List, [], ◌∷◌, length, Some, None, sym, arith}
+use Rattle.cli_run.proofs.Common.{List, None, Some, [], arith, asked_by, length, row_asks, suc, sym, zero, ℕ, ◌<◌, ◌∷◌, ◌≡◌}
 use Rattle.csv.specs.Records.{field_at}
-use Rattle.cli_run.proofs.Common.{row_asks, asked_by}
 
 pub there : (fields : List (List ℕ)) (place : ℕ) → place < length fields → field_at fields place ≡ None → ⊥
 unfolding field_at

@@ -1,7 +1,5 @@
 -- A run that is told once it is known whether its reader has failed.
-use Rattle.std.proofs.Common.{arith, ℕ, zero, suc, ◌<◌, ◌≡◌, refl, Bool, true, false, Result, Ok, Err, OnOk}
-use Rattle.std.proofs.lemmas.Bool.{false≢true}
-use Rattle.cli_run.proofs.Common.{RunFault, told_by}
+use Rattle.cli_run.proofs.Common.{Bool, Err, Ok, OnOk, Result, RunFault, arith, false, false≢true, refl, suc, told_by, true, zero, ℕ, ◌<◌, ◌≡◌}
 use Rattle.cli_run.specs.declared.fault.RunFault.TheVariants as fault
 
 -- `Read` only where the reader has failed

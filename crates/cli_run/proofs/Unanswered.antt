@@ -1,7 +1,5 @@
 -- A request or a row that the keeper didn't answer, or wasn't asked.
-use Rattle.std.proofs.Common.{◌≡◌, ◌∙◌, refl, ap, subst, sym, ℕ, Bool, false, List, ◌++◌, take, Option, Result, Ok, Err, IfErr, IfOk, ◌⊎◌, inl, inr, ⊎_elim}
-use Rattle.cli_run.proofs.Common.{LocalMinute, kept_at, Input, Given, Answers, IsBrokenAfter, IsMemoryOrStore, Keeping, MayLeave, State, step, RunFault, call, kept_by, run_fault, IsShutAfter, Kept, Request, HasAnswered, HasToldUnread, asked_after, IsAnswered, IsStopped, asked_unread, is_command, reason_head}
-use Rattle.station_core.specs.declared.answer.ActFault.{ActFault}
+use Rattle.cli_run.proofs.Common.{ActFault, Answers, Bool, Err, Given, HasAnswered, HasToldUnread, IfErr, IfOk, Input, IsAnswered, IsBrokenAfter, IsMemoryOrStore, IsShutAfter, IsStopped, Keeping, Kept, List, LocalMinute, MayLeave, Ok, Option, Request, Result, RunFault, State, ap, asked_after, asked_unread, call, false, inl, inr, is_command, kept_at, kept_by, reason_head, refl, run_fault, step, subst, sym, take, ℕ, ⊎_elim, ◌++◌, ◌∙◌, ◌≡◌, ◌⊎◌}
 use Rattle.station_core.specs.declared.answer.ActFault.TheVariants as act
 use Rattle.cli_run.specs.declared.fault.RunFault.TheVariants as fault
 use Rattle.cli_run.specs.Requests.{asked_good, asked_line}

@@ -1,11 +1,7 @@
 -- A report that is printed as it comes, read by read.
-use Rattle.std.proofs.Common.{arith, ◌≡◌, ◌∙◌, ap, sym, refl, subst, inl, inr, ⊎_elim, ℕ, zero, suc, ◌-◌, ◌<◌, ◌≤◌, false, List, [], ◌∷◌, ◌++◌, drop, take, length, length-append, length-drop, length-take, append_assoc, Result, Ok, Err}
-use Rattle.desk_client.proofs.Common.{IsErrAnd, take-length, append-nil, append_cancel_left, take-append-drop, Given, HasCause, HasSent, NoneFailed, HasGrown, Form, has_end, HasPrintedBody, HasPrintedFront, HasPrintedLast, HasPrintedMore, HasPrintedSome, HasStopped, HasTurned, IsHeld, AskFault, PrintFault}
-use Rattle.cli_run.proofs.Grown.{grown_more}
-use Rattle.cli_run.proofs.Parts.{cause_behind, first_part, next_part, untroubled_more}
+use Rattle.desk_client.proofs.Common.{AskFault, Err, Form, Given, HasCause, HasGrown, HasPrintedBody, HasPrintedFront, HasPrintedLast, HasPrintedMore, HasPrintedSome, HasSent, HasStopped, HasTurned, IsErrAnd, IsFrontEnd, IsHeld, List, NoneFailed, Ok, PrintFault, Result, [], ap, append-nil, append_assoc, append_cancel_left, arith, cause_behind, drop, false, first_part, grown_more, has_end, inl, inr, length, length-append, length-drop, length-take, mark_of, next_part, refl, subst, suc, sym, take, take-append-drop, take-length, untroubled_more, zero, ℕ, ⊎_elim, ◌++◌, ◌-◌, ◌<◌, ◌∙◌, ◌∷◌, ◌≡◌, ◌≤◌}
 use Rattle.reports.specs.declared.form.Form.TheVariants as form
 use Rattle.desk_client.specs.Came.{HasGiven, IsReadersFault}
-use Rattle.desk_client.specs.Front.{mark_of, IsFrontEnd}
 use Rattle.desk_client.specs.declared.ask.AskFault.TheVariants as fault
 use Rattle.desk_client.specs.declared.printing.PrintFault.TheVariants as print
 use Rattle.desk_client.proofs.Tails.{tail_decides}

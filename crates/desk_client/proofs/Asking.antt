@@ -1,6 +1,5 @@
 -- Where a question ends without an answer.
-use Rattle.std.proofs.Common.{◌≡◌, ◌∙◌, refl, sym, subst, inr, ℕ, ◌≤◌, Bool, true, false, List, ◌++◌, drop, length, Option, Result, Ok, Err}
-use Rattle.desk_client.proofs.Common.{Given, Form, Talk, HasTriedThrice, IsAskedUntil, by_time, HasAsked, HasRead, HasTaken, HasUnderstood, HasCome, most_row_bytes, IsWhole, Response, AskFault}
+use Rattle.desk_client.proofs.Common.{AskFault, Bool, Err, Form, Given, HasAsked, HasCome, HasRead, HasTaken, HasTriedThrice, HasUnderstood, IsAskedUntil, IsWhole, List, Ok, Option, Response, Result, Talk, by_time, drop, false, inr, length, most_row_bytes, refl, subst, sym, true, ℕ, ◌++◌, ◌∙◌, ◌≡◌, ◌≤◌}
 use Rattle.desk_client.specs.Try.{HasSent}
 use Rattle.desk_client.specs.declared.ask.AskFault.TheVariants as fault
 use Rattle.desk_client.specs.declared.ask.Until.{Until}

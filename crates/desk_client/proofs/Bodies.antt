@@ -1,7 +1,5 @@
 -- What a body is, by what its head tells of its length.
-use Rattle.std.proofs.Common.{arith, ◌≡◌, ◌∙◌, ap, sym, subst, ℕ, ◌<◌, ◌||◌, true, false, Some, None, Option, List, [], ◌∷◌, ◌++◌, length, length-append, codes}
-use Rattle.http_desk.specs.Digits.{number_told}
-use Rattle.desk_client.proofs.Common.{values_of, has_media, IsAsLong, IsOfRows, IsTooShort, IsExtent, IsExtentOf}
+use Rattle.desk_client.proofs.Common.{IsAsLong, IsExtent, IsExtentOf, IsOfRows, IsTooShort, List, None, Option, Some, [], ap, arith, codes, false, has_media, length, length-append, number_told, subst, sym, true, values_of, ℕ, ◌++◌, ◌<◌, ◌||◌, ◌∙◌, ◌∷◌, ◌≡◌}
 use Rattle.reports.specs.declared.form.Form.TheVariants as form
 use Rattle.desk_client.specs.declared.whole.Extent.{Extent}
 use Rattle.desk_client.specs.declared.whole.Extent.TheVariants as extent

@@ -1,8 +1,5 @@
 -- A whole answer is one, and no beginning of another.
-use Rattle.std.proofs.Common.{arith, ◌≡◌, ◌∙◌, ap, sym, subst, inl, inr, ℕ, ◌||◌, true, false, List, [], ◌∷◌, ◌++◌, length, map, codes, length-append}
-use Rattle.desk_client.proofs.Common.{◌⊎◌, nil_from_length, ResponseHead, status_code, name_and_value, values_of, Form, has_end, has_media, IsAsLong, IsCutShort, IsReport, IsTooShort, IsWhole}
-use Rattle.std.proofs.Math.Bool.{or-true}
-use Rattle.httparse.proofs.GrammarLemmas.{ReadsResponse-append, response_unique}
+use Rattle.desk_client.proofs.Common.{Form, IsAsLong, IsCutShort, IsReport, IsTooShort, IsWhole, List, ReadsResponse-append, ResponseHead, [], ap, arith, codes, false, has_end, has_media, inl, inr, length, length-append, map, name_and_value, nil_from_length, or-true, response_unique, status_code, subst, sym, true, values_of, ℕ, ◌++◌, ◌||◌, ◌∙◌, ◌∷◌, ◌≡◌, ◌⊎◌}
 use Rattle.reports.specs.declared.form.Form.TheVariants as form
 use Rattle.desk_client.proofs.Bodies.{some_is}
 

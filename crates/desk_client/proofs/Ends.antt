@@ -1,6 +1,5 @@
 -- The digits at a text's end.
-use Rattle.std.proofs.Common.{◌≡◌, ◌∙◌, ap, sym, refl, ℕ, true, false, List, [], ◌∷◌, ◌++◌, reverse}
-use Rattle.desk_client.proofs.Common.{reverse-append, reverse-reverse, is_digit, behind_digits, before_digits}
+use Rattle.desk_client.proofs.Common.{List, [], ap, before_digits, behind_digits, false, is_digit, refl, reverse, reverse-append, reverse-reverse, sym, true, ℕ, ◌++◌, ◌∙◌, ◌∷◌, ◌≡◌}
 
 last_first : (front : List ℕ) (last : ℕ) → reverse (front ++ last ∷ []) ≡ last ∷ reverse front
 last_first front last = reverse-append front (last ∷ [])

@@ -1,9 +1,7 @@
 -- What bytes are of a whole answer.
-use Rattle.std.proofs.Common.{arith, ◌≡◌, ◌∙◌, ap, sym, subst, inr, ℕ, ◌≤◌, true, false, List, [], ◌∷◌, ◌++◌, drop, take, length, map, length-take, length-drop, ◌-◌}
-use Rattle.desk_client.proofs.Common.{length-map, take-length, Field, ResponseHead, ReadsResponse, header_bytes, name_and_value, IsResponseOf, most_fields, IsWholeBody, IsShortBody, IsTooShort, IsAsLong, IsExtentOf, IsFound}
+use Rattle.desk_client.proofs.Common.{Field, IsAsLong, IsExtentOf, IsFound, IsResponseOf, IsShortBody, IsTooShort, IsWholeBody, List, ReadsResponse, ResponseHead, [], ap, arith, drop, false, header_bytes, inr, length, length-drop, length-map, length-take, map, most_fields, name_and_value, response_prefix_free, response_unique, subst, sym, take, take-length, true, ℕ, ◌++◌, ◌-◌, ◌∙◌, ◌∷◌, ◌≡◌, ◌≤◌}
 use Rattle.httparse.specs.declared.spans.HeaderSpan.{HeaderSpan}
 use Rattle.httparse.specs.declared.spans.ResponseSpans.{ResponseSpans}
-use Rattle.httparse.proofs.GrammarLemmas.{response_prefix_free, response_unique}
 use Rattle.desk_client.specs.declared.whole.Extent.TheVariants as extent
 use Rattle.desk_client.specs.declared.whole.Found.TheVariants as found
 use Rattle.desk_client.proofs.Bodies.{some_is}

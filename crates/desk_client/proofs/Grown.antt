@@ -1,7 +1,5 @@
 -- What has come of an answer, read by read.
-use Rattle.std.proofs.Common.{inl, inr, arith, ℕ, ◌<◌, List, [], length}
-use Rattle.desk_client.proofs.Common.{Given, HasCome, HasGrown}
-use Rattle.cli_run.proofs.Grown.{grown_more, has_come}
+use Rattle.desk_client.proofs.Common.{Given, HasCome, HasGrown, List, [], arith, grown_more, has_come, inl, inr, length, ℕ, ◌<◌}
 
 -- a read more that brought nothing ended it
 pub come_more : (most : ℕ) (a b d : Given) (xs ys : List ℕ) → HasGrown a b [] xs → HasGrown b d xs ys → b.idle < d.idle → HasCome most a d ys

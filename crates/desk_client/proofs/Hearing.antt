@@ -1,10 +1,8 @@
 -- What an input leaves that a service was asked for.
-use Rattle.std.proofs.Common.{◌≡◌, ◌∙◌, sym, refl, ap, subst, inl, inr, ℕ, List, [], ◌∷◌, ◌++◌, Option, Result, Ok, Err, string_bytes}
-use Rattle.desk_client.proofs.Common.{append-nil, Given, RunFault, Call, Talk, IsAnswered, is_late, HasAnsweredInput, HasHeard, HasUnderstoodLine, Response}
+use Rattle.desk_client.proofs.Common.{Call, Err, Given, HasAnsweredInput, HasHeard, HasUnderstoodLine, IsAnswered, List, Ok, Option, Response, Result, RunFault, Talk, [], ap, append-nil, inl, inr, is_late, named, refl, string_bytes, subst, sym, ℕ, ◌++◌, ◌∙◌, ◌∷◌, ◌≡◌}
 use Rattle.station_core.specs.declared.input.Input.{Input}
 use Rattle.cli_run.specs.declared.fault.RunFault.TheVariants as fault
 use Rattle.cli_run.specs.declared.request.Request.TheVariants as asked
-use Rattle.cli_run.specs.Requests.{named}
 use Rattle.cli_run.specs.Ended.{HasToldPart}
 use Rattle.cli_run.specs.Explained.{reason_head, HasToldWhy}
 use Rattle.desk_client.specs.declared.line.Heard.{Heard}

@@ -1,9 +1,5 @@
 -- An order that was sent.
-use Rattle.std.proofs.Common.{◌≡◌, ◌∙◌, subst, inr, ℕ, Bool, List, Some, Result}
-use Rattle.desk_client.proofs.Common.{IsUtf8, word, Verb, IsSaid, Given, RunFault, Call, Talk, HasAnsweredInput, order_data, IsOrderText, command_request, most_answer}
-use Rattle.agent_stock.specs.declared.stock.Order.{Order}
-use Rattle.desk_commands.specs.Command.{order_verb}
-use Rattle.desk_commands.specs.declared.command.Command.TheVariants.{Stock}
+use Rattle.desk_client.proofs.Common.{Bool, Call, Given, HasAnsweredInput, IsOrderText, IsSaid, IsUtf8, List, Order, Result, RunFault, Some, Stock, Talk, Verb, command_request, inr, most_answer, order_data, order_verb, subst, word, ℕ, ◌∙◌, ◌≡◌}
 use Rattle.cli_run.specs.Rows.{input_of}
 use Rattle.desk_client.specs.ListRows.{HasAnsweredOrder}
 

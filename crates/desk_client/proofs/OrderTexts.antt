@@ -1,15 +1,9 @@
 -- The text of an order's body, and what it says.
-use Rattle.std.proofs.Common.{◌≡◌, ◌∙◌, ap, sym, refl, subst, ℕ, ◌≤◌, false, List, drop, take, IfOk, Result, Ok, Err, Some}
-use Rattle.serde_json.specs.Data.{Data, depth}
-use Rattle.serde_json.specs.Read.{read, max_depth}
+use Rattle.desk_client.proofs.Common.{Data, Err, IfOk, IsOrder, IsOrderText, IsTextOf, List, Ok, Order, Result, Some, Stock, agents_object, ap, depth, drop, false, max_depth, number_text, order_data, order_verb, padded, prefix_of, read, refl, run_object, serial_of, subst, sym, take, ℕ, ◌∙◌, ◌≡◌, ◌≤◌}
 use Rattle.serde_json.specs.Written.{compact_text, has_float}
 use Rattle.serde_json.proofs.OnLiterals.{serde_json_on_literals}
-use Rattle.desk_client.proofs.Common.{padded, number_text, prefix_of, serial_of, agents_object, order_data, run_object, IsOrderText, IsTextOf}
-use Rattle.agent_stock.specs.declared.stock.Order.{Order}
 use Rattle.agent_stock.specs.declared.stock.Order.TheVariants.{TakeIn, Issue, GiveBack, Void}
 use Rattle.desk_commands.specs.Body.{IsBodyOf}
-use Rattle.desk_commands.specs.Command.{order_verb, IsOrder}
-use Rattle.desk_commands.specs.declared.command.Command.TheVariants.{Stock}
 
 -- a text that the writer made
 pub written : {X T : Type 0} (r : Result T X) (f : T → List ℕ) (v d : Data) → v ≡ d → has_float d ≡ false → depth d ≤ max_depth

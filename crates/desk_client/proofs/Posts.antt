@@ -1,8 +1,5 @@
 -- What a line of `acts` has for a service.
-use Rattle.std.proofs.Common.{◌≡◌, ◌∙◌, refl, sym, subst, inl, inr, ℕ, ◌≤◌, Bool, List, Option, Some, None, IfSome, Result}
-use Rattle.serde_json.specs.Data.{Data, depth}
-use Rattle.serde_json.specs.Read.{read, max_depth}
-use Rattle.desk_client.proofs.Common.{word, Verb, Given, RunFault, Call, Talk, HasAnswered, HasHeardValue, IsPosted, command_request, most_answer}
+use Rattle.desk_client.proofs.Common.{Bool, Call, Data, Given, HasAnswered, HasHeardValue, IfSome, IsPosted, List, None, Option, Result, RunFault, Some, Talk, Verb, command_request, depth, inl, inr, max_depth, most_answer, read, refl, subst, sym, word, ℕ, ◌∙◌, ◌≡◌, ◌≤◌}
 use Rattle.cli_run.specs.declared.request.Request.{Request}
 use Rattle.cli_run.specs.ActLine.{IsActAsked, IsFrame, IsWritten}
 

@@ -1,10 +1,6 @@
 -- A desk reads the request of a command as what it is.
-use Rattle.std.proofs.Common.{arith, ◌≡◌, ◌∙◌, ap, sym, subst, refl, ℕ, ◌+◌, ◌-◌, ◌<◌, ◌≤◌, ◌^◌, Bool, true, Option, Some, None, Ok, Err, List, [], ◌∷◌, ◌++◌, length, map, take, drop, reverse, codes, decimal, length-append, append_assoc}
-use Rattle.desk_client.proofs.Common.{◌&&◌, not, nat_le, if◌then◌else◌, and_parts, and_from, leb-true, le-leb, lt-ltb, take-append-add, drop-append_seam, RequestHead, is_ows, is_value_byte, ReadsRequest, name_and_value, is_digit, decimal_value, where_true, Verb, word, HasPath, IsPathOf, most_path, Head, HeadAsks, looks_up, sends, sends_body, place_asks, head_asks, key_of, length_in, within_length, command_lines, key_line, command_head, telegram_head, get_request}
+use Rattle.desk_client.proofs.Common.{Bool, Err, Got, HasPath, Head, HeadAsks, IsPathOf, List, None, Ok, Option, Posted, ReadsRequest, RequestHead, Some, Verb, [], and_from, and_parts, ap, append_assoc, arith, codes, command_head, command_lines, decimal, decimal_nonempty, decimal_value, drop, drop-append_seam, get_request, gets, head_asks, if◌then◌else◌, is_digit, is_number, is_ows, is_value_byte, key_line, key_of, le-leb, leb-true, length, length-append, length-decimal-le, length_in, list_all, looks_up, lt-ltb, map, most_path, name_and_value, nat_le, nat_tests, not, place_asks, place_of, posted_command, posted_telegram, posts, refl, reverse, sends, sends_body, subst, sym, take, take-append-add, telegram_head, true, where_true, within_length, word, ℕ, ◌&&◌, ◌++◌, ◌+◌, ◌-◌, ◌<◌, ◌^◌, ◌∙◌, ◌∷◌, ◌≡◌, ◌≤◌}
 use Rattle.std.specs.Char.{is_ascii_graphic}
-use Rattle.std.specs.List.{list_all}
-use Rattle.std.proofs.lemmas.Bool.Decides.{nat_tests}
-use Rattle.std.proofs.lemmas.Fmt.{length-decimal-le, decimal_nonempty}
 use Rattle.std.proofs.lemmas.List.Sums.{AllPass-from_list_all, list_all-from_AllPass}
 use Rattle.httparse.specs.Grammar.{is_token_byte}
 use Rattle.httparse.proofs.TrimLemmas.{AllPass-reverse}
@@ -17,8 +13,6 @@ use Rattle.desk_commands.proofs.Words.{of_every}
 use Rattle.station_core.specs.Key.{is_key, is_key_byte}
 use Rattle.http_desk.proofs.Printed.{writes}
 use Rattle.http_desk.proofs.Segments.{all_weaker}
-use Rattle.http_desk.specs.Routes.{Got, gets, Posted, posts, posted_command, posted_telegram, place_of}
-use Rattle.http_desk.specs.Digits.{is_number}
 use Rattle.http_desk.specs.Answer.{HasHead}
 use Rattle.desk_client.specs.Read.{IsRead}
 

@@ -1,6 +1,5 @@
 -- A question for rows, by the tries and by what was printed after them.
-use Rattle.std.proofs.Common.{◌≡◌, ap, refl, inl, inr, ⊎_elim, ℕ, Bool, List, Option, Some, None, Result, Ok, Err}
-use Rattle.desk_client.proofs.Common.{Given, RunFault, Form, Talk, HasTried, HasTriedThrice, IsRefused, HasTalked, HasTaken, service_fault, Response, AskFault}
+use Rattle.desk_client.proofs.Common.{AskFault, Bool, Err, Form, Given, HasTaken, HasTalked, HasTried, HasTriedThrice, IsRefused, List, None, Ok, Option, Response, Result, RunFault, Some, Talk, ap, inl, inr, refl, service_fault, ℕ, ⊎_elim, ◌≡◌}
 use Rattle.cli_run.specs.declared.fault.RunFault.TheVariants as run
 use Rattle.desk_client.specs.Looks.{rows_request, shown, HasAskedRows, HasShownTaken, IsTakenRows}
 use Rattle.desk_client.specs.declared.ask.AskFault.TheVariants as fault

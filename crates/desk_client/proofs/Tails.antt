@@ -1,13 +1,7 @@
 -- Whether a text ends as a report does is decided by its tail.
-use Rattle.std.proofs.Common.{arith, ◌≡◌, ◌∙◌, ap, sym, refl, ℕ, suc, ◌-◌, ◌≤◌, Bool, true, false, List, [], ◌∷◌, ◌++◌, drop, take, reverse, length, length-append, length-drop, append_assoc, codes}
-use Rattle.desk_client.proofs.Common.{◌==◌, ◌&&◌, ◌||◌, not, nat_lt, if◌then◌else◌, drop-append_seam, take-append_seam, and_parts, ltb-true, ltb-false, reverse-append, reverse-reverse, take-append-drop, where_true, is_digit, Form, behind_digits, before_digits, has_count, has_count_in, has_end, is_before_count, is_before_json_count, without}
-use Rattle.std.specs.List.{ends_with, list_all}
+use Rattle.desk_client.proofs.Common.{Bool, Form, List, [], and-false, and_parts, ap, append_assoc, arith, before_digits, behind_digits, bytes_eq, codes, drop, drop-append_seam, ends_with, false, has_count, has_count_in, has_end, if◌then◌else◌, is_before_count, is_before_json_count, is_digit, length, length-append, length-drop, list_all, ltb-false, ltb-true, mark_of, nat_lt, nat_tests, not, refl, reverse, reverse-append, reverse-reverse, suc, sym, take, take-append-drop, take-append_seam, true, where_true, without, ℕ, ◌&&◌, ◌++◌, ◌-◌, ◌==◌, ◌||◌, ◌∙◌, ◌∷◌, ◌≡◌, ◌≤◌}
 use Rattle.std.specs.Cmp.Lexicographic.{pointwise, unequal}
-use Rattle.std.specs.Str.{bytes_eq}
-use Rattle.std.proofs.Math.Bool.{and-false}
-use Rattle.std.proofs.lemmas.Bool.Decides.{nat_tests}
 use Rattle.reports.specs.declared.form.Form.TheVariants as form
-use Rattle.desk_client.specs.Front.{mark_of}
 
 -- a byte isn't among these
 abbrev lacks : ℕ → List ℕ → Bool

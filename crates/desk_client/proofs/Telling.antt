@@ -1,7 +1,5 @@
 -- A text that goes out in parts.
-use Rattle.std.proofs.Common.{◌≡◌, ◌∙◌, ap, inl, inr, ⊎_elim, ℕ, List, ◌++◌, append_assoc, subst, sym}
-use Rattle.desk_client.proofs.Common.{Given, HasCause, HasSent, NoneFailed, SendsLine}
-use Rattle.cli_run.proofs.Parts.{cause_behind, first_part, next_part}
+use Rattle.desk_client.proofs.Common.{Given, HasCause, HasSent, List, NoneFailed, SendsLine, ap, append_assoc, cause_behind, first_part, inl, inr, next_part, subst, sym, ℕ, ⊎_elim, ◌++◌, ◌∙◌, ◌≡◌}
 
 -- its first part, or a beginning of that
 pub stopped : (whole a b : List ℕ) (old new : Given) → whole ≡ a ++ b → HasSent a old new → HasCause old new → SendsLine whole old new

@@ -1,12 +1,10 @@
 -- The command that a body of JSON says is the one whose fields it holds.
-use Rattle.std.proofs.Common.{◌≡◌, ◌∙◌, ℕ, zero, suc, ◌+◌, ◌≤◌, Bool, cond, ◌==◌, nat_lt, List, [], ◌∷◌, length, take, Option, Some, None, refl, sym, ap, subst, arith, String}
-use Rattle.desk_commands.proofs.Common.{count_by, fold, option_map, eq-eqb, eqb-true, ne_eqb, lt-ltb, ltb-true, members_view, Designator, ◌>>=◌, where_true, Command, Verb, Field, Kind, FieldValue, Text, Number, Flight, Absent, verb_of, values_of, command_of, row, places, name, kind_of, is_present, places_of}
+use Rattle.desk_commands.proofs.Common.{Absent, AreMembers, Bool, Command, Designator, Field, FieldValue, Flight, IsBodyOf, IsMember, Kind, List, None, Number, Option, Some, String, Text, Verb, [], ap, arith, body_says, command_of, cond, count_by, eq-eqb, eqb-true, fields_say, flight_member, fold, is_present, kind_of, length, lt-ltb, ltb-true, member_count, member_if_any, member_says, members_len, members_view, name, nat_lt, ne_eqb, number_member, option_map, places, places_of, refl, row, subst, suc, sym, take, text_member, values_of, verb_of, where_true, zero, ℕ, ◌+◌, ◌==◌, ◌>>=◌, ◌∙◌, ◌∷◌, ◌≡◌, ◌≤◌}
 use Rattle.std.specs.declared.alloc.Global.{Global}
 use Rattle.serde_json.specs.Data.{unsigned, Data, number, string}
 use Rattle.serde_json.specs.Find.{as_object, get}
 use Rattle.serde_json.specs.declared.value.Value.{Value}
 use Rattle.desk_commands.specs.declared.verb.Kind.TheVariants as kind
-use Rattle.desk_commands.specs.Body.{members_len, member_count, IsMember, AreMembers, IsBodyOf, text_member, number_member, flight_member, member_says, member_if_any, fields_say, body_says}
 use Rattle.desk_commands.proofs.EachVerb.{made_again, fits, made_of_list}
 use Rattle.desk_commands.proofs.Fit.{values_in_places, Fits, AreFit}
 use Rattle.desk_commands.proofs.Made.{IsTyped, AreTyped}

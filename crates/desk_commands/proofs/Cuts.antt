@@ -1,7 +1,5 @@
 -- A text that is cut at its first end of a line.
-use Rattle.std.proofs.Common.{◌≡◌, ℕ, ◌+◌, ◌<◌, Bool, true, false, List, [], ◌∷◌, length, take, drop, refl, sym, ap, ◌∙◌, subst, arith}
-use Rattle.desk_commands.proofs.Common.{not, onto_first, position_or_len, cond-true, cond-false, is_end, lines_of}
-use Rattle.std.proofs.lemmas.List.Splits.{slice_split_first}
+use Rattle.desk_commands.proofs.Common.{Bool, List, [], ap, arith, cond-false, cond-true, drop, false, is_end, length, lines_of, not, onto_first, position_or_len, refl, slice_split_first, subst, sym, take, true, ℕ, ◌+◌, ◌<◌, ◌∙◌, ◌∷◌, ◌≡◌}
 
 pub cut_at : (text : List ℕ) (place : ℕ) → place ≡ position_or_len is_end text → place < length text → lines_of text ≡ take place text ∷ lines_of (drop (place + 1) text)
 cut_at text place e lt =

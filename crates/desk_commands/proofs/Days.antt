@@ -1,8 +1,6 @@
 -- Days and their texts.
-use Rattle.std.proofs.Common.{◌≡◌, ◌∙◌, ◌<◌, ◌≤◌, Bool, true, false, ◌&&◌, ◌||◌, ◌==◌, cond, subst, arith, ℕ, List, [], ◌∷◌, ◌++◌, Option, Some, None, refl, sym, ap}
+use Rattle.desk_commands.proofs.Common.{Bool, CalendarDay, IsCalendarDay, IsMomentDay, List, None, Option, Some, [], and_from, and_parts, ap, arith, bytes_eq, bytes_eq-refl, bytes_eq-true, cond, date_in, date_on, date_part, day_in_year, days_after, decimal_value, decimal_value-padded, digits-padded, false, has_digits, if_written, is_calendar_day, is_moment_day, le-leb, leb-true, named_day, padded, pos, refl, subst, sym, true, year_of, year_part, ℕ, ◌&&◌, ◌++◌, ◌<◌, ◌==◌, ◌>>=◌, ◌||◌, ◌∙◌, ◌∷◌, ◌≡◌, ◌≤◌}
 use Rattle.std.specs.Option.{option_map}
-use Rattle.desk_commands.proofs.Common.{pos, and_parts, and_from, le-leb, leb-true, digits-padded, decimal_value-padded, bytes_eq-true, bytes_eq-refl, padded, decimal_value, ◌>>=◌, CalendarDay, IsCalendarDay, IsMomentDay, is_moment_day, day_in_year, year_of, date_on, days_after, date_in, date_part, has_digits, is_calendar_day, named_day, if_written, year_part}
-use Rattle.std.specs.Str.{bytes_eq}
 use Rattle.jiff_core.specs.Calendar.{days_in_month, is_leap_year}
 use Rattle.station_days.proofs.DateLaws.{year_high}
 use Rattle.station_days.proofs.DateOnLaws.{IsDateAfter, date_of_moment, date_names_day}

@@ -1,9 +1,5 @@
 -- What is shown verb by verb: a further verb has a case in each lemma here, and in no other file of proofs.
-use Rattle.std.proofs.Common.{◌≡◌, List, [], ◌∷◌, length, Option, Some, None, refl, take, subst}
-use Rattle.desk_commands.proofs.Common.{prefix_of, serial_of, Command, Verb, FieldValue, verb_of, values_of, IsCommand, command_in, command_of, row}
-use Rattle.agent_stock.specs.declared.stock.Order.TheVariants.{TakeIn, Issue, GiveBack, Void}
-use Rattle.shipment_machine.specs.declared.command.DeskCommand.TheVariants.{Book, Amend, Receive, Withdraw, Manifest, Offload, Reroute, Depart, CheckIn, Strike, Notify, Deliver, Transfer, Missing, Found, Confirm}
-use Rattle.desk_commands.specs.declared.command.Command.TheVariants.{Stock, Cargo}
+use Rattle.desk_commands.proofs.Common.{Amend, Book, Cargo, CheckIn, Command, Confirm, Deliver, Depart, FieldValue, Found, GiveBack, IsCommand, Issue, List, Manifest, Missing, None, Notify, Offload, Option, Receive, Reroute, Some, Stock, Strike, TakeIn, Transfer, Verb, Void, Withdraw, [], command_in, command_of, length, prefix_of, refl, row, serial_of, subst, take, values_of, verb_of, ◌∷◌, ◌≡◌}
 use Rattle.desk_commands.specs.declared.verb.Verb.TheVariants as verb
 use Rattle.desk_commands.proofs.Free.{free_padded, free_number, free_day, free_airport, free_carrier, free_name, free_goods, free_agent}
 use Rattle.desk_commands.proofs.Fields.{awb_is, airport_is, airline_is, pieces_is, tenths_is, name_is, goods_is, agent_is, counted_is, number_is, run_is, flight_date_is, awb_again, airport_again, airline_again, pieces_again, tenths_again, name_again, goods_again, agent_again, counted_again, run_again, flight_date_again, flight_if_any_again}

@@ -1,10 +1,6 @@
 -- Commands and their texts, computed.
-use Rattle.std.proofs.Common.{◌≡◌, ℕ, None, Some, List, [], ◌∷◌, ◌++◌, refl}
-use Rattle.desk_commands.proofs.Common.{codes, FlightDate, command_text}
+use Rattle.desk_commands.proofs.Common.{Book, Cargo, Depart, FlightDate, Issue, List, Missing, None, Some, Stock, [], codes, command_text, refl, ℕ, ◌++◌, ◌∷◌, ◌≡◌}
 use Rattle.std.specs.Fmt.{digits}
-use Rattle.agent_stock.specs.declared.stock.Order.TheVariants.{Issue}
-use Rattle.shipment_machine.specs.declared.command.DeskCommand.TheVariants.{Book, Depart, Missing}
-use Rattle.desk_commands.specs.declared.command.Command.TheVariants.{Stock, Cargo}
 use Rattle.desk_commands.specs.Day.{day_line}
 
 -- a text and a line behind it

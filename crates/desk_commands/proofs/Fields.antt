@@ -1,18 +1,12 @@
 -- One field: what is read of it, and that what it holds is read again.
-use Rattle.std.proofs.Common.{◌≡◌, ◌∙◌, ℕ, ◌<◌, ◌≤◌, ◌^◌, Bool, true, false, ◌&&◌, ◌==◌, nat_le, List, length, Option, Some, None, refl, sym, ap, subst, arith}
-use Rattle.desk_commands.proofs.Common.{Result, Ok, Err, IsTrue, IfSome, list_all, and_parts, and_from, eqb-true, eq-eqb, le-leb, leb-true, is_digit, decimal_value, padded, IsNumber, prefix_of, serial_of, digits-padded, decimal_value-padded, padded-decimal_value, decimal_value_bound, is_carrier, IsPieces, IsTenths, IsMomentDay, Designator, ◌>>=◌, where_true, FlightDate, FieldValue, Text, Number, Flight, prefix_text, serial_text, number, flight, day, flight_if_any, day_if_any, IsRun, IsFlightDate, IsAirport, text_in, number_in, flight_in, digits_of, digits_in, awb_of, awb_in, airport_in, airline_in, name_in, goods_in, agent_in, pieces_in, tenths_in, counted_in, count_in, run_in, flight_date_in, flight_if_any_in}
+use Rattle.desk_commands.proofs.Common.{Bool, Designator, Err, FieldValue, Flight, FlightDate, IfSome, IsAirport, IsCount, IsFlightDate, IsMomentDay, IsNumber, IsPieces, IsRun, IsTenths, IsTrue, List, None, Number, Ok, Option, Result, Some, Text, agent_in, airline_in, airport_in, and_from, and_parts, ap, arith, awb_in, awb_of, count_in, counted_in, day, day_if_any, day_of, decimal_value, decimal_value-padded, decimal_value_bound, digits-padded, digits_in, digits_of, eq-eqb, eqb-true, false, flight, flight_date_in, flight_if_any, flight_if_any_in, flight_in, goods_in, is_agent_code, is_airport, is_carrier, is_digit, is_goods, is_name, le-leb, leb-true, length, list_all, name_in, nat_le, number, number_in, padded, padded-decimal_value, pieces_in, prefix_of, prefix_text, refl, run_in, serial_of, serial_text, subst, sym, tenths_in, text_in, true, where_true, ℕ, ◌&&◌, ◌<◌, ◌==◌, ◌>>=◌, ◌^◌, ◌∙◌, ◌≡◌, ◌≤◌}
 use Rattle.std.specs.Result.{result_ok, MatchResult}
 use Rattle.std.specs.Array.{IsWholeChunk}
 use Rattle.awb_number.specs.Number.{number_of}
 use Rattle.awb_number.specs.declared.awb.AwbFault.{AwbFault}
 use Rattle.awb_number.proofs.Keys.{prefix_of-key, serial_of-key, key_of-parts, key_in_range, prefix_in_range, serial_in_range}
 use Rattle.awb_number.proofs.NumberLaws.{number_again, number_takes}
-use Rattle.imp_fields.specs.Airport.{is_airport}
-use Rattle.imp_fields.specs.Name.{is_name, is_goods}
-use Rattle.agent_stock.specs.Code.{is_agent_code}
 use Rattle.agent_stock.specs.declared.stock.Run.{Run}
-use Rattle.shipment_machine.specs.Amount.{IsCount}
-use Rattle.desk_commands.specs.Day.{day_of}
 use Rattle.desk_commands.proofs.Days.{day_is, day_again}
 use Rattle.desk_commands.proofs.Steps.{some_is, passed, passes, reads}
 

@@ -1,7 +1,5 @@
 -- What fields hold fits their kinds.
-use Rattle.std.proofs.Common.{◌≡◌, ◌<◌, ◌≤◌, ℕ, true, List, [], ◌∷◌, length, arith, zero, suc}
-use Rattle.desk_commands.proofs.Common.{⊤, IsPieces, IsTenths, IsDesignator, Field, Kind, FieldValue, Text, Number, Flight, Absent, kind_of}
-use Rattle.shipment_machine.specs.Amount.{IsCount}
+use Rattle.desk_commands.proofs.Common.{Absent, Field, FieldValue, Flight, IsCount, IsDesignator, IsPieces, IsTenths, Kind, List, Number, Text, [], arith, kind_of, length, suc, true, zero, ℕ, ⊤, ◌<◌, ◌∷◌, ◌≡◌, ◌≤◌}
 use Rattle.desk_commands.specs.declared.verb.Kind.TheVariants as kind
 use Rattle.desk_commands.specs.Day.{day_line}
 use Rattle.desk_commands.proofs.Free.{free}

@@ -1,13 +1,6 @@
 -- Texts that hold no end of a line.
-use Rattle.std.proofs.Common.{◌≡◌, ◌∙◌, ◌<◌, ◌^◌, ℕ, Bool, true, false, List, [], ◌∷◌, ◌++◌, refl, sym, ap, arith}
-use Rattle.desk_commands.proofs.Common.{not, decimal, list_all, and_parts, and_from, not_from_false, ne_eqb, is_digit, is_letter, is_letter_or_digit, padded, number_text, prefix_of, serial_of, check_digit, digits-padded, year_of, date_on, Designator, IsDesignator, flight_text, is_carrier, is_end}
-use Rattle.std.proofs.lemmas.List.Folds.{list_all-append}
-use Rattle.imp_fields.specs.Airport.{is_airport}
-use Rattle.imp_fields.specs.Characters.{is_printable}
-use Rattle.imp_fields.specs.Name.{is_name, is_goods}
-use Rattle.imp_fields.proofs.FieldLaws.{flight_code}
+use Rattle.desk_commands.proofs.Common.{Bool, Designator, IsDesignator, List, [], and_from, and_parts, ap, arith, check_digit, date_on, decimal, digits-padded, false, flight_code, flight_text, is_agent_code, is_airport, is_carrier, is_digit, is_end, is_goods, is_letter, is_letter_or_digit, is_name, is_printable, list_all, list_all-append, ne_eqb, not, not_from_false, number_text, padded, prefix_of, refl, serial_of, sym, true, year_of, ℕ, ◌++◌, ◌<◌, ◌^◌, ◌∙◌, ◌∷◌, ◌≡◌}
 use Rattle.imp_fields.proofs.WrittenLaws.{all_weaker, decimal_digits}
-use Rattle.agent_stock.specs.Code.{is_agent_code}
 use Rattle.desk_commands.specs.Day.{day_line}
 
 abbrev pub free : List ℕ → Bool

@@ -1,16 +1,11 @@
 -- What a field holds is read again from its line, and what is read of a line is written so.
-use Rattle.std.proofs.Common.{◌≡◌, ◌∙◌, ℕ, zero, suc, ◌+◌, ◌-◌, ◌*◌, ◌/◌, ◌%◌, ◌<◌, ◌≤◌, ◌^◌, Bool, true, false, ◌&&◌, ◌||◌, ◌==◌, nat_le, List, [], ◌∷◌, ◌++◌, length, take, drop, take_while, Option, Some, None, refl, sym, ap, subst, arith}
-use Rattle.desk_commands.proofs.Common.{decimal, not, slice_index, fold, IsTrue, IfSome, list_all, and_parts, and_from, or_right, eq-eqb, eqb-true, ne_eqb, not_from_false, le-leb, lt-ltb, leb-true, ltb-true, is_digit, is_letter, decimal_value, is_digit_from, is_digit_bounds, decimal_value-last, decimal_value_bound, count_of, Designator, IsDesignator, flight_of, flight_text, is_carrier, suffix_of, ◌>>=◌, bytes_eq-refl, bytes_eq-true, Kind, FieldValue, Text, Number, Flight, Absent, line_of, is_number, number_of, written_flight_of, number_value, flight_value, flight_value_if_any, text_value_if_any, line_says}
-use Rattle.std.specs.Str.{bytes_eq}
+use Rattle.desk_commands.proofs.Common.{Absent, Bool, Designator, FieldValue, Flight, IfSome, IsDesignator, IsTrue, Kind, List, None, Number, Option, Some, Text, [], and_from, and_parts, ap, arith, bytes_eq, bytes_eq-refl, bytes_eq-true, count_of, decimal, decimal_value, decimal_value-last, decimal_value_bound, drop, drop_while, eq-eqb, eqb-true, false, flight_again, flight_of, flight_text, flight_value, flight_value_if_any, fold, is_carrier, is_digit, is_digit_bounds, is_digit_from, is_letter, is_number, le-leb, leb-true, length, line_of, line_says, list_all, list_all-append, lt-ltb, ltb-true, nat_le, ne_eqb, not, not_from_false, number_of, number_value, or_right, refl, slice_index, subst, suc, suffix_of, sym, take, take_while, text_value_if_any, true, written_flight_of, zero, ℕ, ◌%◌, ◌&&◌, ◌*◌, ◌++◌, ◌+◌, ◌-◌, ◌/◌, ◌<◌, ◌==◌, ◌>>=◌, ◌^◌, ◌||◌, ◌∙◌, ◌∷◌, ◌≡◌, ◌≤◌}
 use Rattle.std.specs.Char.{digit_value}
 use Rattle.std.specs.Str.Parse.{AllDigits, digits_value, digits_value_after}
 use Rattle.std.proofs.Math.Nat.{pow-le-pow_right}
 use Rattle.std.proofs.lemmas.Fmt.{decimal_by_steps, decimal_digit, decimal_nonempty, first_decimal, length-decimal-le, decimal-digits_value}
-use Rattle.std.proofs.lemmas.List.Folds.{list_all-append}
 use Rattle.std.proofs.lemmas.Str.{digit_value_digit}
 use Rattle.std.proofs.lemmas.Str.Parse.{numerals_by_value, tells_digits}
-use Rattle.imp_fields.specs.Characters.{drop_while}
-use Rattle.imp_fields.proofs.FieldLaws.{flight_again}
 use Rattle.desk_commands.specs.declared.verb.Kind.TheVariants as kind
 use Rattle.desk_commands.proofs.Fit.{Fits}
 use Rattle.desk_commands.proofs.Free.{free, free_decimal, free_flight}

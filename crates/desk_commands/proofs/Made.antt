@@ -1,6 +1,5 @@
 -- What fields hold by their types, and the flight that may be left out.
-use Rattle.std.proofs.Common.{◌≡◌, ◌<◌, List, [], ◌∷◌, Option, Some, None, refl, subst}
-use Rattle.desk_commands.proofs.Common.{⊤, IfSome, IsDesignator, ◌>>=◌, FlightDate, FieldValue, Text, Number, Flight, Absent, flight_if_any, day_if_any, IsFlightDate, flight_date_in, flight_if_any_in}
+use Rattle.desk_commands.proofs.Common.{Absent, FieldValue, Flight, FlightDate, IfSome, IsDesignator, IsFlightDate, List, None, Number, Option, Some, Text, [], day_if_any, flight_date_in, flight_if_any, flight_if_any_in, refl, subst, ⊤, ◌<◌, ◌>>=◌, ◌∷◌, ◌≡◌}
 use Rattle.desk_commands.proofs.Fields.{IsFlightValues, flight_date_is}
 use Rattle.desk_commands.proofs.Steps.{some_is, reads}
 

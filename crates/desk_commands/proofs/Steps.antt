@@ -1,6 +1,5 @@
 -- Fields read one after the other.
-use Rattle.std.proofs.Common.{◌≡◌, Bool, true, false, Option, Some, None, refl}
-use Rattle.desk_commands.proofs.Common.{◌>>=◌, where_true}
+use Rattle.desk_commands.proofs.Common.{Bool, None, Option, Some, false, refl, true, where_true, ◌>>=◌, ◌≡◌}
 
 pub some_is : {A : Type 0} (x y : A) → ◌≡◌ {A = Option A} (Some x) (Some y) → x ≡ y
 some_is x y e = cc e

@@ -1,7 +1,5 @@
 -- A command's text is read as that command, and what is read has that text.
-use Rattle.std.proofs.Common.{◌≡◌, ◌∙◌, ℕ, zero, suc, ◌≤◌, Bool, true, false, nat_le, List, [], ◌∷◌, ◌++◌, length, take, map, Option, Some, None, refl, sym, ap, subst, arith}
-use Rattle.desk_commands.proofs.Common.{⊤, IfSome, join_with_byte, onto_first, and_parts, cond-false, not-true, le-leb, leb-true, ◌>>=◌, where_true, Command, Verb, Field, FieldValue, verb_of, values_of, command_text, IsCommand, command_of, kind_of, word, verb_called, row, places, line_of, is_end, lines_of, lines_left, IsNext, places_of, places_say, lines_say, lines_command, text_says}
-use Rattle.std.proofs.lemmas.List.Splits.{join_with_byte-slice_split, length-slice_split}
+use Rattle.desk_commands.proofs.Common.{Bool, Command, Field, FieldValue, IfSome, IsCommand, IsNext, List, None, Option, Some, Verb, [], and_parts, ap, arith, command_of, command_text, cond-false, false, is_end, join_with_byte, join_with_byte-slice_split, kind_of, le-leb, leb-true, length, length-slice_split, line_of, lines_command, lines_left, lines_of, lines_say, map, nat_le, not-true, onto_first, places, places_of, places_say, refl, row, subst, suc, sym, take, text_says, true, values_of, verb_called, verb_of, where_true, word, zero, ℕ, ⊤, ◌++◌, ◌>>=◌, ◌∙◌, ◌∷◌, ◌≡◌, ◌≤◌}
 use Rattle.desk_commands.proofs.EachVerb.{made_again, fits, made_of_list}
 use Rattle.desk_commands.proofs.Fit.{values_in_places, AreFit}
 use Rattle.desk_commands.proofs.Free.{free}

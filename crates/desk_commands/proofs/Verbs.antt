@@ -1,6 +1,5 @@
 -- Every verb: its word, and its row.
-use Rattle.std.proofs.Common.{◌≡◌, true, List, [], ◌∷◌, refl, ap, ◌≤◌, suc, length, map, nat_le, arith}
-use Rattle.desk_commands.proofs.Common.{slice_get, leb-true, Verb, word, row, places, Command, Field, FieldValue, IsCommand, verb_of, values_of, places_of}
+use Rattle.desk_commands.proofs.Common.{Command, Field, FieldValue, IsCommand, List, Verb, [], ap, arith, leb-true, length, map, nat_le, places, places_of, refl, row, slice_get, suc, true, values_of, verb_of, word, ◌∷◌, ◌≡◌, ◌≤◌}
 use Rattle.desk_commands.proofs.EachVerb.{fits}
 use Rattle.desk_commands.proofs.Fit.{AreFit}
 use Rattle.desk_commands.proofs.Free.{free}

@@ -1,6 +1,5 @@
 -- Words of verbs. What holds of each verb of the list holds of every verb.
-use Rattle.std.proofs.Common.{◌≡◌, ◌∙◌, ℕ, Bool, true, false, cond, List, [], ◌∷◌, Some, refl, sym, ap}
-use Rattle.desk_commands.proofs.Common.{find, list_all, and_parts, bytes_eq-true, Verb, word, is_word, verbs, verb_called}
+use Rattle.desk_commands.proofs.Common.{Bool, List, Some, Verb, [], and_parts, ap, bytes_eq-true, cond, false, find, is_word, list_all, refl, sym, true, verb_called, verbs, word, ℕ, ◌∙◌, ◌∷◌, ◌≡◌}
 use Rattle.desk_commands.specs.declared.verb.Verb.TheVariants as verb
 use Rattle.desk_commands.proofs.Steps.{some_is}
 

@@ -1,6 +1,5 @@
 -- Texts that are appended one behind the other.
-use Rattle.std.proofs.Common.{◌≡◌, ℕ, ◌+◌, ◌<◌, ◌≤◌, List, [], ◌∷◌, ◌++◌, length, take, map, get_or, Result, Ok, Err, refl, sym, ap, ◌∙◌, append_assoc, arith}
-use Rattle.ffm_text.proofs.Common.{OnOk, append-nil, map-append, take_at, take_more, take-take, length-append, sent_text, Begins, line_text}
+use Rattle.ffm_text.proofs.Common.{Begins, Err, List, Ok, OnOk, Result, [], ap, append-nil, append_assoc, arith, get_or, length, length-append, line_text, map, map-append, refl, sent_text, sym, take, take-take, take_at, take_more, ℕ, ◌++◌, ◌+◌, ◌<◌, ◌∙◌, ◌∷◌, ◌≡◌, ◌≤◌}
 
 pub joined : (old was now a b : List ℕ) → was ≡ old ++ a → now ≡ was ++ b → now ≡ old ++ (a ++ b)
 joined old was now a b first next = next ∙ ap (λ t. t ++ b) first ∙ append_assoc old a b

@@ -1,10 +1,7 @@
 -- Worked examples of manifests, computed.
-use Rattle.std.proofs.Common.{◌≡◌, ℕ, zero, suc, List, [], ◌∷◌, ◌++◌, length, take, Option, Some, None, Result, Ok, Err, Bool, true, refl}
-use Rattle.ffm_text.proofs.Common.{codes, ◌&&◌, ◌==◌, nat_le, nat_lt, if◌then◌else◌, key_of, Shipment, Designator, CalendarDay, Why, normal_lines, fault_at, sent_text, Load, Manifest, Unloaded, IsFfm, ffm_fault, flight_line_of, unloading_point, ffm_lines, manifest_written}
+use Rattle.ffm_text.proofs.Common.{Bool, CalendarDay, Designator, Err, IsFfm, List, Load, Manifest, None, Ok, Option, Result, Shipment, ShipmentCode, Some, TextFault, Unloaded, Why, [], codes, fault_at, ffm_fault, ffm_lines, flight_line_of, if◌then◌else◌, key_of, length, manifest_written, nat_le, nat_lt, normal_lines, refl, sent_text, suc, take, true, unloading_point, zero, ℕ, ◌&&◌, ◌++◌, ◌==◌, ◌∷◌, ◌≡◌}
 use Rattle.std.specs.Fmt.{digits}
 use Rattle.imp_fields.specs.declared.fault.Why.TheVariants as why
-use Rattle.imp_fields.specs.declared.fault.TextFault.{TextFault}
-use Rattle.imp_fields.specs.declared.amount.ShipmentCode.{ShipmentCode}
 use Rattle.imp_fields.specs.declared.amount.ShipmentCode.TheVariants.{Split}
 
 abbrev shipment : ShipmentCode → ℕ → ℕ → Option ℕ → List ℕ → Shipment

@@ -1,6 +1,5 @@
 -- Loads, each of which is as its types allow.
-use Rattle.std.proofs.Common.{List, [], ◌∷◌}
-use Rattle.ffm_text.proofs.Common.{All, All-head, All-tail, Load, IsLoad, AreLoads}
+use Rattle.ffm_text.proofs.Common.{All, All-head, All-tail, AreLoads, IsLoad, List, Load, [], ◌∷◌}
 
 pub are_loads : (loads : List Load) → All IsLoad loads → AreLoads loads
 are_loads [] h = tt

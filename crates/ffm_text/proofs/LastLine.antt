@@ -1,9 +1,7 @@
 -- The last of some lines, and whether it ends a manifest.
-use Rattle.std.proofs.Common.{◌≡◌, ℕ, ◌+◌, ◌-◌, Bool, true, false, List, [], ◌∷◌, length, Some, refl, sym, ap, ◌∙◌, add-one, arith}
+use Rattle.ffm_text.proofs.Common.{Bool, List, Some, Token, [], add-one, ap, arith, codes, false, has_last_line, is_last_line, length, length-map, option_map, or_left, refl, slice_get, sym, texts_of, true, ℕ, ◌+◌, ◌-◌, ◌||◌, ◌∙◌, ◌∷◌, ◌≡◌}
 use Rattle.std.specs.Str.{bytes_eq}
-use Rattle.ffm_text.proofs.Common.{codes, ◌||◌, slice_get, option_map, or_left, length-map, is_last_line, has_last_line, texts_of}
 use Rattle.std.proofs.lemmas.Option.{slice_get-map}
-use Rattle.imp_fields.specs.declared.token.Token.{Token}
 
 next_of : {X : Type 0} (x : X) (xs : List X) (n : ℕ) → slice_get (x ∷ xs) (n + 1) ≡ slice_get xs n
 next_of x xs n = rw add-one refl

@@ -1,8 +1,6 @@
 -- Lines are a part of a manifest exactly where they have no fault, and then one part only.
-use Rattle.std.proofs.Common.{◌≡◌, ℕ, Bool, true, false, List, [], ◌∷◌, ◌++◌, Option, Some, None, Result, Ok, Err, refl, sym, ap, ◌∙◌, inl, inr}
-use Rattle.ffm_text.proofs.Common.{codes, MatchBool, is_some, cases_Bool, cond-true, cond-false, MatchBool-at_true, MatchBool-at_false, not_from_false, not-true, Shipment, consignment_of, is_head, Why, FlightLine, Unloaded, Manifest, flight_line_of, last_point, is_cargo_line, IsCargo, has_last_line, IsFfm, ordered_fault, cargo_faults, ffm_line_faults, ffm_fault}
+use Rattle.ffm_text.proofs.Common.{AllNone, Bool, Err, FlightLine, IsCargo, IsFfm, List, Manifest, MatchBool, MatchBool-at_false, MatchBool-at_true, None, Ok, Option, Result, Shipment, Some, Unloaded, Why, [], ap, cargo_faults, cases_Bool, codes, cond-false, cond-true, consignment_of, err_of-none, err_of-ok, false, fault_in-all_none, fault_in-none, ffm_fault, ffm_line_faults, flight_line_of, has_last_line, inl, inr, is_cargo_line, is_head, is_some, last_point, not-true, not_from_false, ordered_fault, refl, sym, true, unless_true-holds, unless_true-none, ℕ, ◌++◌, ◌∙◌, ◌∷◌, ◌≡◌}
 use Rattle.imp_fields.specs.declared.fault.Why.TheVariants as why
-use Rattle.imp_fields.proofs.FaultLaws.{AllNone, unless_true-none, unless_true-holds, err_of-none, err_of-ok, fault_in-none, fault_in-all_none}
 
 pub match_true : (b : Bool) (P Q : Type 0) → b ≡ true → P → MatchBool b P Q
 match_true true P Q e p = p

@@ -1,6 +1,5 @@
 -- One more line of a manifest was seen.
-use Rattle.std.proofs.Common.{◌≡◌, ℕ, true, false, List, [], ◌∷◌, ◌++◌, take, drop, map, Option, Some, None, Ok, inl, inr, refl, sym, ap, ◌∙◌, subst, append_assoc}
-use Rattle.ffm_text.proofs.Common.{filter, filter_map, AllZip, last_or, cons_option, cases_Bool, cond-true, cond-false, MatchBool-at_true, MatchBool-at_false, not-true, not_from_false, and_left, and_right, append-nil, map-append, filter-append, filter_map-append, consignment_of, HasSpans, Unloaded, may_follow_point, unloading_point, last_point, is_cargo_line, IsCargo, unloaded_of, AreCargo}
+use Rattle.ffm_text.proofs.Common.{AllZip, AreCargo, HasSpans, IsCargo, List, MatchBool-at_false, MatchBool-at_true, None, Ok, Option, Some, Unloaded, [], and_left, and_right, ap, append-nil, append_assoc, cases_Bool, cond-false, cond-true, cons_option, consignment_of, drop, false, filter, filter-append, filter_map, filter_map-append, inl, inr, is_cargo_line, last_or, last_point, map, map-append, may_follow_point, not-true, not_from_false, refl, subst, sym, take, true, unloaded_of, unloading_point, ℕ, ◌++◌, ◌∙◌, ◌∷◌, ◌≡◌}
 use Rattle.ffm_text.specs.declared.FfmLine.{FfmLine}
 use Rattle.ffm_text.proofs.Laws.{match_true, match_false}
 

@@ -1,19 +1,11 @@
 -- The lines of a written manifest are normal lines of what is sent.
-use Rattle.std.proofs.Common.{◌≡◌, ℕ, ◌+◌, ◌*◌, ◌/◌, ◌%◌, ◌<◌, ◌≤◌, Bool, true, false, List, [], ◌∷◌, ◌++◌, length, map, Option, Some, None, Ok, refl, ap, ◌∙◌, arith}
-use Rattle.ffm_text.proofs.Common.{codes, decimal, IfSome, not, nat_le, ◌&&◌, list_all, and_parts, and_from, eqb-true, leb-true, length-append, length-map, append-nil, number_text, prefix_of, serial_of, check_digit, IsPieces, Designator, IsDesignator, flight_text, CalendarDay, IsCalendarDay, date_text, is_airport, goods_text, sent_text, normal_lines, Load, cargo_of, flight_line_text, ffm_lines, IsLoad, AreLoads, load_line, route_text, amount_text}
+use Rattle.ffm_text.proofs.Common.{AreLoads, Bool, CalendarDay, Designator, IfSome, IsCalendarDay, IsCode, IsDesignator, IsLoad, IsPieces, List, Load, None, Ok, Option, ShipmentCode, Some, [], airport_code, amount_text, and_from, and_parts, ap, append-nil, arith, cargo_of, check_digit, code_letter, codes, date_code, date_text, decimal, digits-padded, eqb-true, false, ffm_lines, flight_code, flight_line_text, flight_text, goods_text, is_airport, is_blank, is_digit, is_letter_or_digit, is_printable, is_unread, leb-true, length, length-append, length-map, list_all, load_line, map, nat_le, normal_lines, not, number_text, padded, prefix_of, quantity_text, quantity_unread, refl, route_text, sent_text, serial_of, total_text, true, weight_text, ℕ, ◌%◌, ◌&&◌, ◌*◌, ◌++◌, ◌+◌, ◌/◌, ◌<◌, ◌∙◌, ◌∷◌, ◌≡◌, ◌≤◌}
 use Rattle.std.proofs.lemmas.Bool.Decides.{nat_tests}
 use Rattle.std.proofs.lemmas.List.Folds.{list_all-append}
-use Rattle.awb_number.specs.Digits.{is_digit, is_letter_or_digit, padded}
-use Rattle.awb_number.proofs.Padded.{digits-padded}
-use Rattle.imp_fields.specs.Characters.{is_printable, is_blank}
-use Rattle.imp_fields.specs.Quantity.{is_unread, quantity_text, weight_text, total_text, code_letter}
 use Rattle.imp_fields.specs.Name.{is_goods, ends_in_blank}
-use Rattle.imp_fields.specs.declared.amount.ShipmentCode.{ShipmentCode}
-use Rattle.imp_fields.proofs.FieldLaws.{IsCode, airport_code, date_code, flight_code}
 use Rattle.imp_fields.proofs.PutLaws.{length_decimal_short, length_decimal_five}
 use Rattle.imp_fields.proofs.SentLaws.{IsPlain, ArePlain, sent_normal, plain_line, ends_as_last, ends_in_none}
 use Rattle.imp_fields.proofs.WrittenLaws.{all_weaker}
-use Rattle.imp_fields.proofs.ConsignmentLaws.{quantity_unread}
 use Rattle.ffm_text.proofs.WrittenLaws.{cargo_line}
 
 -- a line that may be sent, and is short

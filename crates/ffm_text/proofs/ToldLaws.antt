@@ -1,17 +1,11 @@
 -- Which faults of a manifest's lines are reported.
-use Rattle.std.proofs.Common.{◌≡◌, ℕ, suc, ◌+◌, ◌-◌, ◌<◌, ◌≤◌, Bool, true, false, cond, List, [], ◌∷◌, ◌++◌, length, take, drop, get_or, add-one, Option, Some, None, Result, Ok, Err, refl, sym, ap, ◌∙◌, subst, append_assoc, arith}
-use Rattle.ffm_text.proofs.Common.{option_map, option_and_then, slice_range, codes, count_of, airport_of, cond-true, cond_both, number_of, Shipment, consignment_of, consignment_by, has_consignment_shape, quantity_part, fault_at, first_fault, IsFaultBy, IsFaultOf, Why, field, date_in, last_point, is_cargo_line, ordered_fault, cargo_fault, cargo_faults, flight_line_of, has_last_line, ffm_line_faults, ffm_fault, FlightLine, Unloaded, IsCargo, Designator, flight_of, CalendarDay, append-nil, map-append, length-map, length-take-le, take-append-drop, take_all, is_head, err_of, fault_in, texts_of}
+use Rattle.ffm_text.proofs.Common.{AllNone, Bool, CalendarDay, Designator, Err, FlightLine, IsCargo, IsFaultBy, IsFaultOf, List, None, Ok, Option, Result, Shipment, Some, TextFault, Token, Unloaded, Why, [], add-one, airport_of, ap, append-nil, append_assoc, arith, cargo_fault, cargo_faults, codes, cond, cond-true, cond_both, consignment_by, consignment_of, count_of, date_in, drop, err_of, err_of-ok, false, fault_at, fault_in, ffm_fault, ffm_line_faults, field, first_fault, first_fault-all_none, flight_line_of, flight_of, get_or, has_consignment_shape, has_last_line, is_cargo_line, is_head, last_point, length, length-map, length-take-le, map-append, need, number_of, option_and_then, option_map, ordered_fault, quantity_of, quantity_part, refl, slice_range, subst, suc, sym, take, take-append-drop, take_all, texts_of, true, unless_true-holds, ℕ, ◌++◌, ◌+◌, ◌-◌, ◌<◌, ◌>>=◌, ◌∙◌, ◌∷◌, ◌≡◌, ◌≤◌}
 use Rattle.awb_number.specs.declared.awb.AwbFault.{AwbFault}
-use Rattle.imp_fields.specs.Quantity.{quantity_of}
 use Rattle.imp_fields.specs.declared.amount.Quantity.{Quantity}
-use Rattle.imp_fields.specs.Checks.{◌>>=◌, need}
 use Rattle.imp_fields.specs.declared.fault.Why.TheVariants as why
-use Rattle.imp_fields.specs.declared.fault.TextFault.{TextFault}
-use Rattle.imp_fields.proofs.FaultLaws.{AllNone, unless_true-holds, err_of-ok, first_fault-all_none}
 use Rattle.ffm_text.proofs.Laws.{cargo_has_no_fault}
 use Rattle.std.proofs.Math.Seq.{drop-cons}
 use Rattle.station_days.specs.Steps.{or_else}
-use Rattle.imp_fields.specs.declared.token.Token.{Token}
 
 -- a fault of the text, and not of the memory
 abbrev pub IsOfText : Why → Type 0

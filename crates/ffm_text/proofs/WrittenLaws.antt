@@ -1,13 +1,6 @@
 -- A written manifest is read again.
-use Rattle.std.proofs.Common.{◌≡◌, ℕ, ◌+◌, Bool, true, false, List, [], ◌∷◌, ◌++◌, length, take, drop, map, Option, Some, None, Result, Ok, refl, ap, ◌∙◌, append_assoc, arith}
-use Rattle.ffm_text.proofs.Common.{codes, MatchBool, ◌/◌, ◌%◌, ◌&&◌, ◌==◌, not, nat_eq, filter_map, slice_get, option_and_then, IfSome, list_all, last_or, cons_option, starts_with, and_parts, and_from, and_left, and_right, or_from, not_from_false, cond-true, cond-false, cond_both, eqb-true, lt-leb, append-nil, filter_map-append, prefix_of, IsPieces, count_of, Designator, IsDesignator, flight_of, flight_text, is_airport, airport_of, CalendarDay, IsCalendarDay, date_text, consignment_text, shipment_written, Why, Load, IsLoad, AreLoads, FlightLine, Unloaded, date_in, flight_line_of, is_remark, may_follow_point, unloading_point, last_point, is_cargo_line, IsCargo, has_last_line, IsFfm, cargo_of, flight_line_text, ffm_lines, manifest_written}
-use Rattle.awb_number.specs.Digits.{is_letter}
-use Rattle.awb_number.proofs.Padded.{digits-padded}
-use Rattle.imp_fields.specs.Characters.{fields}
-use Rattle.imp_fields.specs.Checks.{◌>>=◌, need}
+use Rattle.ffm_text.proofs.Common.{AreLoads, Bool, CalendarDay, Designator, FlightLine, IfSome, IsCalendarDay, IsCargo, IsDesignator, IsFfm, IsLoad, IsPieces, IsWrittenLine, List, Load, MatchBool, None, Ok, Option, Result, Some, Unloaded, Why, [], airport_code, airport_of, and_from, and_left, and_parts, and_right, ap, append-nil, append_assoc, arith, cargo_of, codes, cond-false, cond-true, cond_both, cons_option, consignment_again, consignment_text, count_of, date_code, date_in, date_text, digits-padded, drop, eqb-true, false, ffm_lines, fields, filter_map, filter_map-append, flight_again, flight_code, flight_line_of, flight_line_text, flight_of, flight_text, has_last_line, is_airport, is_cargo_line, is_letter, is_remark, last_field, last_or, last_point, length, list_all, lt-leb, manifest_written, map, may_follow_point, nat_eq, need, not, not_from_false, option_and_then, optional_time_again, or_from, prefix_of, refl, shipment_written, slice_get, split_field, starts_with, take, true, unloading_point, ℕ, ◌%◌, ◌&&◌, ◌++◌, ◌+◌, ◌/◌, ◌==◌, ◌>>=◌, ◌∙◌, ◌∷◌, ◌≡◌}
 use Rattle.imp_fields.specs.declared.fault.Why.TheVariants as why
-use Rattle.imp_fields.proofs.ConsignmentLaws.{IsWrittenLine, consignment_again}
-use Rattle.imp_fields.proofs.FieldLaws.{flight_again, optional_time_again, flight_code, date_code, airport_code, split_field, last_field}
 
 abbrev line_of : Load → List ℕ
 line_of l = consignment_text (cargo_of l)

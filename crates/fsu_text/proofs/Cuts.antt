@@ -1,7 +1,5 @@
 -- Lines with a field more than their layout.
-use Rattle.std.proofs.Common.{◌≡◌, ℕ, ◌≤◌, List, [], ◌∷◌, length, None, refl, ap, ◌∙◌, arith}
-use Rattle.std.proofs.lemmas.List.Splits.{length-slice_split}
-use Rattle.fsu_text.proofs.Common.{fields, is_slash, received_of, differs_of}
+use Rattle.fsu_text.proofs.Common.{List, None, [], ap, arith, differs_of, fields, is_slash, length, length-slice_split, received_of, refl, ℕ, ◌∙◌, ◌∷◌, ◌≡◌, ◌≤◌}
 
 some_fields : (text : List ℕ) → 1 ≤ length (fields text)
 some_fields text = omega (arith, length-slice_split is_slash text)

@@ -1,10 +1,7 @@
 -- Worked examples of status updates, computed.
-use Rattle.std.proofs.Common.{◌≡◌, ℕ, List, [], ◌∷◌, length, take, Option, Some, None, Ok, refl}
-use Rattle.fsu_text.proofs.Common.{codes, key_of, Designator, CalendarDay, When, Shipment, normal_lines, fault_at, sent_text, Quantity, Day, Handled, ReceivedFromFlight, Carried, Differs, status_of, SentStatus, SentUpdate, IsFsu, fsu_fault, fsu_lines, sent_status_text, sent_status_reading, update_written}
+use Rattle.fsu_text.proofs.Common.{CalendarDay, Carried, Day, Designator, Differs, Handled, IsFsu, List, None, Ok, Option, Part, Quantity, ReceivedFromFlight, SentStatus, SentUpdate, Shipment, ShipmentCode, Some, Total, When, [], codes, fault_at, fsu_fault, fsu_lines, key_of, length, normal_lines, refl, sent_status_reading, sent_status_text, sent_text, status_of, take, update_written, ℕ, ◌∷◌, ◌≡◌}
 use Rattle.std.specs.Fmt.{digits}
 use Rattle.imp_fields.specs.declared.fault.Why.TheVariants as why
-use Rattle.imp_fields.specs.declared.amount.ShipmentCode.{ShipmentCode}
-use Rattle.imp_fields.specs.declared.amount.ShipmentCode.TheVariants.{Total, Part}
 use Rattle.fsu_text.specs.declared.status.Handling.TheVariants.{ReceivedFromShipper, Notified, Delivered}
 use Rattle.fsu_text.specs.declared.status.Carriage.TheVariants.{Manifested, Departed}
 use Rattle.imp_fields.specs.declared.discrepancy.Discrepancy.TheVariants.{Offloaded, Missing, Found}

@@ -1,10 +1,8 @@
 -- A status line's code decides its layout.
-use Rattle.std.proofs.Common.{◌≡◌, ℕ, Bool, true, false, List, [], ◌∷◌, Option, Some, None, refl, sym, ap, ◌∙◌, subst}
-use Rattle.fsu_text.proofs.Common.{codes, fields, or_else, where_true, Handling, Reading, handling_code, carriage_code, handling_of, carriage_of, handled_of, received_of, carried_of, differs_of, status_of}
+use Rattle.fsu_text.proofs.Common.{Bool, Carriage, Handling, List, None, Option, Reading, Some, [], ap, carriage_code, carriage_of, carried_of, codes, differs_of, false, fields, handled_of, handling_code, handling_of, or_else, received_of, refl, status_of, subst, sym, true, where_true, ℕ, ◌∙◌, ◌∷◌, ◌≡◌}
 use Rattle.std.specs.Str.{bytes_eq}
 use Rattle.imp_fields.proofs.SameFlight.{bytes_eq-true, bytes_eq-refl}
 use Rattle.fsu_text.specs.declared.status.Handling.TheVariants as handling
-use Rattle.fsu_text.specs.declared.status.Carriage.{Carriage}
 use Rattle.fsu_text.specs.declared.status.Carriage.TheVariants as carriage
 
 abbrev pub status_by : List (List ℕ) → Option Reading

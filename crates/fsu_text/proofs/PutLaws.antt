@@ -1,6 +1,5 @@
 -- What is written, piece by piece.
-use Rattle.std.proofs.Common.{◌≡◌, ℕ, ◌≤◌, List, [], ◌∷◌, ◌++◌, length, refl, ◌∙◌, append_assoc, arith}
-use Rattle.fsu_text.proofs.Common.{IsTrue, and_parts, leb-true, append-nil, is_name, name_tail}
+use Rattle.fsu_text.proofs.Common.{IsTrue, List, [], and_parts, append-nil, append_assoc, arith, is_name, leb-true, length, name_tail, refl, ℕ, ◌++◌, ◌∙◌, ◌∷◌, ◌≡◌, ◌≤◌}
 
 pub name_short : (name : List ℕ) → IsTrue (is_name name) → length name ≤ 35
 name_short name h = leb-true _ _ (and_parts _ _ (and_parts _ _ h).0).0

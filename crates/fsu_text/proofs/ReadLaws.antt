@@ -1,14 +1,11 @@
 -- What the lines of a message say, once they were read one by one.
-use Rattle.std.proofs.Common.{◌≡◌, ℕ, ◌≤◌, Bool, true, false, cond, List, [], ◌∷◌, length, map, get_or, drop, Option, Some, None, Result, Ok, Err, refl, ap, ◌∙◌, subst, arith}
-use Rattle.fsu_text.proofs.Common.{◌&&◌, codes, nat_le, take, list_all, and_parts, number_of, has_consignment_shape, quantity_part, consignment_by, consignment_of, shipment_of, quantity_of, fault_at, first_fault, IsFaultOf, or_else, is_head, unless_true, err_of, Quantity, IsFsu, fsu_fault}
+use Rattle.fsu_text.proofs.Common.{Bool, Err, IsFaultOf, IsFsu, List, None, Ok, Option, Quantity, Result, Some, Why, [], and_parts, ap, arith, codes, cond, consignment_by, consignment_of, drop, err_of, false, fault_at, first_fault, fsu_fault, get_or, has_consignment_shape, is_head, length, list_all, map, nat_le, number_of, or_else, quantity_of, quantity_part, refl, shipment_of, subst, take, true, unless_true, unless_true-holds, ℕ, ◌&&◌, ◌∙◌, ◌∷◌, ◌≡◌, ◌≤◌}
 use Rattle.awb_number.specs.declared.awb.AwbFault.{AwbFault}
 use Rattle.imp_fields.specs.Token.{is_line_token}
 use Rattle.imp_fields.specs.declared.token.Token.{Token}
-use Rattle.imp_fields.specs.declared.fault.Why.{Why}
 use Rattle.imp_fields.specs.declared.fault.Why.TheVariants as why
 use Rattle.imp_fields.specs.declared.fault.TextFault.{TextFault}
 use Rattle.imp_fields.specs.declared.line.Consignment.{Consignment}
-use Rattle.imp_fields.proofs.FaultLaws.{unless_true-holds}
 use Rattle.fsu_text.specs.declared.status.StatusLine.{StatusLine}
 use Rattle.fsu_text.specs.Trail.{is_plain}
 

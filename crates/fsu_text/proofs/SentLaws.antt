@@ -1,23 +1,11 @@
 -- What is sent is read again.
-use Rattle.std.proofs.Common.{◌≡◌, ℕ, ◌<◌, true, false, List, [], ◌∷◌, ◌++◌, length, take, drop, Option, Some, None, refl, ap, ◌∙◌, append_assoc, arith}
-use Rattle.fsu_text.proofs.Common.{◌==◌, ◌/◌, ◌%◌, not, codes, option_map, list_all, onto_first, join_with_byte, and_parts, and_from, or_left, or_right, cond-true, cond-false, not-true, eqb-true, ne_eqb, length-append, append-nil, take_at, drop_at, ◌>>=◌, or_else, fields, is_slash, Designator, flight_of, flight_text, CalendarDay, IsCalendarDay, When, date_of, minute_of, date_time_of, optional_time_of, date_text, time_text, when_text, is_name, quantity_of, written_code, is_unread, Quantity, Handling, SentStatus, SentUpdate, Reading, Day, Handled, ReceivedFromFlight, Carried, Differs, handling_code, discrepancy_code, handling_of, carriage_of, discrepancy_of, day_of, name_of, handled_by, handled_of, received_by, received_of, route_of, carried_by, carried_of, differs_by, differs_of, status_of, name_tail, amount_of, sent_status_text, written_quantity, sent_status_reading}
-use Rattle.std.proofs.lemmas.List.Folds.{list_all-append}
-use Rattle.std.proofs.lemmas.List.Splits.{join_with_byte-slice_split}
-use Rattle.awb_number.specs.Digits.{is_digit, is_letter_or_digit, padded}
-use Rattle.awb_number.proofs.Padded.{digits-padded}
+use Rattle.fsu_text.proofs.Common.{CalendarDay, Carriage, Carried, Day, Designator, Differs, Discrepancy, Handled, Handling, IsCalendarDay, IsCode, IsSent, IsUpdate, List, None, Option, Quantity, Reading, ReceivedFromFlight, SentCarriage, SentStatus, SentUpdate, Some, When, [], airport_code, all_weaker, amount_of, and_from, and_parts, ap, append-nil, append_assoc, arith, carriage_of, carried_by, carried_of, codes, cond-false, cond-true, date_again, date_code, date_of, date_text, date_time_of, day_of, differs_by, differs_of, digits-padded, discrepancy_code, discrepancy_of, drop, drop_at, eqb-true, false, fields, flight_again, flight_code, flight_of, flight_text, handled_by, handled_of, handling_code, handling_of, is_digit, is_letter_or_digit, is_name, is_slash, is_unread, join_with_byte, join_with_byte-slice_split, length, length-append, list_all, list_all-append, minute_again, minute_of, name_of, name_tail, ne_eqb, not, not-true, onto_first, option_map, optional_time_again, optional_time_of, or_else, or_left, or_right, padded, quantity_again, quantity_of, quantity_unread, received_by, received_of, refl, route_of, sent_status_reading, sent_status_text, status_of, take, take_at, time_text, true, unread_is_no_slash, when_text, written_code, written_quantity, ℕ, ◌%◌, ◌++◌, ◌/◌, ◌<◌, ◌==◌, ◌>>=◌, ◌∙◌, ◌∷◌, ◌≡◌}
 use Rattle.imp_fields.specs.Airport.{is_airport, airport_of}
-use Rattle.imp_fields.proofs.WrittenLaws.{all_weaker, quantity_again}
-use Rattle.imp_fields.proofs.ConsignmentLaws.{unread_is_no_slash, quantity_unread}
-use Rattle.imp_fields.proofs.FieldLaws.{IsCode, airport_code, date_code, flight_code, flight_again, date_again, minute_again, optional_time_again}
-use Rattle.imp_fields.specs.declared.discrepancy.Discrepancy.{Discrepancy}
 use Rattle.imp_fields.specs.declared.discrepancy.Discrepancy.TheVariants as discrepancy
 use Rattle.fsu_text.specs.declared.status.Handling.TheVariants as handling
-use Rattle.fsu_text.specs.declared.status.Carriage.{Carriage}
 use Rattle.fsu_text.specs.declared.status.Carriage.TheVariants as carriage
-use Rattle.fsu_text.specs.declared.sent.SentCarriage.{SentCarriage}
 use Rattle.fsu_text.specs.declared.sent.SentCarriage.TheVariants as leaving
 use Rattle.fsu_text.specs.declared.sent.SentStatus.TheVariants as sent
-use Rattle.fsu_text.specs.Sent.{IsSent, IsUpdate}
 
 -- ---- parts of a line that hold no slash
 

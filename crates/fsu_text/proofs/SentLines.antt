@@ -1,24 +1,12 @@
 -- The lines that are sent are normal lines.
-use Rattle.std.proofs.Common.{◌≡◌, ℕ, ◌+◌, ◌/◌, ◌%◌, ◌<◌, ◌≤◌, true, false, List, [], ◌∷◌, ◌++◌, length, None, Ok, refl, sym, ◌∙◌, subst, inl, inr, arith}
-use Rattle.fsu_text.proofs.Common.{codes, decimal, list_all, and_parts, and_from, or_cases, leb-true, le-leb, eqb-true, not-true, ne_eqb, length-append, append-nil, prefix_of, serial_of, check_digit, number_text, is_printable, is_blank, is_point, date_text, when_text, flight_text, is_name, ends_in_blank, code_letter, quantity_text, written_code, is_unread, consignment_text, normal_lines, sent_text, Handling, SentStatus, SentUpdate, handling_code, carriage_code, discrepancy_code, name_tail, IsFsu, declared_cargo, told_as, amount_of, sent_status_text, fsu_lines, update_written}
-use Rattle.std.proofs.lemmas.List.Folds.{list_all-append}
-use Rattle.awb_number.specs.Digits.{is_digit, is_letter, is_letter_or_digit, padded}
-use Rattle.awb_number.proofs.Padded.{digits-padded, length-padded, is_digit_bounds}
+use Rattle.fsu_text.proofs.Common.{Discrepancy, Handling, IsCode, IsFsu, IsSent, IsUpdate, List, None, Ok, SentCarriage, SentStatus, SentUpdate, ShipmentCode, Total, [], airport_code, all_weaker, amount_of, and_from, and_parts, append-nil, arith, carriage_code, check_digit, code_letter, codes, consignment_again, consignment_text, date_code, date_text, decimal, declared_cargo, digits-padded, discrepancy_code, ends_in_blank, eqb-true, false, flight_code, flight_text, fsu_lines, handling_code, inl, inr, is_blank, is_digit, is_digit_bounds, is_letter, is_letter_or_digit, is_name, is_point, is_printable, is_unread, le-leb, leb-true, length, length-append, length-padded, list_all, list_all-append, name_tail, ne_eqb, normal_lines, not-true, number_text, or_cases, padded, prefix_of, quantity_text, quantity_unread, refl, sent_status_text, sent_text, serial_of, subst, sym, told_as, true, update_written, when_text, written_code, ℕ, ◌%◌, ◌++◌, ◌+◌, ◌/◌, ◌<◌, ◌∙◌, ◌∷◌, ◌≡◌, ◌≤◌}
 use Rattle.imp_fields.specs.Amount.{IsPieces}
-use Rattle.imp_fields.specs.declared.amount.ShipmentCode.{ShipmentCode}
-use Rattle.imp_fields.specs.declared.amount.ShipmentCode.TheVariants.{Total}
-use Rattle.imp_fields.specs.declared.discrepancy.Discrepancy.{Discrepancy}
 use Rattle.imp_fields.specs.declared.discrepancy.Discrepancy.TheVariants as discrepancy
-use Rattle.imp_fields.proofs.WrittenLaws.{all_weaker}
 use Rattle.imp_fields.proofs.PutLaws.{length_decimal_short, length_decimal_five}
-use Rattle.imp_fields.proofs.ConsignmentLaws.{quantity_unread, consignment_again}
-use Rattle.imp_fields.proofs.FieldLaws.{IsCode, airport_code, date_code, flight_code}
 use Rattle.imp_fields.proofs.SentLaws.{IsPlain, sent_normal, plain_line, ends_as_last, ends_in_none}
 use Rattle.fsu_text.specs.declared.status.Handling.TheVariants as handling
-use Rattle.fsu_text.specs.declared.sent.SentCarriage.{SentCarriage}
 use Rattle.fsu_text.specs.declared.sent.SentCarriage.TheVariants as leaving
 use Rattle.fsu_text.specs.declared.sent.SentStatus.TheVariants as sent
-use Rattle.fsu_text.specs.Sent.{IsSent, IsUpdate}
 use Rattle.fsu_text.proofs.SentLaws.{when_code}
 
 -- a printable text of at most so many bytes

@@ -1,9 +1,7 @@
 -- The answer to an accepted input, piece by piece.
-use Rattle.std.proofs.Common.{arith, ◌≡◌, ◌∙◌, sym, ap, ℕ, ◌<◌, ◌≤◌, ◌^◌, None, List, ◌++◌, length, append_assoc, codes, decimal, refl}
+use Rattle.http_desk.proofs.Common.{List, None, ap, append_assoc, arith, codes, compact_text, decimal, json_answer, length, length-decimal-le, ok_data, refl, status_line, sym, ℕ, ◌++◌, ◌<◌, ◌^◌, ◌∙◌, ◌≡◌, ◌≤◌}
 use Rattle.std.specs.Fmt.{digits}
-use Rattle.std.proofs.lemmas.Fmt.{length-decimal-le}
 use Rattle.serde_json.proofs.OnLiterals.{serde_json_on_literals}
-use Rattle.http_desk.proofs.Common.{compact_text, status_line, ok_data, json_answer}
 
 -- a count has at most ten digits, and the length of the body few
 pub ten_digits : (n : ℕ) → n < 2 ^ 32 → length (decimal n) ≤ 10

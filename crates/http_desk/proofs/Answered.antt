@@ -1,6 +1,5 @@
 -- What a request leaves that has come, once its answer is written.
-use Rattle.std.proofs.Common.{◌≡◌, ◌∙◌, sym, subst, false, Result, List, ℕ}
-use Rattle.http_desk.proofs.Common.{IfOk, LocalMinute, Given, Keeping, OnlyReads, State, Response, Printout, Served, ServeFault, station_after, tells_reopen, added, IsUnchangedOrBroken, BeginsAs503, HasServed, HasServedShut, IsToldFor, IsToldShut, HasWritten, HasWrittenShut}
+use Rattle.http_desk.proofs.Common.{BeginsAs503, Given, HasServed, HasServedShut, HasWritten, HasWrittenShut, IfOk, IsToldFor, IsToldShut, IsUnchangedOrBroken, Keeping, List, LocalMinute, OnlyReads, Printout, Response, Result, ServeFault, Served, State, added, false, station_after, subst, sym, tells_reopen, ℕ, ◌∙◌, ◌≡◌}
 use Rattle.http_desk.specs.declared.asking.Response.TheVariants as told
 use Rattle.http_desk.proofs.Joining.{served, gave_up, reopen_told, ok_more, all_shut}
 

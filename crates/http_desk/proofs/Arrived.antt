@@ -1,13 +1,8 @@
 -- What a request wants, by what has come of it.
-use Rattle.std.proofs.Common.{arith, ◌≡◌, ◌∙◌, ap, sym, subst, ℕ, ◌+◌, ◌-◌, ◌<◌, ◌≤◌, List, ◌++◌, length, length-append, take, drop, codes}
-use Rattle.http_desk.proofs.Common.{length-drop, take-append-drop, RequestHead, LocalMinute, State, Wanted, HeadWants, Fault, HeadAsks, BodyAsks, fault, head_asks, key_of, IsAskedUnder, Reply, fault_reply, body_reply, body_state, head_room, head_of, HasHead, SendsWhole, Replied, IsAnsweredAs, Answers, HasNoHead, wanted_state, Wants, BodyWants, posted_of, BeginsWith, HasPartBody, LacksBody}
-use Rattle.httparse.specs.Grammar.{print_request}
-use Rattle.httparse.proofs.GrammarLemmas.{request_unique}
-use Rattle.http_desk.specs.declared.fault.FaultTold.{FaultTold}
+use Rattle.http_desk.proofs.Common.{Answers, BeginsWith, BodyAsks, BodyWants, Fault, FaultTold, HasHead, HasNoHead, HasPartBody, HeadAsks, HeadWants, IsAnsweredAs, IsAskedUnder, LacksBody, List, LocalMinute, Replied, Reply, RequestHead, SendsWhole, State, Wanted, Wants, ap, arith, body_reply, body_state, codes, drop, fault, fault_reply, head_asks, head_of, head_room, key_of, length, length-append, length-drop, meant, posted_of, print_request, request_unique, subst, sym, take, take-append-drop, wanted_state, ℕ, ◌++◌, ◌+◌, ◌-◌, ◌<◌, ◌∙◌, ◌≡◌, ◌≤◌}
 use Rattle.http_desk.specs.declared.wanted.Post.{Post}
 use Rattle.http_desk.specs.declared.wanted.Wanted.TheVariants as wanted
 use Rattle.http_desk.specs.declared.wanted.HeadWants.TheVariants as wants
-use Rattle.http_desk.specs.Fields.{meant}
 use Rattle.http_desk.proofs.Heads.{head_stays}
 
 module _ (bytes : List ℕ) where

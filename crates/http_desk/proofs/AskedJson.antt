@@ -1,11 +1,7 @@
 -- What is sent once the station was asked.
-use Rattle.std.proofs.Common.{◌≡◌, sym, ap, subst, refl, inl, inr, ⊎_elim, ℕ, Bool, List, Option, Err}
-use Rattle.http_desk.proofs.Common.{LocalMinute, MayLeave, IsMemoryOrStore, IsBrokenAfter, State, step, Waybill, Response, Wanted, Reply, answer_reply, refusal_reply, IsHistory, StationAfter, station_at, WorksAt, IsHistoryTold, IsToldAs, HasAsked, HasAskedShut, IsUnavailable, TellsHistory, wanted_reply, wanted_state}
-use Rattle.shipment_machine.specs.declared.plans.Refusal.{Refusal}
-use Rattle.station_core.specs.declared.answer.ActFault.{ActFault}
+use Rattle.http_desk.proofs.Common.{ActFault, Bool, Err, HasAsked, HasAskedShut, Input, IsBrokenAfter, IsHistory, IsHistoryTold, IsMemoryOrStore, IsToldAs, IsUnavailable, List, LocalMinute, MayLeave, Option, Refusal, Reply, Response, State, StationAfter, TellsHistory, Wanted, Waybill, WorksAt, answer_reply, ap, inl, inr, refl, refusal_reply, station_at, step, subst, sym, wanted_reply, wanted_state, ℕ, ⊎_elim, ◌≡◌}
 use Rattle.station_core.specs.declared.answer.ActFault.TheVariants as fault
 use Rattle.station_core.specs.declared.answer.Answer.TheVariants as answer
-use Rattle.station_core.specs.declared.input.Input.{Input}
 use Rattle.station_core.specs.Keeping.{Answers}
 use Rattle.http_desk.specs.declared.asking.Response.TheVariants as told
 use Rattle.http_desk.specs.declared.wanted.Wanted.TheVariants as wanted

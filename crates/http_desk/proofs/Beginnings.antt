@@ -1,7 +1,6 @@
 -- How answers begin.
-use Rattle.std.proofs.Common.{arith, ◌≡◌, ◌∙◌, ap, sym, ℕ, Option, List, [], ◌∷◌, ◌++◌, take, drop, append_assoc, codes}
+use Rattle.http_desk.proofs.Common.{BeginsAs200, BeginsAs503, List, Option, [], ap, append_assoc, arith, codes, drop, json_answer, ok_answer, sym, take, take-append-drop, ℕ, ◌++◌, ◌∙◌, ◌∷◌, ◌≡◌}
 use Rattle.std.specs.Fmt.{digits}
-use Rattle.http_desk.proofs.Common.{take-append-drop, json_answer, ok_answer, BeginsAs200, BeginsAs503}
 
 -- the tenth byte tells a 200 from other answers
 abbrev pub first_byte : List ℕ → ℕ

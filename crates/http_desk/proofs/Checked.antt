@@ -1,6 +1,5 @@
 -- What the check of a body answers.
-use Rattle.std.proofs.Common.{◌≡◌, ap, refl, inl, inr, IsTrue, List, ℕ}
-use Rattle.http_desk.proofs.Common.{list_all, compact_text, Verb, IsCheckAsked, IsSaid, bad_data, good_data, looks_at}
+use Rattle.http_desk.proofs.Common.{IsCheckAsked, IsSaid, IsTrue, List, Verb, ap, bad_data, compact_text, good_data, inl, inr, list_all, looks_at, refl, ℕ, ◌≡◌}
 use Rattle.imp_fields.specs.Characters.{is_printable}
 use Rattle.desk_commands.specs.declared.command.Command.{Command}
 

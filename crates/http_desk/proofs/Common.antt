@@ -1,4 +1,5 @@
 -- The names that proofs of this crate cite, passed on from one place. Declares nothing.
+pub use Rattle.awb_number.proofs.Padded.{decimal_value-last, digits-padded, length-padded}
 pub use Rattle.awb_number.specs.Digits.{decimal_value, is_digit, is_letter_or_digit, padded}
 pub use Rattle.awb_number.specs.Number.{IsNumber, check_digit, number_of, number_text, prefix_of, serial_of}
 pub use Rattle.desk_commands.proofs.Words.{called_again, called_is, of_every}
@@ -8,7 +9,9 @@ pub use Rattle.desk_commands.specs.declared.verb.Verb.{Verb}
 pub use Rattle.http_desk.specs.Answer.{Answers, HasHead, IsAnsweredAs, Replied, SendsWhole, head_of, head_room, most_fields}
 pub use Rattle.http_desk.specs.Came.{BeginsWith, HasBody, HasPartBody}
 pub use Rattle.http_desk.specs.Digits.{is_number, number_told}
+pub use Rattle.http_desk.specs.Fields.{meant}
 pub use Rattle.http_desk.specs.Keys.{and_then, decoded, escaped_byte, is_unescaped, key_in, key_segment, printed_byte}
+pub use Rattle.http_desk.specs.Paths.{HasPath, IsListed, IsName, IsPage, IsPath, IsPathOf, LeadsTo, LeadsToPage, is_path_byte, listing_path, rows_path, rows_segments, segments}
 pub use Rattle.http_desk.specs.Printouts.{IsPrinted, as_text, flight_on, in_form, is_json, numbered_rows, printout_at, row_number, rows_at, rows_named, rows_part, rows_word, waybill_rows}
 pub use Rattle.http_desk.specs.Reading.{HasCome, HasEndedAfter, HasEndedEarly, HasGrown, HasMore, HasNoHead, HasNoHeadYet}
 pub use Rattle.http_desk.specs.Reply.{IsHistory, IsWritten, Reply, answer_reply, body_reply, body_state, fault_reply, got_reply, history_of, holder_data, holder_reply, holding_data, json_answer, json_reply, look_reply, numbered, ok_answer, ok_data, pair_data, refusal_reply, refusal_status, refused_data, report_head, status_line, unknown, waybill_data, waybill_reply}
@@ -21,30 +24,41 @@ pub use Rattle.http_desk.specs.Told.{HasAsked, HasAskedShut, IsHistoryTold, IsTo
 pub use Rattle.http_desk.specs.Wanted.{BodyWants, HasWants, Wants, WantsNow, posted_of, wanted_reply, wanted_state}
 pub use Rattle.http_desk.specs.Writing.{HasBegun, HasReported, HasSent, HasWritten, HasWrittenShut, IsToldFor, IsToldShut}
 pub use Rattle.http_desk.specs.declared.asking.Response.{Response}
+pub use Rattle.http_desk.specs.declared.fault.FaultTold.{FaultTold}
 pub use Rattle.http_desk.specs.declared.printout.Printout.{Printout}
 pub use Rattle.http_desk.specs.declared.serve.ServeFault.{ServeFault}
 pub use Rattle.http_desk.specs.declared.serve.Served.{Served}
 pub use Rattle.http_desk.specs.declared.wanted.HeadWants.{HeadWants}
 pub use Rattle.http_desk.specs.declared.wanted.Wanted.{Wanted}
-pub use Rattle.httparse.specs.Grammar.{Field, HasNoRequest, ReadsRequest, RequestHead, print_blank}
+pub use Rattle.httparse.proofs.GrammarLemmas.{ReadsRequest-append, print_request-append, request_unique}
+pub use Rattle.httparse.specs.Grammar.{Field, HasNoRequest, ReadsRequest, RequestHead, print_blank, print_request}
 pub use Rattle.httparse.specs.Spans.{IsRequestAt, IsRequestWithin, RequestOverflows, header_bytes, name_and_value}
+pub use Rattle.httparse.specs.declared.spans.HeaderSpan.{HeaderSpan}
 pub use Rattle.imp_fields.proofs.SameFlight.{bytes_eq-true}
+pub use Rattle.reports.specs.Ended.{HasEndedBy, HasTold, HaveGone, IsBegun, IsCause, StopsBy}
+pub use Rattle.reports.specs.declared.fault.ReportCause.{ReportCause}
 pub use Rattle.serde_json.specs.Data.{boolean, string}
 pub use Rattle.serde_json.specs.View.{view}
 pub use Rattle.serde_json.specs.Written.{compact_text}
 pub use Rattle.serde_json.specs.declared.value.Value.{the_lemmas}
+pub use Rattle.shipment_machine.specs.declared.plans.Refusal.{Refusal}
+pub use Rattle.station_core.specs.Ends.{HasCause, NoneFailed, OneFailed, Sent}
 pub use Rattle.station_core.specs.Given.{Given}
 pub use Rattle.station_core.specs.Keeping.{IsBrokenAfter, IsMemoryOrStore, IsReadersFault, Keeping, MayLeave, OnlyReads}
 pub use Rattle.station_core.specs.Key.{is_key, is_key_byte}
 pub use Rattle.station_core.specs.Step.{State, accepted, after_all, opening, step}
+pub use Rattle.station_core.specs.declared.answer.ActFault.{ActFault}
+pub use Rattle.station_core.specs.declared.input.Input.{Input}
 pub use Rattle.station_core.specs.declared.rows.Waybill.{Waybill}
 pub use Rattle.station_days.specs.Date.{LocalMinute, date_on, year_of}
 pub use Rattle.station_days.specs.Steps.{where_true}
+pub use Rattle.std.proofs.Common.{Bool, Err, IsTrue, List, None, Ok, Option, Result, Some, [], ap, append_assoc, arith, cond, decimal, drop, inl, inr, length, length-append, map, refl, rules, set, subst, suc, sym, take, true, ℕ, ⊎_elim, ◌%◌, ◌*◌, ◌++◌, ◌+◌, ◌-◌, ◌/◌, ◌<◌, ◌^◌, ◌∙◌, ◌∷◌, ◌≡◌, ◌≤◌}
 pub use Rattle.std.proofs.Math.Seq.{drop-append_seam, take-append-add, take-append_seam, take-length}
-pub use Rattle.std.proofs.lemmas.Bool.{agree_below_at, and_from, and_parts, cases_Bool, cond-false, le-leb, leb-true, lt-ltb, ltb-true}
 pub use Rattle.std.proofs.lemmas.Bool.Decides.{nat_tests}
-pub use Rattle.std.proofs.lemmas.List.{length-drop, length-map, length-take, length-take-le, take-append-drop, take_all, take_more_set}
+pub use Rattle.std.proofs.lemmas.Bool.{agree_below_at, and_from, and_parts, cases_Bool, cond-false, le-leb, leb-true, lt-ltb, ltb-true}
+pub use Rattle.std.proofs.lemmas.Fmt.{decimal_by_steps, decimal_nonempty, length-decimal-le}
 pub use Rattle.std.proofs.lemmas.List.Folds.{list_all-append}
+pub use Rattle.std.proofs.lemmas.List.{length-drop, length-map, length-take, length-take-le, take-append-drop, take_all, take_more_set}
 pub use Rattle.std.specs.Char.{digit_value, is_ascii_graphic}
 pub use Rattle.std.specs.Fmt.{digit_glyph}
 pub use Rattle.std.specs.List.{after_first, before_first, flat_map, list_all, position_or_len}

@@ -1,6 +1,5 @@
 -- A path without `.json` at its end.
-use Rattle.std.proofs.Common.{◌≡◌, ◌∙◌, ap, sym, refl, Bool, true, false, ℕ, ◌-◌, List, ◌++◌, length, take, drop, codes}
-use Rattle.http_desk.proofs.Common.{take-append-drop, bytes_eq-true, is_json}
+use Rattle.http_desk.proofs.Common.{Bool, List, ap, bytes_eq-true, codes, drop, false, is_json, length, refl, sym, take, take-append-drop, true, ℕ, ◌++◌, ◌-◌, ◌∙◌, ◌≡◌}
 
 pub not_json : (path : List ℕ) → ((front : List ℕ) → ¬ (path ≡ front ++ codes ".json")) → is_json path ≡ false
 not_json path none = by (is_json path) refl

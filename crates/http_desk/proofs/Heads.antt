@@ -1,9 +1,6 @@
 -- Bytes that have no head.
-use Rattle.std.proofs.Common.{arith, ◌≡◌, ◌∙◌, sym, ap, subst, inl, inr, ⊎_elim, Result, Ok, Err, ℕ, ◌+◌, ◌-◌, ◌<◌, ◌≤◌, List, [], ◌∷◌, ◌++◌, length, take, drop, append_assoc, refl}
-use Rattle.http_desk.proofs.Common.{◌⊎◌, IsErrAnd, take-append-add, take_all, length-map, length-take-le, RequestHead, print_blank, ReadsRequest, HasNoRequest, RequestOverflows, IsRequestWithin, IsRequestAt, name_and_value, header_bytes, Given, most_fields, HasHead, HasNoHead, HasCome, HasGrown, HasMore, HasEndedEarly, HasEndedAfter}
-use Rattle.httparse.specs.declared.spans.HeaderSpan.{HeaderSpan}
+use Rattle.http_desk.proofs.Common.{Err, Given, HasCome, HasEndedAfter, HasEndedEarly, HasGrown, HasHead, HasMore, HasNoHead, HasNoRequest, HeaderSpan, IsErrAnd, IsRequestAt, IsRequestWithin, List, Ok, ReadsRequest, ReadsRequest-append, RequestHead, RequestOverflows, Result, [], ap, append_assoc, arith, drop, header_bytes, inl, inr, length, length-map, length-take-le, most_fields, name_and_value, print_blank, print_request-append, refl, subst, sym, take, take-append-add, take_all, ℕ, ⊎_elim, ◌++◌, ◌+◌, ◌-◌, ◌<◌, ◌∙◌, ◌∷◌, ◌≡◌, ◌≤◌, ◌⊎◌}
 use Rattle.httparse.specs.declared.spans.RequestSpans.{RequestSpans}
-use Rattle.httparse.proofs.GrammarLemmas.{ReadsRequest-append, print_request-append}
 use Rattle.http_desk.specs.declared.reading.ReadEnd.{ReadEnd}
 use Rattle.http_desk.specs.declared.reading.ReadEnd.TheVariants as end
 

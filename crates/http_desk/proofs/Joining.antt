@@ -1,7 +1,5 @@
 -- What is sent for a request, once it went out, is its answer.
-use Rattle.std.proofs.Common.{◌≡◌, ◌∙◌, ap, sym, subst, refl, inl, inr, ⊎_elim, ℕ, Bool, Option, None, Result, Ok, Err, List, [], ◌∷◌, ◌++◌, length, take, drop}
-use Rattle.http_desk.proofs.Common.{IfOk, LocalMinute, Given, State, Wanted, HasAsked, HasAskedShut, tells_reopen, Wants, wanted_reply, wanted_state, Response, Printout, Served, ServeFault, Replied, Reply, json_reply, ok_data, ok_answer, report_head, StationAfter, station_at, WorksAt, added, unavailable, SomeOrEach, IsBeginning, IsUnchangedOrBroken, BeginsAs503, IsAnswer, IsPartOut, HasServed, HasServedShut, IsToldFor, IsToldShut, HasSent, HasBegun, HasReported, HasWritten, HasWrittenShut}
-use Rattle.station_core.specs.Ends.{HasCause}
+use Rattle.http_desk.proofs.Common.{BeginsAs503, Bool, Err, Given, HasAsked, HasAskedShut, HasBegun, HasCause, HasReported, HasSent, HasServed, HasServedShut, HasWritten, HasWrittenShut, IfOk, IsAnswer, IsBeginning, IsPartOut, IsToldFor, IsToldShut, IsUnchangedOrBroken, List, LocalMinute, None, Ok, Option, Printout, Replied, Reply, Response, Result, ServeFault, Served, SomeOrEach, State, StationAfter, Wanted, Wants, WorksAt, [], added, ap, drop, inl, inr, json_reply, length, ok_answer, ok_data, refl, report_head, station_at, subst, sym, take, tells_reopen, unavailable, wanted_reply, wanted_state, ℕ, ⊎_elim, ◌++◌, ◌∙◌, ◌∷◌, ◌≡◌}
 use Rattle.http_desk.specs.declared.wanted.Wanted.TheVariants as wanted
 use Rattle.http_desk.specs.declared.asking.Response.TheVariants as told
 use Rattle.http_desk.specs.declared.serve.ServeFault.TheVariants as serve

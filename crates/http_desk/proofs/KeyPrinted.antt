@@ -1,6 +1,5 @@
 -- A key is read back from its segment.
-use Rattle.std.proofs.Common.{arith, ◌≡◌, ◌∙◌, ap, refl, ℕ, ◌*◌, ◌/◌, ◌%◌, ◌+◌, ◌<◌, ◌≤◌, Bool, true, false, ⊎_elim, Some, List, [], ◌∷◌, ◌++◌, length, length-append}
-use Rattle.http_desk.proofs.Common.{◌==◌, ◌&&◌, not, nat_le, if◌then◌else◌, option_and_then, digit_value, digit_glyph, list_all, and_parts, and_from, cases_Bool, cond-false, leb-true, lt-ltb, nat_tests, list_all-append, is_key, is_key_byte, where_true, and_then, decoded, escaped_byte, is_unescaped, key_in, key_segment, printed_byte}
+use Rattle.http_desk.proofs.Common.{Bool, List, Some, [], and_from, and_parts, and_then, ap, arith, cases_Bool, cond-false, decoded, digit_glyph, digit_value, escaped_byte, false, if◌then◌else◌, is_key, is_key_byte, is_unescaped, key_in, key_segment, leb-true, length, length-append, list_all, list_all-append, lt-ltb, nat_le, nat_tests, not, option_and_then, printed_byte, refl, true, where_true, ℕ, ⊎_elim, ◌%◌, ◌&&◌, ◌*◌, ◌++◌, ◌+◌, ◌/◌, ◌<◌, ◌==◌, ◌∙◌, ◌∷◌, ◌≡◌, ◌≤◌}
 use Rattle.percent_encoding.specs.Percent.{percent_encode_byte}
 
 -- A byte is read as it was printed.

@@ -1,6 +1,5 @@
 -- The code of keys' segments, and their definitions.
-use Rattle.std.proofs.Common.{arith, ◌≡◌, ◌∙◌, ap, sym, refl, ℕ, ◌+◌, ◌<◌, Bool, true, false, ⊎_elim, Option, Some, None, List, [], ◌∷◌, ◌++◌, length, take, set, append_assoc, length-append}
-use Rattle.http_desk.proofs.Common.{list_all, length-take, ◌&&◌, not, nat_le, nat_lt, if◌then◌else◌, option_map, option_and_then, agree_below_at, cases_Bool, ltb-true, nat_tests, take_more_set, is_key, is_key_byte, where_true, and_then, decoded, is_unescaped, key_in, key_segment, printed_byte}
+use Rattle.http_desk.proofs.Common.{Bool, List, None, Option, Some, [], agree_below_at, and_then, ap, append_assoc, arith, cases_Bool, decoded, false, if◌then◌else◌, is_key, is_key_byte, is_unescaped, key_in, key_segment, length, length-append, length-take, list_all, ltb-true, nat_le, nat_lt, nat_tests, not, option_and_then, option_map, printed_byte, refl, set, sym, take, take_more_set, true, where_true, ℕ, ⊎_elim, ◌&&◌, ◌++◌, ◌+◌, ◌<◌, ◌∙◌, ◌∷◌, ◌≡◌}
 use Rattle.percent_encoding.specs.AsciiSet.{should_percent_encode}
 use Rattle.percent_encoding.specs.Percent.{encode_byte, percent_encode, percent_encode_byte}
 use Rattle.http_desk.specs.declared.keys.TheConstants.{ESCAPED}

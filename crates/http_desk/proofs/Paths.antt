@@ -1,7 +1,5 @@
 -- Which paths lead where.
-use Rattle.std.proofs.Common.{arith, ◌≡◌, ◌∙◌, ap, sym, subst, refl, inl, inr, ℕ, suc, ◌+◌, Bool, true, false, cond, Option, Some, None, List, [], ◌∷◌, ◌++◌, length, take, codes}
-use Rattle.http_desk.proofs.Common.{◌↔◌, ◌&&◌, ◌==◌, not, nat_lt, if◌then◌else◌, option_map, list_all, position_or_len, bytes_eq, take-length, take-append_seam, and_parts, ltb-true, lt-ltb, bytes_eq-true, Verb, word, verb_called, called_again, called_is, of_every, Printout, printout_at, posted_command, posted_check, posted_telegram, posted_look, got_waybill, got_history, got_holder, got_report, Place, posts, gets, page_at, page_named, page_part, page_word, path_of, asked_place, place_of, has_slash, path_text}
-use Rattle.http_desk.specs.Paths.{is_path_byte, IsPath, IsName, IsPage, LeadsToPage, LeadsTo, segments}
+use Rattle.http_desk.proofs.Common.{Bool, IsName, IsPage, IsPath, LeadsTo, LeadsToPage, List, None, Option, Place, Printout, Some, Verb, [], and_parts, ap, arith, asked_place, bytes_eq, bytes_eq-true, called_again, called_is, codes, cond, false, gets, got_history, got_holder, got_report, got_waybill, has_slash, if◌then◌else◌, inl, inr, is_path_byte, length, list_all, lt-ltb, ltb-true, nat_lt, not, of_every, option_map, page_at, page_named, page_part, page_word, path_of, path_text, place_of, position_or_len, posted_check, posted_command, posted_look, posted_telegram, posts, printout_at, refl, segments, subst, suc, sym, take, take-append_seam, take-length, true, verb_called, word, ℕ, ◌&&◌, ◌++◌, ◌+◌, ◌==◌, ◌↔◌, ◌∙◌, ◌∷◌, ◌≡◌}
 use Rattle.http_desk.proofs.Segments.{all_plain, at_three, at_two, found, IsFound}
 
 -- The page of a path.

@@ -1,13 +1,8 @@
 -- How an answer with a report ends, by how the report ended.
-use Rattle.std.proofs.Common.{arith, ◌≡◌, ◌∙◌, ap, subst, refl, inl, inr, ⊎_elim, ℕ, ◌+◌, ◌<◌, Bool, false, Result, Ok, Err, List, [], ◌∷◌, ◌++◌, length, take}
-use Rattle.http_desk.proofs.Common.{◌⊎◌, length-take-le, Given, State, Printout, report_head, IsPrinted, unavailable, SomeOrEach, StopsServing, HasSent, HasBegun, HasReported, Served, ServeFault, IsReadersFault}
-use Rattle.station_core.specs.Ends.{Sent, HasCause, NoneFailed, OneFailed}
-use Rattle.reports.specs.Ended.{HasEndedBy, HasTold, HaveGone, IsBegun, IsCause, StopsBy}
-use Rattle.reports.specs.declared.fault.ReportCause.{ReportCause}
+use Rattle.http_desk.proofs.Common.{ActFault, Bool, Err, Given, HasBegun, HasCause, HasEndedBy, HasReported, HasSent, HasTold, HaveGone, IsBegun, IsCause, IsPrinted, IsReadersFault, List, NoneFailed, Ok, OneFailed, Printout, ReportCause, Result, Sent, ServeFault, Served, SomeOrEach, State, StopsBy, StopsServing, [], ap, arith, false, inl, inr, length, length-take-le, refl, report_head, subst, take, unavailable, ℕ, ⊎_elim, ◌++◌, ◌+◌, ◌<◌, ◌∙◌, ◌∷◌, ◌≡◌, ◌⊎◌}
 use Rattle.reports.specs.declared.fault.ReportCause.TheVariants as cause
 use Rattle.reports.specs.declared.fault.ReportFault.{ReportFault}
 use Rattle.http_desk.specs.declared.serve.ServeFault.TheVariants as serve
-use Rattle.station_core.specs.declared.answer.ActFault.{ActFault}
 use Rattle.station_core.specs.declared.answer.ActFault.TheVariants as act
 
 -- a write that failed or took no byte

@@ -1,6 +1,6 @@
 -- Paths, and the segments that they are printed from.
 use Rattle.std.proofs.Common.{arith, inl, inr, ◌≡◌, ◌∙◌, ap, sym, refl, ℕ, suc, ◌+◌, ◌<◌, Bool, cond, true, false, Some, None, Option, List, [], ◌∷◌, ◌++◌, length, take, drop, codes, length-append, append_assoc, take-append-drop}
-use Rattle.http_desk.proofs.Common.{◌⊎◌, ◌&&◌, ◌==◌, not, nat_le, nat_lt, if◌then◌else◌, list_all, position_or_len, before_first, after_first, is_ascii_graphic, bytes_eq, and_parts, and_from, nat_tests, list_all-append, take-append_seam, drop-append_seam, bytes_eq-true, path_text, is_slash, has_slash, by_slash, by_segments}
+use Rattle.http_desk.proofs.Common.{after_first, and_from, and_parts, before_first, by_segments, by_slash, bytes_eq, bytes_eq-true, drop-append_seam, has_slash, if◌then◌else◌, is_ascii_graphic, is_slash, list_all, list_all-append, nat_le, nat_lt, nat_tests, not, path_text, position_or_len, take-append_seam, ◌&&◌, ◌==◌, ◌⊎◌}
 
 pub all_weaker : (p q : ℕ → Bool) → ((b : ℕ) → p b ≡ true → q b ≡ true) → (xs : List ℕ) → list_all p xs ≡ true → list_all q xs ≡ true
 all_weaker p q weaker [] all = refl

@@ -1,12 +1,9 @@
 -- What a head or a body wants.
-use Rattle.std.proofs.Common.{◌≡◌, ◌∙◌, sym, ap, subst, refl, ℕ, Bool, true, false, codes, List, [], Option, Some, None, Result, Ok, Err}
-use Rattle.http_desk.proofs.Common.{MatchResult, if◌then◌else◌, result_ok, number_of, Printout, Wanted, Place, got_waybill, got_history, got_holder, got_report, Head, HeadAsks, refuses, looks_up, fault, is_foreign, own_asks, place_asks, head_asks, Reply, numbered, unknown, fault_reply, waybill_reply, history_of, holder_reply, Replied, IsAnsweredAs, HeadWants, WantsNow, HasWants}
+use Rattle.http_desk.proofs.Common.{Bool, Err, FaultTold, HasWants, Head, HeadAsks, HeadWants, IsAnsweredAs, List, MatchResult, None, Ok, Option, Place, Printout, Replied, Reply, Result, Some, Wanted, WantsNow, [], ap, codes, false, fault, fault_reply, got_history, got_holder, got_report, got_waybill, head_asks, history_of, holder_reply, if◌then◌else◌, is_foreign, looks_up, meant, number_of, numbered, own_asks, place_asks, refl, refuses, result_ok, subst, sym, true, unknown, waybill_reply, ℕ, ◌∙◌, ◌≡◌}
 use Rattle.std.specs.Array.{IsWholeChunk}
 use Rattle.awb_number.specs.declared.awb.AwbFault.{AwbFault}
 use Rattle.station_core.specs.Readers.{waybill_of}
-use Rattle.http_desk.specs.declared.fault.FaultTold.{FaultTold}
 use Rattle.http_desk.specs.declared.wanted.Wanted.TheVariants as wanted
-use Rattle.http_desk.specs.Fields.{meant}
 use Rattle.http_desk.specs.declared.head.Asks.{Asks}
 use Rattle.http_desk.specs.HeadTold.{asks_meant}
 use Rattle.http_desk.specs.declared.wanted.HeadWants.TheVariants as wants

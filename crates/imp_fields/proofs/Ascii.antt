@@ -1,8 +1,6 @@
 -- Fields as they are written are ASCII.
-use Rattle.std.proofs.Common.{◌≡◌, ◌<◌, ℕ, true, List, [], ◌∷◌, ◌++◌, arith}
-use Rattle.imp_fields.proofs.Common.{and_parts, is_letter, is_letter_or_digit, is_airport, is_printable, Designator, IsDesignator, flight_text, is_carrier, is_name, is_goods}
+use Rattle.imp_fields.proofs.Common.{Designator, IsAscii, IsDesignator, List, [], and_parts, arith, flight_text, is_airport, is_carrier, is_goods, is_letter, is_letter_or_digit, is_name, is_printable, true, ℕ, ◌++◌, ◌<◌, ◌∷◌, ◌≡◌}
 use Rattle.std.proofs.lemmas.Bool.Decides.{nat_tests}
-use Rattle.std.specs.Str.{IsAscii}
 use Rattle.awb_number.specs.Ascii.{IsAscii-tested, ascii-letter_or_digit}
 use Rattle.imp_fields.proofs.FieldLaws.{flight_code}
 

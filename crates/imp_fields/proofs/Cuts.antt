@@ -1,7 +1,5 @@
 -- A text that is cut at its first slash.
-use Rattle.std.proofs.Common.{◌≡◌, ℕ, ◌+◌, ◌<◌, Bool, true, false, List, [], ◌∷◌, length, take, drop, sym, ap, ◌∙◌, subst, refl, arith}
-use Rattle.imp_fields.proofs.Common.{not, onto_first, join_with_byte, position_or_len, cond-true, cond-false, fields, is_slash}
-use Rattle.std.proofs.lemmas.List.Splits.{slice_split_first, join_with_byte-slice_split}
+use Rattle.imp_fields.proofs.Common.{Bool, List, [], ap, arith, cond-false, cond-true, drop, false, fields, is_slash, join_with_byte, join_with_byte-slice_split, length, not, onto_first, position_or_len, refl, slice_split_first, subst, sym, take, true, ℕ, ◌+◌, ◌<◌, ◌∙◌, ◌∷◌, ◌≡◌}
 
 pub cut_at : (text : List ℕ) (place : ℕ) → place ≡ position_or_len is_slash text → place < length text → fields text ≡ take place text ∷ fields (drop (place + 1) text)
 cut_at text place e lt =

@@ -1,6 +1,5 @@
 -- A consignment line's reading, by what its parts are.
-use Rattle.std.proofs.Common.{◌≡◌, ℕ, ◌+◌, ◌-◌, ◌≤◌, Bool, true, false, List, [], length, take, drop, Some, None, refl, sym, ap, ◌∙◌, inl, inr, arith}
-use Rattle.imp_fields.proofs.Common.{prefix_len-le-length, not, slice_range, min, Result, Ok, Err, position_or_len, cases_lt, cond-true, cond-false, cond_some, length-take-le, drop-drop, drop_all, take_all, length-drop, number_of, is_slash, where_true, quantity_of, Shipment, has_consignment_shape, quantity_part, goods_part, consignment_by, consignment_of, IsSlice, Token, Quantity, Why}
+use Rattle.imp_fields.proofs.Common.{Bool, Err, IsSlice, List, None, Ok, Quantity, Result, Shipment, Some, Token, Why, [], ap, arith, cases_lt, cond-false, cond-true, cond_some, consignment_by, consignment_of, drop, drop-drop, drop_all, false, goods_part, has_consignment_shape, inl, inr, is_slash, length, length-drop, length-take-le, min, not, number_of, position_or_len, prefix_len-le-length, quantity_of, quantity_part, refl, slice_range, sym, take, take_all, true, where_true, ℕ, ◌+◌, ◌-◌, ◌∙◌, ◌≡◌, ◌≤◌}
 use Rattle.awb_number.specs.declared.awb.AwbFault.{AwbFault}
 use Rattle.imp_fields.specs.declared.fault.Why.TheVariants as why
 use Rattle.imp_fields.proofs.ShapeLaws.{Route, route_of}

@@ -1,6 +1,5 @@
 -- One more element at the end of a list.
-use Rattle.std.proofs.Common.{◌≡◌, ℕ, ◌+◌, ◌-◌, ◌<◌, ◌≤◌, Bool, true, false, cond, List, [], ◌∷◌, ◌++◌, length, take, Some, None, refl, sym, ap, ◌∙◌, inl, inr, arith}
-use Rattle.imp_fields.proofs.Common.{position, not, ◌==◌, prefix_len, suffix_len, position_or_len, cases_lt, cond-true, cond-false, lt-ltb, le-ltb, eq-eqb, ne_eqb, length-append, reverse-append, take_all, take-append-le, length-take-le, prefix_len-append, prefix_len-le-length, before_last_while}
+use Rattle.imp_fields.proofs.Common.{Bool, List, None, Some, [], ap, arith, before_last_while, cases_lt, cond, cond-false, cond-true, eq-eqb, false, inl, inr, le-ltb, length, length-append, length-take-le, lt-ltb, ne_eqb, not, position, position_or_len, prefix_len, prefix_len-append, prefix_len-le-length, refl, reverse-append, suffix_len, sym, take, take-append-le, take_all, true, ℕ, ◌++◌, ◌+◌, ◌-◌, ◌<◌, ◌==◌, ◌∙◌, ◌∷◌, ◌≡◌, ◌≤◌}
 
 pub suffix_len-more : {X : Type 0} (p : X → Bool) (xs : List X) (y : X) → suffix_len p (xs ++ y ∷ []) ≡ cond (p y) (1 + suffix_len p xs) 0
 suffix_len-more p xs y = ap (prefix_len p) (reverse-append xs (y ∷ []))

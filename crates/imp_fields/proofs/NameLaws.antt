@@ -1,6 +1,5 @@
 -- Text that is kept is a goods text.
-use Rattle.std.proofs.Common.{◌≡◌, ℕ, ◌-◌, ◌<◌, ◌≤◌, Bool, true, false, List, length, get_or, take, drop, sym, ap, ◌∙◌, subst, inl, inr, arith}
-use Rattle.imp_fields.proofs.Common.{IsTrue, not, min, reverse, list_all, suffix_len, and_parts, and_from, cases_lt, le-leb, take_all, length-take, length-take-le, length-reverse, get_or-take, get_or-reverse, take-append-drop, list_all-append, prefix_len_stops, is_printable, is_blank, ends_in_blank, trimmed, kept_goods, is_goods}
+use Rattle.imp_fields.proofs.Common.{Bool, IsTrue, List, and_from, and_parts, ap, arith, cases_lt, drop, ends_in_blank, false, get_or, get_or-reverse, get_or-take, inl, inr, is_blank, is_goods, is_printable, kept_goods, le-leb, length, length-reverse, length-take, length-take-le, list_all, list_all-append, min, not, prefix_len_stops, reverse, subst, suffix_len, sym, take, take-append-drop, take_all, trimmed, true, ℕ, ◌-◌, ◌<◌, ◌∙◌, ◌≡◌, ◌≤◌}
 
 pub list_all-take : {X : Type 0} (p : X → Bool) (n : ℕ) (xs : List X) → list_all p xs ≡ true → list_all p (take n xs) ≡ true
 list_all-take p n xs all =

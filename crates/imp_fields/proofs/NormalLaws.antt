@@ -1,9 +1,6 @@
 -- The normal lines of a telegram, once all of its lines were seen.
-use Rattle.std.proofs.Common.{◌≡◌, ℕ, zero, suc, ◌+◌, ◌-◌, ◌<◌, ◌≤◌, Bool, true, cond, List, [], ◌∷◌, ◌++◌, length, get_or, take, drop, map, Option, Some, None, Result, Ok, Err, ◌⊎◌, refl, sym, ap, ◌∙◌, inl, inr, arith, subst, append-nil}
-use Rattle.imp_fields.proofs.Common.{position, not, nat_lt, reverse, list_all, slice_split, suffix_len, position_or_len, and_parts, and_from, cases_Bool, cases_lt, cond-true, cond-false, le-ltb, lt-ltb, le-leb, eqb-true, cases_cond, length-map, length-take, length-drop, take-append-drop, take_all, take-take, drop-take, drop-drop, take-map, get_or-reverse, get_or-drop, list_all-append, list_all-map, prefix_len_passes, list_all-from_AllPass, suffix_len-le-length, is_printable, is_line, before_last_while, last_while, AreSlices, AreSlicesFrom, is_line_token, is_newline, is_empty, line_without_end, lines_of, line_fault, first_fault, kind_of, is_message_line, first_kind, starts_from, line_starts, BeginLines, fault_at, from_line, from_message_line, unless_fault, normal_lines, IsFaultOf, fault_of, AreKept, IsScanned, IsScannedTo, Why, TextFault, Token}
+use Rattle.imp_fields.proofs.Common.{AreKept, AreSlices, AreSlicesFrom, BeginLines, Bool, Err, IsFaultOf, IsScanned, IsScannedTo, List, MessageKind, None, Ok, Option, Result, Scan, Some, TextFault, Token, Why, [], and_from, and_parts, ap, append-nil, arith, before_last_while, cases_Bool, cases_cond, cases_lt, cond, cond-false, cond-true, drop, drop-drop, drop-take, eqb-true, fault_at, fault_of, first_fault, first_kind, from_line, from_message_line, get_or, get_or-drop, get_or-reverse, inl, inr, is_empty, is_line, is_line_token, is_message_line, is_newline, is_printable, kind_of, last_while, le-leb, le-ltb, length, length-drop, length-map, length-take, line_fault, line_starts, line_without_end, lines_of, list_all, list_all-append, list_all-from_AllPass, list_all-map, lt-ltb, map, nat_lt, normal_lines, not, position, position_or_len, prefix_len_passes, refl, reverse, slice_split, starts_from, subst, suc, suffix_len, suffix_len-le-length, sym, take, take-append-drop, take-map, take-take, take_all, true, unless_fault, zero, ℕ, ◌++◌, ◌+◌, ◌-◌, ◌<◌, ◌∙◌, ◌∷◌, ◌≡◌, ◌≤◌, ◌⊎◌}
 use Rattle.imp_fields.specs.declared.fault.Why.TheVariants as why
-use Rattle.imp_fields.specs.declared.line.MessageKind.{MessageKind}
-use Rattle.imp_fields.specs.declared.normal.Scan.{Scan}
 use Rattle.imp_fields.proofs.FaultLaws.{AllNone, first_fault-none, first_fault-all_none}
 use Rattle.imp_fields.proofs.ListLaws.{length-before_last_while, position-some, all_pass, position-append}
 use Rattle.imp_fields.proofs.ScanLaws.{pieces_behind}

@@ -1,9 +1,5 @@
 -- What is known of a telegram once one more line was seen.
-use Rattle.std.proofs.Common.{◌≡◌, ℕ, suc, ◌+◌, ◌-◌, ◌<◌, ◌≤◌, Bool, true, false, cond, List, [], ◌∷◌, ◌++◌, length, take, drop, map, Option, Some, None, refl, sym, ap, ◌∙◌, inl, inr, arith, append_assoc, subst}
-use Rattle.imp_fields.proofs.Common.{position, not, nat_le, nat_lt, ◌&&◌, is_some, slice_range, AllByRecursion, list_all, prefix_len, slice_split, position_or_len, before_first, and_parts, leb-true, ne_eqb, cases_lt, cond-true, cond-false, lt-ltb, le-ltb, le-leb, lt-leb, not-true, length-append, take-take, length-map, map-append, take-append-le, take_all, drop_all, drop-append-le, length-take, length-drop, drop-drop, prefix_len-le-length, prefix_len_passes, length-prefix_len, or_else, is_printable, before_last_while, IsSlice, AreSlicesFrom, is_newline, is_empty, line_without_end, line_fault, first_fault, kind_of, is_message_line, starts_from, AreKept, IsScanned, Sees, AreSlicesBefore, pieces_from, IsScannedTo, Why, Token}
-use Rattle.std.proofs.lemmas.List.Splits.{slice_split_first, slice_split_none}
-use Rattle.imp_fields.specs.declared.line.MessageKind.{MessageKind}
-use Rattle.imp_fields.specs.declared.normal.Scan.{Scan}
+use Rattle.imp_fields.proofs.Common.{AllByRecursion, AreKept, AreSlicesBefore, AreSlicesFrom, Bool, IsScanned, IsScannedTo, IsSlice, List, MessageKind, None, Option, Scan, Sees, Some, Token, Why, [], and_parts, ap, append_assoc, arith, before_first, before_last_while, cases_lt, cond, cond-false, cond-true, drop, drop-append-le, drop-drop, drop_all, false, first_fault, inl, inr, is_empty, is_message_line, is_newline, is_printable, is_some, kind_of, le-leb, le-ltb, leb-true, length, length-append, length-drop, length-map, length-prefix_len, length-take, line_fault, line_without_end, list_all, lt-leb, lt-ltb, map, map-append, nat_le, nat_lt, ne_eqb, not, not-true, or_else, pieces_from, position, position_or_len, prefix_len, prefix_len-le-length, prefix_len_passes, refl, slice_range, slice_split, slice_split_first, slice_split_none, starts_from, subst, suc, sym, take, take-append-le, take-take, take_all, true, ℕ, ◌&&◌, ◌++◌, ◌+◌, ◌-◌, ◌<◌, ◌∙◌, ◌∷◌, ◌≡◌, ◌≤◌}
 use Rattle.imp_fields.proofs.Runs.{passes_within, run_goes_on}
 use Rattle.imp_fields.proofs.WrittenLaws.{all_weaker}
 use Rattle.imp_fields.proofs.ListLaws.{before_last_while-more, position-some, position-append, position-more_no, position-more_yes, take-more, take-full}

@@ -1,7 +1,5 @@
 -- The shape of a consignment line, test by test.
-use Rattle.std.proofs.Common.{◌≡◌, ℕ, ◌-◌, ◌<◌, ◌≤◌, Bool, true, false, List, ◌++◌, length, get_or, take, drop, Option, Some, None, refl, sym, ap, ◌∙◌, inl, inr, arith}
-use Rattle.imp_fields.proofs.Common.{◌&&◌, ◌==◌, slice_range, slice_index, list_all, take-add, and_parts, and_from, and_left, and_right, cond-true, cond-false, cases_Bool, cases_lt, eqb-true, eq-eqb, cond_some, length-take-le, length-drop, drop-drop, list_all-append, is_letter, has_number_shape, is_airport, airport_of, where_true, has_consignment_shape}
-use Rattle.std.proofs.Math.ListN.{get_or-eq_default}
+use Rattle.imp_fields.proofs.Common.{Bool, List, None, Option, Some, airport_of, and_from, and_left, and_parts, and_right, ap, arith, cases_Bool, cases_lt, cond-false, cond-true, cond_some, drop, drop-drop, eq-eqb, eqb-true, false, get_or, get_or-eq_default, has_consignment_shape, has_number_shape, inl, inr, is_airport, is_letter, length, length-drop, length-take-le, list_all, list_all-append, refl, slice_index, slice_range, sym, take, take-add, true, where_true, ℕ, ◌&&◌, ◌++◌, ◌-◌, ◌<◌, ◌==◌, ◌∙◌, ◌≡◌, ◌≤◌}
 
 -- a line that has the shape goes on behind its slash's place
 pub shape_long : (line : List ℕ) → has_consignment_shape line ≡ true → 19 ≤ length line

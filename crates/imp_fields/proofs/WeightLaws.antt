@@ -1,7 +1,5 @@
 -- The weights that a message can write are in range.
-use Rattle.std.proofs.Common.{ℕ, ◌+◌, ◌*◌, ◌/◌, ◌^◌, ◌<◌, ◌≤◌, arith}
-use Rattle.std.proofs.Math.Nat.{pow-le-pow_right, one-le-pow, div-lt_iff_lt-mul}
-use Rattle.imp_fields.proofs.Common.{IsTenths, rounded_tenths}
+use Rattle.imp_fields.proofs.Common.{IsTenths, arith, div-lt_iff_lt-mul, one-le-pow, pow-le-pow_right, rounded_tenths, ℕ, ◌*◌, ◌+◌, ◌/◌, ◌<◌, ◌^◌, ◌≤◌}
 
 pub ten_pow_small : (k : ℕ) → k ≤ 6 → 10 ^ k ≤ 1_000_000
 ten_pow_small k le = let pos : 0 < 10 = omega arith in pow-le-pow_right pos le

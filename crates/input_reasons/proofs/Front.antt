@@ -1,10 +1,9 @@
 -- The lines in front of a message.
 use Rattle.std.proofs.Common.{◌≡◌, ℕ, ◌+◌, ◌-◌, ◌<◌, ◌≤◌, Bool, true, false, cond, List, [], ◌∷◌, ◌++◌, length, map, take, drop, Option, Some, None, Result, Ok, Err, refl, sym, ap, ◌∙◌, subst, inl, inr, arith, append_assoc, Bor}
-use Rattle.input_reasons.proofs.Common.{not, position, take_while, nat_lt, list_all, onto_first, position_or_len, slice_split, suffix_len, and_parts, and_from, cases_Bool, cases_lt, cond-true, cond-false, le-leb, lt-ltb, take-append-drop, take-append-le, length-take, map-append, list_all-append, list_all-map, is_line, is_printable, last_while, is_newline, is_empty, line_without_end, lines_of, line_fault, first_fault, is_message_line, from_line, from_message_line, unless_fault, normal_lines, dropped_line, front_lines}
+use Rattle.input_reasons.proofs.Common.{TextFault, and_from, and_parts, cases_Bool, cases_lt, cond-false, cond-true, dropped_line, first_fault, from_line, from_message_line, front_lines, is_empty, is_line, is_message_line, is_newline, is_printable, last_while, le-leb, length-take, line_fault, line_without_end, lines_of, list_all, list_all-append, list_all-map, lt-ltb, map-append, nat_lt, normal_lines, not, onto_first, position, position_or_len, slice_split, suffix_len, take-append-drop, take-append-le, take_while, unless_fault}
 use Rattle.std.proofs.lemmas.List.Splits.{slice_split_first}
 use Rattle.std.proofs.lemmas.List.Sums.{take_while-cons}
 use Rattle.imp_fields.specs.declared.fault.Why.TheVariants as why
-use Rattle.imp_fields.specs.declared.fault.TextFault.{TextFault}
 use Rattle.imp_fields.proofs.FaultLaws.{AllNone, first_fault-none}
 use Rattle.imp_fields.proofs.ListLaws.{position-some, position-append}
 

@@ -1,6 +1,5 @@
 -- Printable texts that grow.
-use Rattle.std.proofs.Common.{◌≡◌, ◌∙◌, refl, ℕ, ◌≤◌, true, List, [], ◌∷◌, ◌++◌}
-use Rattle.input_reasons.proofs.Common.{le-leb, list_all-append, list_all, is_printable}
+use Rattle.input_reasons.proofs.Common.{List, [], is_printable, le-leb, list_all, list_all-append, refl, true, ℕ, ◌++◌, ◌∙◌, ◌∷◌, ◌≡◌, ◌≤◌}
 
 printable : (b : ℕ) → 32 ≤ b → b ≤ 126 → is_printable b ≡ true
 printable b least most = rw (le-leb 32 b least, le-leb b 126 most) refl

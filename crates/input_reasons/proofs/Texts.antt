@@ -1,6 +1,5 @@
 -- Texts of several parts.
-use Rattle.std.proofs.Common.{◌≡◌, ◌∙◌, ap, refl, sym, ℕ, List, [], ◌∷◌, ◌++◌, ◌+◌, ◌<◌, length, get_or, take, map, Option, Result, Ok, Err, IfOk, string_bytes}
-use Rattle.input_reasons.proofs.Common.{String, cons_option, join_by, take_more, flat_map-map}
+use Rattle.input_reasons.proofs.Common.{Err, IfOk, List, Ok, Option, Result, String, [], ap, cons_option, flat_map-map, get_or, join_by, length, map, refl, string_bytes, sym, take, take_more, ℕ, ◌++◌, ◌+◌, ◌<◌, ◌∙◌, ◌∷◌, ◌≡◌}
 use Rattle.std.specs.List.{filter_map}
 use Rattle.std.specs.declared.alloc.Global.{Global}
 use Rattle.std.proofs.lemmas.List.Elements.{filter_map-append}

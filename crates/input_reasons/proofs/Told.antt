@@ -1,12 +1,10 @@
 -- Reasons that are written.
-use Rattle.std.proofs.Common.{arith, ◌≡◌, ◌∙◌, refl, sym, ap, subst, ℕ, ◌<◌, ◌^◌, true, IsTrue, List, [], ◌∷◌, ◌++◌, length, Result, Ok, Err, OnOk, IfOk, IfErr}
-use Rattle.input_reasons.proofs.Common.{list_all, codes, decimal, le-leb, append_assoc, list_all-append, is_printable}
+use Rattle.input_reasons.proofs.Common.{Err, HasReason, IfErr, IfOk, IsReason, IsTrue, List, Ok, OnOk, Result, [], ap, append_assoc, arith, codes, decimal, is_printable, le-leb, length, list_all, list_all-append, numbered_head, refl, subst, sym, true, ℕ, ◌++◌, ◌<◌, ◌^◌, ◌∙◌, ◌∷◌, ◌≡◌}
 use Rattle.awb_number.specs.Digits.{is_digit}
 use Rattle.awb_number.proofs.Padded.{is_digit_bounds}
 use Rattle.imp_fields.proofs.WrittenLaws.{all_weaker, decimal_digits}
 use Rattle.station_core.specs.Ends.{Sent}
 use Rattle.station_core.specs.Given.{Given}
-use Rattle.input_reasons.specs.Reason.{HasReason, IsReason, numbered_head}
 
 append_none : (xs : List ℕ) → xs ++ [] ≡ xs
 append_none [] = refl

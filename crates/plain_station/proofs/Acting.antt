@@ -1,12 +1,8 @@
 -- What is done with an input that isn't known yet is its step.
-use Rattle.std.proofs.Common.{◌≡◌, ℕ, true, false, None, Result, Ok, Err, refl, sym, ap, ◌∙◌}
-use Rattle.station_days.specs.Date.{LocalMinute}
-use Rattle.plain_station.proofs.Common.{Cargo, ActFault, State, Stepped, stepped, accepted, Acted, acted, with_notices, has_room, kept_with, first_time, answered, repeated, step, RefusedFor, Does}
-use Rattle.shipment_machine.specs.declared.plans.Refusal.{Refusal}
+use Rattle.plain_station.proofs.Common.{ActFault, Acted, Acts, Breaks, Cargo, Does, Err, LocalMinute, None, Ok, Refusal, RefusedFor, Result, State, Stepped, accepted, acted, answered, ap, false, first_time, has_room, kept_with, refl, repeated, step, stepped, sym, true, with_notices, ℕ, ◌∙◌, ◌≡◌}
 use Rattle.station_core.specs.declared.answer.Answer.TheVariants.{Refused}
 use Rattle.station_core.specs.declared.answer.ActFault.TheVariants as fault
 use Rattle.station_core.specs.declared.input.Input.{Input}
-use Rattle.station_core.specs.Keeping.{Acts, Breaks}
 
 step_first : (s : State) (i : Input) (at : LocalMinute) → repeated s i ≡ None → step s i at ≡ first_time s i (acted s.cargo i at)
 step_first s i at unknown = ap (answered s i at) unknown

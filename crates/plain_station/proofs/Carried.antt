@@ -1,6 +1,5 @@
 -- Rows that are written one after another.
-use Rattle.std.proofs.Common.{◌≡◌, ℕ, Bool, true, false, Ok, Err, List, [], ◌∷◌, ◌++◌, map, refl, sym, ap, ◌∙◌}
-use Rattle.plain_station.proofs.Common.{Move, Cargo, written, written_all, Outcome, carried_out, notice_text, cargo_acted, sent, has_room, Does}
+use Rattle.plain_station.proofs.Common.{Bool, Cargo, Does, Err, List, Move, Ok, Outcome, [], ap, cargo_acted, carried_out, false, has_room, map, notice_text, refl, sent, sym, true, written, written_all, ℕ, ◌++◌, ◌∙◌, ◌∷◌, ◌≡◌}
 use Rattle.shipment_machine.specs.declared.plans.Change.{Change}
 use Rattle.shipment_machine.specs.declared.plans.Change.TheVariants.{Declare, UseUp, NoteFlight, Expect, NotePart, Trail, Confirm}
 use Rattle.shipment_machine.specs.declared.plans.Detail.TheVariants as detail

@@ -1,7 +1,5 @@
 -- A row that is written in front of the others.
-use Rattle.std.proofs.Common.{◌≡◌, ℕ, ◌+◌, ◌<◌, ◌≤◌, Bool, true, false, ◌==◌, nat_le, nat_lt, Some, Result, Ok, Err, OnOk, List, ◌∷◌, refl, sym, arith}
-use Rattle.plain_station.proofs.Common.{if◌then◌else◌, find, option_map, and_parts, and_from, leb-true, le-leb, ltb-true, lt-ltb, eqb-true, eq-eqb, covers}
-use Rattle.agent_stock.specs.declared.stock.Run.{Run}
+use Rattle.plain_station.proofs.Common.{Bool, Err, List, Ok, OnOk, Result, Run, Some, and_from, and_parts, arith, covers, eq-eqb, eqb-true, false, find, if◌then◌else◌, le-leb, leb-true, lt-ltb, ltb-true, nat_le, nat_lt, option_map, refl, sym, true, ℕ, ◌+◌, ◌<◌, ◌==◌, ◌∷◌, ◌≡◌, ◌≤◌}
 
 pub first_row : {R X : Type 0} (p : R → Bool) (f : R → X) (row : R) (rows : List R) → option_map f (find p (row ∷ rows)) ≡ (if p row then Some (f row) else option_map f (find p rows))
 first_row p f row rows = elim (p row) as (λ b. option_map f (if b then Some row else find p rows) ≡ (if b then Some (f row) else option_map f (find p rows))) [

@@ -1,7 +1,5 @@
 -- What was handed out, by the state that is kept.
-use Rattle.std.proofs.Common.{◌≡◌, ℕ, Bool, Result, Ok, Err, List, [], take, sym, ap, subst}
-use Rattle.plain_station.proofs.Common.{true≢false, OnOk, OnErr, IfErr, Cargo, ActFault, State, in_memory}
-use Rattle.station_core.specs.Keeping.{HandsOut, IsReadersFault, Keeping, OnlyReads}
+use Rattle.plain_station.proofs.Common.{ActFault, Bool, Cargo, Err, HandsOut, IfErr, IsReadersFault, Keeping, List, Ok, OnErr, OnOk, OnlyReads, Result, State, [], ap, in_memory, subst, sym, take, true≢false, ℕ, ◌≡◌}
 use Rattle.row_sinks.specs.Handed.{HandedOut}
 use Rattle.station_core.specs.declared.answer.ActFault.TheVariants as fault
 use Rattle.plain_station.specs.Handing.{HandsRows}

@@ -1,9 +1,6 @@
 -- What a plain station has kept, after one more input.
-use Rattle.std.proofs.Common.{◌≡◌, ℕ, List, [], ◌∷◌, ◌++◌, Option, None, ap, ◌∙◌}
-use Rattle.plain_station.proofs.Common.{string_bytes, Cargo, State, Kept, keeping, keeping_text, count_under, kept_under}
+use Rattle.plain_station.proofs.Common.{Cargo, Kept, KeptKey, KeptText, List, None, Option, State, [], ap, count_under, keeping, keeping_text, kept_under, string_bytes, ℕ, ◌++◌, ◌∙◌, ◌∷◌, ◌≡◌}
 use Rattle.station_core.specs.Told.{kept_of}
-use Rattle.plain_station.specs.declared.kept.KeptKey.{KeptKey}
-use Rattle.plain_station.specs.declared.kept.KeptText.{KeptText}
 use Rattle.plain_station.proofs.Lookups.{one_more}
 
 abbrev state : Cargo → (List ℕ → Option Kept) → (List ℕ → Option ℕ) → State

@@ -1,7 +1,5 @@
 -- The waybills of a lawful state's book are declared.
-use Rattle.std.proofs.Common.{ℕ, Bool, true, false, ◌==◌, nat_lt, IsSome, List, [], ◌∷◌, All, arith}
-use Rattle.plain_station.proofs.Common.{if◌then◌else◌, AllByRecursion, filter, FlightDate, Move, built, put_rising, waybills_of, waybills_on, Cargo, IsLawful, IsLawfulMove}
-use Rattle.std.proofs.lemmas.List.Elements.{All-cons}
+use Rattle.plain_station.proofs.Common.{All, All-cons, AllByRecursion, Bool, Cargo, FlightDate, IsLawful, IsLawfulMove, IsSome, List, Move, [], arith, built, false, filter, if◌then◌else◌, nat_lt, put_rising, true, waybills_of, waybills_on, ℕ, ◌==◌, ◌∷◌}
 
 none_at_all : (P : ℕ → Type 0) → All P []
 none_at_all P k d h = absurd (omega (arith, h))

@@ -1,16 +1,11 @@
 -- The flights that are noted, the waybills that are announced and what flights are to bring, listed in
 -- order.
 use Rattle.std.proofs.Common.{◌≡◌, not, cond, ℕ, zero, suc, ◌<◌, Bool, true, false, ◌&&◌, ◌||◌, ◌==◌, length, arith, List, [], ◌∷◌, ◌++◌, insert, option_map, is_some, find, get_or, IsSome, IfSome, Option, Some, None, Err, Ordering, Less, Equal, Greater, All, is_eq, refl, sym, ap, ◌∙◌, subst, true≢false}
-use Rattle.plain_station.proofs.Common.{filter, list_any, IsBinarySearchResult, nat_cmp-IsAntisymmetric, slice_cmp-IsAntisymmetric, nat_cmp, ordering_then, and_parts, and_from, eqb-true, eq-eqb, FlightDate, Declared, Move, same_flight_date, Cargo, IsLawful, IsLawfulAmount, Expectation, has_come, AreAnnounced, by_flight, AreNoted, by_expectation, AreExpectations, asked_of, expected_for, AreDeclared, cargo_of, declared_in, flights_in, expected_in}
-use Rattle.std.specs.Cmp.{IsTotalOrder, on_total, then_total, nat_cmp_total}
+use Rattle.plain_station.proofs.Common.{AnnouncedRow, AreAnnounced, AreDeclared, AreExpectations, AreNoted, Cargo, Declared, Expectation, FlightDate, IsBinarySearchResult, IsLawful, IsLawfulAmount, IsTotalOrder, Move, NotedFlight, and_from, and_parts, asked_of, by_expectation, by_flight, cargo_of, declared_in, eq-eqb, eqb-true, expected_for, expected_in, filter, flights_in, has_come, list_any, nat_cmp, nat_cmp-IsAntisymmetric, nat_cmp_total, on_total, one_by_text, ordering_then, same-is, same-refl, same-sym, same_flight_date, slice_cmp-IsAntisymmetric, then_total}
 use Rattle.std.specs.Cmp.Lexicographic.{nat_list_cmp_total}
 use Rattle.imp_fields.specs.Flight.{IsDesignator, flight_text}
-use Rattle.imp_fields.proofs.SameFlight.{one_by_text}
 use Rattle.shipment_machine.specs.declared.moves.Expected.{Expected}
 use Rattle.shipment_machine.specs.declared.moves.Outbound.{Outbound}
-use Rattle.shipment_machine.proofs.FlightKeys.{same-is, same-refl, same-sym}
-use Rattle.station_core.specs.declared.rows.AnnouncedRow.{AnnouncedRow}
-use Rattle.station_core.specs.declared.rows.NotedFlight.{NotedFlight}
 use Rattle.station_core.specs.declared.rows.ExpectedQuery.{ExpectedQuery}
 use Rattle.station_core.specs.declared.rows.ExpectedQuery.TheVariants as query
 use Rattle.plain_station.specs.declared.lists.CargoLists.{CargoLists}

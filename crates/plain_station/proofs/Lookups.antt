@@ -1,8 +1,6 @@
 -- What is kept under keys, with one more behind the others.
-use Rattle.std.proofs.Common.{◌≡◌, ◌∙◌, ℕ, Bool, true, false, cond, List, [], ◌∷◌, ◌++◌, Option, Some, None, refl, sym, ap}
-use Rattle.plain_station.proofs.Common.{true≢false, option_map, find}
+use Rattle.plain_station.proofs.Common.{Bool, List, None, Option, Some, [], ap, bytes_eq-true, cond, false, find, option_map, refl, sym, true, true≢false, ℕ, ◌++◌, ◌∙◌, ◌∷◌, ◌≡◌}
 use Rattle.std.specs.Str.{bytes_eq}
-use Rattle.imp_fields.proofs.SameFlight.{bytes_eq-true}
 
 module _ {X V : Type 0} (key : X → List ℕ) (value : X → V) where
   abbrev looked_up : List X → List ℕ → Option V

@@ -1,6 +1,5 @@
 -- Rows with their numbers, one more at a time.
-use Rattle.std.proofs.Common.{◌≡◌, ℕ, ◌+◌, ◌-◌, ◌<◌, ◌≤◌, List, [], ◌∷◌, ◌++◌, length, take, drop, refl, sym, ap, ◌∙◌, get_or, arith}
-use Rattle.plain_station.proofs.Common.{take_more, length-take-le, length-drop, get_or-drop, get_or_default, numbered, message, trail_row, trail_in}
+use Rattle.plain_station.proofs.Common.{List, [], ap, arith, drop, get_or, get_or-drop, get_or_default, length, length-drop, length-take-le, message, numbered, refl, sym, take, take_more, trail_in, trail_row, ℕ, ◌++◌, ◌+◌, ◌-◌, ◌<◌, ◌∙◌, ◌∷◌, ◌≡◌, ◌≤◌}
 use Rattle.station_core.specs.declared.rows.Message.{Message}
 use Rattle.station_core.specs.declared.rows.TrailRow as reader
 use Rattle.plain_station.specs.declared.rows.TrailRow.{TrailRow}

@@ -1,7 +1,5 @@
 -- Of the waybills that were ever built on a flight, those of which something is there are those on the flight.
-use Rattle.std.proofs.Common.{◌≡◌, ℕ, ◌+◌, ◌-◌, Bool, true, false, ◌&&◌, ◌==◌, nat_lt, List, [], ◌∷◌, refl, sym, ap, ◌∙◌, arith, zero-add}
-use Rattle.plain_station.proofs.Common.{if◌then◌else◌, filter, FlightDate, Move, same_place, brings, moved_in, moved_out, pieces_of, has_moves, waybills_of, waybills_on, is_onto, is_built_on}
-use Rattle.std.proofs.lemmas.List.Sums.{sum_by-cons}
+use Rattle.plain_station.proofs.Common.{Bool, FlightDate, List, Move, [], ap, arith, brings, false, filter, has_moves, if◌then◌else◌, is_built_on, is_onto, moved_in, moved_out, nat_lt, pieces_of, refl, same_place, sum_by-cons, sym, true, waybills_of, waybills_on, zero-add, ℕ, ◌&&◌, ◌+◌, ◌-◌, ◌==◌, ◌∙◌, ◌∷◌, ◌≡◌}
 use Rattle.shipment_machine.specs.declared.moves.Place.TheVariants.{Built}
 use Rattle.shipment_machine.proofs.OnFlight.{Rising-waybills_of, is_in-waybills_of, is_in-waybills_on, none_in}
 use Rattle.shipment_machine.proofs.Rising.{Rising-filter, is_in-filter, same_rising}

@@ -1,8 +1,6 @@
 -- An order on the stock, done.
-use Rattle.std.proofs.Common.{◌≡◌, ℕ, None, Ok, [], ◌++◌, sym, ap, ◌∙◌, append-nil, subst}
-use Rattle.plain_station.proofs.Common.{run_of, order_refusal, after_order, Cargo, stock_acted, has_room, IsSteady, Does}
+use Rattle.plain_station.proofs.Common.{Cargo, Does, IsSteady, None, Ok, [], after_order, ap, append-nil, has_room, order_refusal, ordered_lawful, run_of, stock_acted, subst, sym, ℕ, ◌++◌, ◌∙◌, ◌≡◌}
 use Rattle.agent_stock.specs.declared.stock.Order.{Order}
-use Rattle.station_core.proofs.StepLaw.{ordered_lawful}
 
 -- no message is sent
 unsent : (s : Cargo) → record s { outbox = s.outbox ++ [] } ≡ s

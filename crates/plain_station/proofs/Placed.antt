@@ -1,8 +1,7 @@
 -- A row that is put in its place among rows that rise by their keys.
 use Rattle.std.proofs.Common.{◌≡◌, ℕ, zero, suc, ◌+◌, ◌<◌, Bool, true, false, cond, ◌||◌, List, [], ◌∷◌, ◌++◌, map, length, insert, find, slice_index_or, option_map, is_some, is_lt, is_eq, Option, Some, None, Err, Ordering, Less, Equal, Greater, refl, sym, ap, ◌∙◌, subst, arith, true≢false}
-use Rattle.plain_station.proofs.Common.{list_any, AllByRecursion, AllWithin, IsSortedBy, IsBinarySearchResult, is_sorted, ordering_reverse, and_parts, and_from}
+use Rattle.plain_station.proofs.Common.{AllByRecursion, AllWithin, IsBinarySearchResult, IsSortedBy, IsTotalOrder, and_from, and_parts, is_sorted, list_any, ordering_reverse, tied_itself}
 use Rattle.std.specs.FinMap.Entries.{below_all}
-use Rattle.std.specs.Cmp.{IsTotalOrder, tied_itself}
 use Rattle.std.proofs.lemmas.List.Sorted.{searchable_from_sorted}
 
 less_is : (o : Ordering) → is_lt o ≡ true → o ≡ Less

@@ -1,7 +1,5 @@
 -- What is done leaves a cargo lawful, and its rows can all be numbered.
-use Rattle.std.proofs.Common.{ℕ, Result, Ok, Err, List, IfOk, map, sym, subst}
-use Rattle.shipment_machine.specs.declared.plans.Refusal.{Refusal}
-use Rattle.plain_station.proofs.Common.{Cargo, Outcome, carried_out, IsLawful, notice_text, ActFault, Acted, cargo_acted, sent, with_notices, IsSteady, Does}
+use Rattle.plain_station.proofs.Common.{ActFault, Acted, Cargo, Does, Err, IfOk, IsLawful, IsSteady, List, Ok, Outcome, Refusal, Result, cargo_acted, carried_out, map, notice_text, sent, subst, sym, with_notices, ℕ}
 use Rattle.station_core.specs.declared.answer.ActFault.TheVariants as fault
 
 abbrev IsLawfulAfter : Result Acted Refusal → Type 0

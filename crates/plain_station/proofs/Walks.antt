@@ -1,8 +1,5 @@
 -- One more element of a list that is walked.
-use Rattle.std.proofs.Common.{◌≡◌, ℕ, ◌+◌, ◌<◌, ◌≤◌, Bool, true, false, List, [], ◌∷◌, ◌++◌, length, take, drop, sym, ap, ◌∙◌, get_or, sum_by, All, append-nil, subst}
-use Rattle.plain_station.proofs.Common.{filter, cond-true, cond-false, take_more, drop_more, drop_all}
-use Rattle.std.proofs.lemmas.List.Sums.{sum_by_more}
-use Rattle.std.proofs.lemmas.List.Elements.{filter_more, All-get_or}
+use Rattle.plain_station.proofs.Common.{All, All-get_or, Bool, List, [], ap, append-nil, cond-false, cond-true, drop, drop_all, drop_more, false, filter, filter_more, get_or, length, subst, sum_by, sum_by_more, sym, take, take_more, true, ℕ, ◌++◌, ◌+◌, ◌<◌, ◌∙◌, ◌∷◌, ◌≡◌, ◌≤◌}
 use Rattle.std.proofs.Math.Bool.{cond}
 
 pub kept : {X : Type 0} (p : X → Bool) (xs ys zs : List X) (i : ℕ) (x : X) → i < length xs → x ≡ get_or xs i x → ys ≡ filter p (take i xs) → p x ≡ true → zs ≡ ys ++ x ∷ [] → zs ≡ filter p (take (i + 1) xs)

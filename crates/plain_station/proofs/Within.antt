@@ -1,8 +1,5 @@
 -- What a lawful state has of a waybill is within bounds.
-use Rattle.std.proofs.Common.{◌≡◌, ℕ, ◌+◌, ◌≤◌, true, nat_le, ap, arith}
-use Rattle.plain_station.proofs.Common.{and_parts, leb-true, taken, found, taken_and_found, store, departed, delivered, missing, transferred, Cargo, IsLawful, is_conserved}
-use Rattle.shipment_machine.specs.declared.amount.Amount.{Amount}
-use Rattle.shipment_machine.specs.Amount.{IsHeld, amount, plus, fits}
+use Rattle.plain_station.proofs.Common.{Amount, Cargo, IsHeld, IsLawful, amount, and_parts, ap, arith, delivered, departed, fits, found, is_conserved, leb-true, missing, nat_le, plus, store, taken, taken_and_found, transferred, true, ℕ, ◌+◌, ◌≡◌, ◌≤◌}
 use Rattle.plain_station.specs.Bounds.{IsWithin}
 
 pub within_held : {a : Amount} → IsHeld a → IsWithin a

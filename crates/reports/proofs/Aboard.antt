@@ -1,13 +1,7 @@
 -- A flight's manifest is that of the flight's movements alone.
-use Rattle.std.proofs.Common.{arith, ◌≡◌, ◌∙◌, ap, sym, refl, ℕ, ◌+◌, ◌-◌, Bool, true, false, ◌==◌, ◌||◌, ◌&&◌, None, Result, Ok, Err, OnOk, IfOk, List, [], ◌∷◌, ◌++◌, map, true≢false}
-use Rattle.reports.proofs.Common.{if◌then◌else◌, filter, nat_lt, flat_map, sum_by, nat_cmp, IsOk, false≢true, sum_by-cons, HandedOut, amount, brings, has_moves, same_place, takes, tenths_of, waybills_of, FlightDate, Move, Built, Departed, book_row, is_named, is_of_flight, movements_for, numbered, ActFault, On, BookRow, has_pieces, leaves, manifest_of, manifest_row, takes_away, IsNew, TakesMove, listed}
-use Rattle.std.specs.BTreeMap.{IsOrdered}
+use Rattle.reports.proofs.Common.{ActFault, BookRow, Bool, Built, Departed, Err, FlightDate, HandedOut, IfOk, IsNew, IsOk, IsOrdered, List, ManifestRow, Move, None, Ok, On, OnOk, Result, Rising-filter, Rising-waybills_of, TakesMove, Tallies, [], amount, ap, arith, book_row, brings, false, false≢true, filter, flat_map, has_moves, has_pieces, if◌then◌else◌, is_in-filter, is_in-waybills_of, is_named, is_of_flight, leaves, listed, manifest_of, manifest_row, map, movements_for, nat_cmp, nat_lt, numbered, refl, same_place, same_rising, sum_by, sum_by-cons, sym, takes, takes_away, tenths_of, true, true≢false, waybills_of, ℕ, ◌&&◌, ◌++◌, ◌+◌, ◌-◌, ◌==◌, ◌||◌, ◌∙◌, ◌∷◌, ◌≡◌}
 use Rattle.std.specs.Global.{Vec}
 use Rattle.shipment_machine.specs.Book.{pieces_of}
-use Rattle.shipment_machine.proofs.OnFlight.{Rising-waybills_of, is_in-waybills_of}
-use Rattle.shipment_machine.proofs.Rising.{Rising-filter, is_in-filter, same_rising}
-use Rattle.reports.specs.declared.manifest.ManifestRow.{ManifestRow}
-use Rattle.reports.specs.declared.tallies.Tallies.{Tallies}
 use Rattle.reports.proofs.Passing.{after, moves_of, passed, rows_of}
 
 left_false : (b c : Bool) → (b || c) ≡ false → b ≡ false

@@ -1,9 +1,7 @@
 -- Cells behind one another are a line, and an object.
-use Rattle.std.proofs.Common.{◌≡◌, ◌∙◌, false, refl, sym, ap, ℕ, List, [], ◌∷◌, ◌++◌, map, append_assoc, append-nil}
-use Rattle.reports.proofs.Common.{flat_map, join_with_byte, Data, string, compact_text, cell_text, data_of, field_of, line_of, members_in, next_text, members_of}
+use Rattle.reports.proofs.Common.{Cell, Data, List, [], ap, append-nil, append_assoc, cell_text, compact_text, data_of, false, field_of, flat_map, join_with_byte, line_of, map, members_in, members_of, next_text, refl, string, sym, ℕ, ◌++◌, ◌∙◌, ◌∷◌, ◌≡◌}
 use Rattle.serde_json.specs.Written as json
 use Rattle.reports.specs.Cells.{members_text}
-use Rattle.reports.specs.declared.cells.Cell.{Cell}
 use Rattle.reports.specs.declared.cells.Cell.TheVariants as cell
 use Rattle.reports.specs.declared.form.Form.TheVariants as form
 

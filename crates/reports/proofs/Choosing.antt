@@ -1,8 +1,6 @@
 -- What a sink is handed that takes the wanted rows alone.
-use Rattle.std.proofs.Common.{◌≡◌, ◌∙◌, ap, subst, refl, ℕ, zero, suc, Bool, true, false, List, [], ◌∷◌, take}
-use Rattle.reports.proofs.Common.{if◌then◌else◌, filter, HandedOut, Progress}
+use Rattle.reports.proofs.Common.{Bool, HandedOut, List, Progress, TakesWanted, [], ap, false, filter, if◌then◌else◌, refl, subst, suc, take, true, zero, ℕ, ◌∙◌, ◌∷◌, ◌≡◌}
 use Rattle.std.specs.Bool.{MatchBool}
-use Rattle.reports.specs.Picking.{TakesWanted}
 use Rattle.reports.proofs.Telling.{Took, SameName}
 
 -- A sink with a name, a form and a pick that stay.

@@ -1,9 +1,6 @@
 -- A cargo's noted flights, what flights are to bring, and what is announced are one list each, and so
 -- their reports have one text.
-use Rattle.std.proofs.Common.{◌≡◌, ◌∙◌, ap, sym, refl, ℕ, true, false, cond, Option, List, [], ◌∷◌}
-use Rattle.reports.proofs.Common.{◌==◌, not, filter, map, nat_cmp, eqb-true, eq-eqb, FlightDate, FlightRow, AreAnnounced, by_flight, AreNoted, flight_row, AreFlightRows, by_expectation, AreExpectations, expected_row, AreExpectedBy, AreExpectedRows, asks_for, expected_for, report_text, IsFlightReport, IsExpectedReport, is_awaited, line_by, flight_cells, expected_cells}
-use Rattle.std.specs.Cmp.{nat_cmp_total}
-use Rattle.shipment_machine.specs.Cargo.{Cargo}
+use Rattle.reports.proofs.Common.{AreAnnounced, AreExpectations, AreExpectedBy, AreExpectedRows, AreFlightRows, AreNoted, Cargo, ExpectedRow, FlightDate, FlightRow, IsExpectedReport, IsFlightReport, List, Option, [], ap, asks_for, by_expectation, by_flight, cond, eq-eqb, eqb-true, expected_cells, expected_for, expected_row, false, filter, flight_cells, flight_row, is_awaited, line_by, map, nat_cmp, nat_cmp_total, not, refl, report_text, sym, true, ℕ, ◌==◌, ◌∙◌, ◌∷◌, ◌≡◌}
 use Rattle.shipment_machine.specs.Flights.{same_flight_date}
 use Rattle.shipment_machine.specs.declared.moves.Expected.{Expected}
 use Rattle.shipment_machine.specs.declared.moves.Outbound.{Outbound}
@@ -13,7 +10,6 @@ use Rattle.station_core.specs.declared.rows.NotedFlight.{NotedFlight}
 use Rattle.station_core.specs.declared.rows.Expectation.{Expectation}
 use Rattle.station_core.specs.declared.rows.ExpectedQuery.{ExpectedQuery}
 use Rattle.station_core.specs.declared.rows.ExpectedQuery.TheVariants.{All, Open}
-use Rattle.station_core.specs.declared.rows.ExpectedRow.{ExpectedRow}
 use Rattle.station_core.proofs.Asked.{apart, are_asked, expectation_total, flight_total, is_one, one_is, one-refl}
 use Rattle.station_core.proofs.Rising.{one_list}
 

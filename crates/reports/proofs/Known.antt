@@ -1,7 +1,5 @@
 -- How a report ends whose rows are known by what they are.
-use Rattle.std.proofs.Common.{◌≡◌, ap, sym, subst, inl, inr, ℕ, ◌+◌, Some, None, Result, Ok, Err, List, [], ◌++◌, length, take, OnOk, OnErr, IfErr}
-use Rattle.reports.proofs.Common.{length-take-le, Given, IsReadersFault, HandedOut, ActFault, ReportCause, ReportFault, pieces_of, whole_text, Progress, Ends, IsBegun, HaveGone, HasEnded, HasEndedBy, HasEndedEach}
-use Rattle.station_core.specs.Ends.{Sent}
+use Rattle.reports.proofs.Common.{ActFault, Ends, Err, Given, HandedOut, HasEnded, HasEndedBy, HasEndedEach, HaveGone, IfErr, IsBegun, IsReadersFault, List, None, Ok, OnErr, OnOk, Progress, ReportCause, ReportFault, Result, Sent, Some, [], ap, inl, inr, length, length-take-le, pieces_of, subst, sym, take, whole_text, ℕ, ◌++◌, ◌+◌, ◌≡◌}
 use Rattle.reports.specs.declared.fault.ReportCause.TheVariants as cause
 use Rattle.reports.proofs.Telling.{Handed, start_whole, handed, unfinished, Took, SameName, reported}
 

@@ -1,13 +1,11 @@
 -- The worked listings, computed.
-use Rattle.std.proofs.Common.{◌≡◌, true, [], ◌∷◌, refl}
-use Rattle.reports.proofs.Common.{codes, filter, map, shed_rows, irregular_rows, book_by, book_rows, messages_after, messages_by, pending_messages, trail_by, After, Last, Of, FlightRow, message_lines, trail_line, rows_text, is_open, is_awaited, is_held_by, is_about, message_data, trail_data, line_by, data_by, stock_cells, shed_cells, flight_cells, expected_cells, irregular_cells, book_cells}
+use Rattle.reports.proofs.Common.{After, FlightRow, Json, Last, Of, Text, [], book_by, book_cells, book_rows, codes, data_by, expected_cells, filter, flight_cells, irregular_cells, irregular_rows, is_about, is_awaited, is_held_by, is_open, line_by, map, message_data, message_lines, messages_after, messages_by, pending_messages, refl, rows_text, shed_cells, shed_rows, stock_cells, trail_by, trail_data, trail_line, true, ◌∷◌, ◌≡◌}
 use Rattle.std.specs.Fmt.{digits}
 use Rattle.serde_json.proofs.OnLiterals.{serde_json_on_literals}
 use Rattle.jiff_core.specs.Calendar.{days_of_years, days_of_months, day_count, days_from_civil}
 use Rattle.desk_commands.specs.Day.{day_line}
 use Rattle.station_core.specs.declared.rows.MessageQuery.TheVariants as messages
 use Rattle.station_core.specs.declared.rows.TrailQuery.TheVariants as trail
-use Rattle.reports.specs.declared.form.Form.TheVariants.{Text, Json}
 use Rattle.reports.proofs.Examples.{printed, stock_runs, received, departed, told, short, flight_row, checked_row, jfk, on_the_day}
 
 -- The runs of one agent.

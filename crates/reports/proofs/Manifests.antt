@@ -1,10 +1,8 @@
 -- The worked manifests, computed.
-use Rattle.std.proofs.Common.{◌≡◌, ℕ, ◌*◌, Some, List, [], ◌∷◌, refl}
-use Rattle.reports.proofs.Common.{codes, amount, FlightDate, Move, Hand, Free, Built, Departed, rows_text, manifest_of, line_by, data_by, manifest_cells}
+use Rattle.reports.proofs.Common.{Built, Departed, FlightDate, Free, Hand, Json, List, Move, Some, Text, [], amount, codes, data_by, line_by, manifest_cells, manifest_of, refl, rows_text, ℕ, ◌*◌, ◌∷◌, ◌≡◌}
 use Rattle.std.specs.Fmt.{digits}
 use Rattle.serde_json.proofs.OnLiterals.{serde_json_on_literals}
 use Rattle.shipment_machine.specs.declared.moves.Place.{Place}
-use Rattle.reports.specs.declared.form.Form.TheVariants.{Text, Json}
 use Rattle.reports.proofs.Examples.{on_the_day, printed}
 
 -- a move of pieces of ten kilograms, which names the flight

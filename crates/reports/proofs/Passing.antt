@@ -1,21 +1,12 @@
 -- What a pass over movements leaves: the sums of each waybill, in the keys' order.
-use Rattle.std.proofs.Common.{arith, ◌≡◌, ◌∙◌, ap, sym, subst, refl, ℕ, ◌+◌, ◌-◌, ◌<◌, Bool, true, false, cond, ◌==◌, ◌||◌, ◌&&◌, Option, Some, None, List, [], ◌∷◌, ◌++◌, map, append-nil, true≢false}
-use Rattle.reports.proofs.Common.{if◌then◌else◌, is_some, AllByRecursion, flat_map, sum_by, eq_by_cmp, is_eq, nat_cmp, eqb-true, sum_by-cons, HandedOut, amount, brings, has_moves, same_place, takes, tenths_of, waybills_of, FlightDate, Move, Built, BookRow, has_pieces, leaves, manifest_of, manifest_row, takes_away, TakesMove, counted, listed, nothing_of, row_of, tally_in, with_move}
-use Rattle.std.specs.BTreeMap.{BTreeMap, IsOrdered, get, keys}
-use Rattle.std.specs.Cmp.{nat_cmp_total, unsigned_tied, ranked}
+use Rattle.reports.proofs.Common.{AllByRecursion, BTreeMap, BookRow, Bool, Built, Count, FlightDate, HandedOut, IsOrdered, List, ManifestRow, Move, None, Option, Rising-waybills_of, Some, TakesMove, Tallies, [], amount, ap, append-nil, arith, brings, cond, counted, eq_by_cmp, eqb-true, false, flat_map, get, has_moves, has_pieces, if◌then◌else◌, is_eq, is_in-waybills_of, is_some, keys, leaves, listed, manifest_of, manifest_row, map, nat_cmp, nat_cmp_total, nothing_of, ranked, refl, row_of, same_place, same_rising, subst, sum_by, sum_by-cons, sym, takes, takes_away, tally_in, tenths_of, true, true≢false, unsigned_tied, unwrap_or, waybills_of, with_move, ℕ, ◌&&◌, ◌++◌, ◌+◌, ◌-◌, ◌<◌, ◌==◌, ◌||◌, ◌∙◌, ◌∷◌, ◌≡◌}
 use Rattle.std.specs.List.Sorted.{IsStrictlySortedBy}
 use Rattle.std.specs.Map.{keys_of, lookup}
-use Rattle.std.specs.Option.{unwrap_or}
 use Rattle.std.specs.declared.cmp.Ordering.TheVariants.{Less}
 use Rattle.std.proofs.lemmas.List.Elements.{recursion_from_All}
 use Rattle.std.proofs.lemmas.Map.Views.{All-found}
 use Rattle.shipment_machine.specs.Book.{pieces_of}
 use Rattle.shipment_machine.specs.Numbers.{IsAscending, is_in}
-use Rattle.shipment_machine.proofs.OnFlight.{Rising-waybills_of, is_in-waybills_of}
-use Rattle.shipment_machine.proofs.Rising.{same_rising}
-use Rattle.reports.specs.declared.manifest.ManifestRow.{ManifestRow}
-use Rattle.reports.specs.declared.tallies.Count.{Count}
-use Rattle.reports.specs.declared.tallies.Tallies.{Tallies}
 use Rattle.reports.specs.declared.tallies.FlightSums.{FlightSums}
 
 -- rows that were put, where none is ahead

@@ -1,17 +1,12 @@
 -- The day since which it has lasted for a waybill, by a pass over its movements.
-use Rattle.std.proofs.Common.{arith, zero, suc, ◌≡◌, ◌∙◌, ap, sym, subst, refl, ⊎_elim, ℕ, ◌+◌, ◌-◌, ◌<◌, ◌≤◌, Bool, true, false, ◌==◌, ◌&&◌, ◌||◌, Option, Some, None, Result, Ok, Err, OnOk, List, [], ◌∷◌, ◌++◌, length, take, get_or, append-nil, append_assoc, true≢false}
-use Rattle.reports.proofs.Common.{if◌then◌else◌, filter, nat_lt, AllZip, slice_get, sum_by, IsOk, cases_lt, false≢true, le-ltb, lt-ltb, length-append, take_all, take_more, sum_by_push, HandedOut, brings, moved_in, moved_out, same_place, takes, Move, Surplus, Keeping, OnlyReads, book_row, movements_for, numbered, ActFault, Of, BookRow, counted}
-use Rattle.std.specs.Option.{option_map}
+use Rattle.reports.proofs.Common.{ActFault, AllZip, AreDated, BookRow, Bool, Cargo, Count, Err, HandedOut, IsDay, IsOk, IsSince, Keeping, List, Move, None, Of, Ok, OnOk, OnlyReads, Option, Result, Some, Surplus, [], ap, append-nil, append_assoc, arith, book_row, brings, cases_lt, counted, false, false≢true, filter, get_or, if◌then◌else◌, lasts, le-ltb, length, length-append, lt-ltb, moved_in, moved_out, movements_for, nat_lt, numbered, option_map, own_moves, refl, same_place, slice_get, subst, suc, sum_by, sum_by_push, sym, take, take_all, take_more, takes, true, true≢false, zero, ℕ, ⊎_elim, ◌&&◌, ◌++◌, ◌+◌, ◌-◌, ◌<◌, ◌==◌, ◌||◌, ◌∙◌, ◌∷◌, ◌≡◌, ◌≤◌}
 use Rattle.shipment_machine.specs.Book.{pieces_of}
-use Rattle.shipment_machine.specs.Cargo.{Cargo}
-use Rattle.reports.specs.Days.{AreDated, IsDay, IsSince, lasts, own_moves}
 use Rattle.reports.specs.Spells.{TakesNext, TakesRow, is_there, lasts_by, moved_spell, next_spell, since_after, start_of}
 use Rattle.reports.specs.declared.days.Dated.{Dated}
 use Rattle.reports.specs.declared.days.Gathering.{Gathering}
 use Rattle.reports.specs.declared.days.Lasting.{Lasting}
 use Rattle.reports.specs.declared.days.Lasting.TheVariants as lasting
 use Rattle.reports.specs.declared.days.Spell.{Spell}
-use Rattle.reports.specs.declared.tallies.Count.{Count}
 use Rattle.reports.proofs.Passing.{moves_of}
 
 take_front : {X : Type 0} (n : ℕ) (xs ys : List X) → n ≤ length xs → take n (xs ++ ys) ≡ take n xs

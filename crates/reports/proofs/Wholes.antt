@@ -1,7 +1,6 @@
 -- Objects of rows whose texts are put byte by byte.
-use Rattle.std.proofs.Common.{◌≡◌, ℕ, List, [], ◌∷◌, ◌++◌, append_assoc, codes, decimal}
+use Rattle.reports.proofs.Common.{List, [], append_assoc, codes, compact_text, decimal, kept_data, message_data, number_text, string, trail_data, ℕ, ◌++◌, ◌∷◌, ◌≡◌}
 use Rattle.serde_json.proofs.OnLiterals.{serde_json_on_literals}
-use Rattle.reports.proofs.Common.{string, compact_text, number_text, kept_data, message_data, trail_data}
 use Rattle.station_core.specs.declared.rows.Message.{Message}
 use Rattle.station_core.specs.declared.rows.TrailRow.{TrailRow}
 use Rattle.reports.specs.declared.kept.KeptRow.{KeptRow}

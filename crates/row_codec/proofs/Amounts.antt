@@ -1,6 +1,6 @@
 -- What the rows say of a waybill's balances.
 use Rattle.std.proofs.Common.{◌≡◌, ℕ, ℤ, pos, ◌-ℤ◌, false, List, Option, Some, None, option_map, refl, sym, ap, ◌∙◌}
-use Rattle.row_codec.proofs.Common.{FinMap, get, IsTrue, is_designator, flight_text, pieces_of, tenths_of, moved_in, moved_out, same_place, held, drawn, built, FlightDate, Move, Place, Built, Count, count_cmp, Build, build_cmp, Tally, running, running_in, running_on, count_row, build_row, unless_nothing, AreCounts, AreBuilds, place_code, is_built, build_here, count_here}
+use Rattle.row_codec.proofs.Common.{AreBuilds, AreCounts, Build, Built, Count, FinMap, FlightDate, IsTrue, Move, Place, Tally, build_cmp, build_here, build_row, built, count_cmp, count_here, count_row, drawn, flight_text, get, held, is_built, is_designator, moved_in, moved_out, pieces_of, place_code, running, running_in, running_on, same_place, tenths_of, unless_nothing}
 use Rattle.shipment_machine.specs.Amount.{amount}
 use Rattle.shipment_machine.specs.declared.amount.Amount.{Amount}
 use Rattle.row_codec.proofs.Tests.{left, left_over, nothing_left, nothing_over}

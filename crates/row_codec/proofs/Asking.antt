@@ -1,8 +1,6 @@
 -- What is asked of the tables is what is asked of a station.
 use Rattle.std.proofs.Common.{◌≡◌, ℕ, ◌-◌, ℤ, pos, sym, ap, ◌∙◌, map, filter}
-use Rattle.row_codec.proofs.Common.{IsTrue, string_bytes, flight_text, FlightDate, book_by, trail_by, is_move_after, is_flown, is_of, is_line_after, is_line_of, is_designator, trail_row_by, book_row_by}
-use Rattle.std.specs.declared.alloc.Global.{Global}
-use Rattle.std.specs.declared.string.String.{String}
+use Rattle.row_codec.proofs.Common.{FlightDate, Global, IsTrue, String, book_by, book_row_by, flight_text, is_designator, is_flown, is_line_after, is_line_of, is_move_after, is_of, string_bytes, trail_by, trail_row_by}
 use Rattle.station_core.specs.declared.rows.BookQuery.{BookQuery}
 use Rattle.station_core.specs.declared.rows.BookQuery.TheVariants as query
 use Rattle.station_core.specs.declared.rows.TrailQuery.{TrailQuery}

@@ -1,6 +1,6 @@
 -- Places and their codes.
 use Rattle.std.proofs.Common.{◌≡◌, ℕ, ℤ, pos, negsuc, ◌==◌, Bool, true, false, cond, ◌&&◌, Option, Some, None, option_map, refl, sym, ap, ap₂, ◌∙◌, true≢false, int_eq, int_cmp}
-use Rattle.row_codec.proofs.Common.{eq_by_cmp, same_place, FlightDate, Place, Hand, Surplus, Free, Built, Departed, Delivered, Missing, Transferred, same-is, same-refl, pair_eq, int_tied, first_true, second_true, CountKey, count_cmp, Tally, unless_nothing, count_row, place_code, plain_place, Sums, plus, posting, is_built, count_here, count_in}
+use Rattle.row_codec.proofs.Common.{Built, CountKey, Delivered, Departed, FlightDate, Free, Hand, Missing, Place, Sums, Surplus, Tally, Transferred, count_cmp, count_here, count_in, count_row, eq_by_cmp, first_true, int_tied, is_built, pair_eq, place_code, plain_place, plus, posting, same-is, same-refl, same_place, second_true, unless_nothing}
 use Rattle.row_codec.proofs.Tests.{same_bool, is_false, and_no, some_is, none_is, is_int, int_itself, int_pos, is_nat}
 
 pub same_is : (p q : Place) → same_place p q ≡ true → p ≡ q

@@ -2,6 +2,7 @@
 pub use Rattle.imp_fields.proofs.SameFlight.{bytes_eq-refl, bytes_eq-true, one_by_fields, one_by_text, same_of_one}
 pub use Rattle.imp_fields.specs.Airport.{is_airport}
 pub use Rattle.imp_fields.specs.Amount.{IsBookTenths, IsPartNumber, IsPieces, count_of}
+pub use Rattle.imp_fields.specs.Characters.{drop_while, is_line}
 pub use Rattle.imp_fields.specs.Flight.{Designator, IsDesignator, flight_of, flight_text, is_carrier, same_flight, suffix_of}
 pub use Rattle.row_codec.specs.Counts.{AreBuilds, AreCounts, Sums, build_here, build_in, build_row, count_here, count_in, count_row, is_nothing, running, running_in, running_on, unless_nothing, written_flight}
 pub use Rattle.row_codec.specs.Flights.{flight_date_of, flight_key, flights_in, is_designator, is_flight_key, is_flight_row, is_flight_text, is_written, noted_by, outbound_by, outbound_row}
@@ -12,6 +13,7 @@ pub use Rattle.row_codec.specs.Manifests.{expectation_by, expected_by, expected_
 pub use Rattle.row_codec.specs.Meaning.{IsReadable, Means, airport_in, confirmed_in, is_station, meaning_of}
 pub use Rattle.row_codec.specs.Moves.{are_flight_columns, book_in, book_row_by, day_column, flight_column, is_move_row, move_by, move_row, place_code, place_of, plain_place}
 pub use Rattle.row_codec.specs.Numbers.{AreNumbered, flag, is_count, is_day, is_flag, is_number, is_set, is_within, natural}
+pub use Rattle.row_codec.specs.Posted.{Keeps, Posted, WereThere}
 pub use Rattle.row_codec.specs.Replies.{AreRequests, is_kept_row, is_kept_text_row, kept_by, kept_keys_in, kept_row, kept_texts_in}
 pub use Rattle.row_codec.specs.Stock.{AreStockRows, holder_by, holders_in}
 pub use Rattle.row_codec.specs.Stored.{come_to, pieces_found, posting_build, posting_count, stored, storing_build, storing_count}
@@ -27,8 +29,8 @@ pub use Rattle.shipment_machine.specs.declared.moves.Declared.{Declared}
 pub use Rattle.shipment_machine.specs.declared.moves.Move.{Move}
 pub use Rattle.shipment_machine.specs.declared.moves.Outbound.{Outbound}
 pub use Rattle.shipment_machine.specs.declared.moves.Part.{Part}
-pub use Rattle.shipment_machine.specs.declared.moves.Place.{Place}
 pub use Rattle.shipment_machine.specs.declared.moves.Place.TheVariants.{Built, Delivered, Departed, Free, Hand, Missing, Surplus, Transferred}
+pub use Rattle.shipment_machine.specs.declared.moves.Place.{Place}
 pub use Rattle.shipment_machine.specs.declared.plans.Change.TheVariants.{Confirm, Declare, Expect, NoteFlight, NotePart, Trail}
 pub use Rattle.sqlite.specs.Tree.{IsAscending}
 pub use Rattle.sqlite_keyed.proofs.ListLemmas.{all-append, all_both, all_weaker, ascending-append, ascending_from_map, ascending_weaker, filter-map, filter_none}
@@ -41,22 +43,31 @@ pub use Rattle.station_core.specs.Readers.{AreExpectations, AreNoted, book_by, b
 pub use Rattle.station_core.specs.Step.{State, keeping, keeping_text}
 pub use Rattle.station_core.specs.Told.{AreAllBalances, IsRequest, load_on, loads_on, nothing, on_cargo, with_key, with_messages, with_text}
 pub use Rattle.station_core.specs.declared.stored.Load.{Load}
+pub use Rattle.station_days.specs.Date.{IsMomentDay}
+pub use Rattle.station_days.specs.Steps.{where_true, ◌>>=◌}
 pub use Rattle.station_rows.specs.Clauses.{Reads, ShowsChange}
 pub use Rattle.station_rows.specs.Meant.{build_meant, changing_build, changing_count, changing_expected, changing_flight, changing_waybill, confirming, count_meant, counts_for, expected_meant, flight_meant, is_flown, is_line_after, is_line_of, is_message_after, is_move_after, is_of, is_on, kept_meant, move_meant, pieces_in, stock_meant, waybill_meant, with_build, with_count, with_expected, with_flight, with_kept, with_kept_text, with_message, with_move, with_part, with_trail_line, with_waybill, without_build, without_count}
 pub use Rattle.station_rows.specs.declared.counts.CountRow.{CountRow}
 pub use Rattle.station_schema.proofs.Keys.{count_total, expected_same, expected_total, flight_same, flight_total, kept_same, kept_text_same, kept_text_total, kept_total, part_same, part_total}
 pub use Rattle.station_schema.proofs.Maps.{all_passed, ascending_where, entries_rise}
 pub use Rattle.station_schema.proofs.OneRow.{first_true, int_tied, int_turned, pair_eq, pair_same, pair_total, second_true, texts_same, texts_total}
+pub use Rattle.station_schema.specs.ColumnKeys.{adjust}
 pub use Rattle.station_schema.specs.Store.{Displays, IsShowing, Seen, Survives, View, inside}
 pub use Rattle.station_schema.specs.Tables.{Build, BuildKey, Count, CountKey, Expected, ExpectedKey, Flight, FlightKey, Kept, Message, PartKey, Station, Stock, Tables, TrailLine, Waybill, build_cmp, count_cmp, expected_cmp, flight_cmp, kept_cmp, kept_text_cmp, message_id, move_id, part_cmp, station_id, stock_cmp, trail_id, waybill_id}
-pub use Rattle.std.proofs.lemmas.Bool.{and_from, and_parts, cond-true, false_from_ne_true, le-leb, leb-true}
+pub use Rattle.std.proofs.Common.{Bool, Equal, Greater, Less, List, None, Option, Ordering, SFits, Some, [], ap, append-nil, ap₂, arith, cond, drop, false, get_or, int_cmp, is_eq, is_some, length, map, neg_ℤ, negsuc, pos, refl, rules, subst, suc, sym, take, true, true≢false, w64, zero, ℕ, ◌++◌, ◌+ℤ◌, ◌+◌, ◌-ℤ◌, ◌-◌, ◌<◌, ◌==◌, ◌||◌, ◌∙◌, ◌∷◌, ◌≡◌, ◌≤◌}
 pub use Rattle.std.proofs.lemmas.Bool.Decides.{nat_tests}
+pub use Rattle.std.proofs.lemmas.Bool.{and_from, and_parts, cond-true, false_from_ne_true, le-leb, leb-true}
 pub use Rattle.std.proofs.lemmas.Int.{ints, to_z-of_z}
 pub use Rattle.std.proofs.lemmas.List.{drop-drop, drop-map, drop_all, drop_more, length-drop, length-map, map-append, take_more}
 pub use Rattle.std.proofs.lemmas.Map.Text.{is_eq-slice_cmp}
+pub use Rattle.std.proofs.lemmas.Option.{IfSome_then}
+pub use Rattle.std.proofs.lemmas.Str.{IsUtf8-string_bytes, is_utf8-from_IsUtf8}
 pub use Rattle.std.specs.Cmp.{IsTotalOrder, eq_by_cmp_equiv, int_cmp_total, tied_itself}
+pub use Rattle.std.specs.FinMap.Entries.{below_all}
 pub use Rattle.std.specs.FinMap.{FinMap, IsAntisymmetric, entries, entries_sorted, get, get-entries, get-insert, get-remove, insert, int_cmp-IsAntisymmetric, is_sorted, remove}
 pub use Rattle.std.specs.List.{All, AllByRecursion, filter, find, list_all, list_any, prefix_len, range_with_len}
 pub use Rattle.std.specs.Ordering.{eq_by_cmp, int_eq, match_ordering, nat_cmp, ordering_then}
 pub use Rattle.std.specs.Prelude.{Err, IfOk, IfSome, IsTrue, Ok, OnOk, codes, if◌then◌else◌, int_le, int_lt, nat_le, nat_lt, string_bytes, take_while, ℤ, ◌&&◌, ◌^◌, ◌↔◌}
 pub use Rattle.std.specs.Str.{bytes_eq, is_utf8}
+pub use Rattle.std.specs.declared.alloc.Global.{Global}
+pub use Rattle.std.specs.declared.string.String.{String}

@@ -1,6 +1,5 @@
 -- The messages up to a number are confirmed in the station's row.
-use Rattle.std.proofs.Common.{◌≡◌, ◌&&◌, ℕ, pos, Bool, true, false, cond, Some, List, [], ◌∷◌, int_eq, refl, sym, ap, ◌∙◌, true≢false}
-use Rattle.row_codec.proofs.Common.{and_parts, and_from, update_where, is_airport, written, Confirm, State, on_cargo, Tables, Station, station_id, confirming, is_count, meaning_of, airport_in, confirmed_in, is_station, Means}
+use Rattle.row_codec.proofs.Common.{Bool, Confirm, List, Means, Some, State, Station, Tables, [], airport_in, and_from, and_parts, ap, cond, confirmed_in, confirming, false, int_eq, is_airport, is_count, is_station, meaning_of, on_cargo, pos, refl, station_id, sym, true, true≢false, update_where, written, ℕ, ◌&&◌, ◌∙◌, ◌∷◌, ◌≡◌}
 
 module _ (upto : ℕ) where
   abbrev confirmed : List Station → List Station

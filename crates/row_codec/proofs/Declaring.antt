@@ -1,7 +1,7 @@
 -- What is declared of a waybill is written.
 use Rattle.std.proofs.Common.{◌≡◌, ◌==◌, ℕ, ℤ, zero, suc, pos, Bool, true, false, cond, Option, Some, None, option_map, List, int_eq, refl, sym, ap, ◌∙◌, arith}
 use Rattle.std.specs.Bool.{if◌then◌else◌}
-use Rattle.row_codec.proofs.Common.{ints, get_by, insert_by, update_where, Declared, Declare, written, State, on_cargo, Tables, Waybill, waybill_id, with_waybill, changing_waybill, flag, is_set, since_of, since_column, declared_by, waybill_row, declared_in, is_waybill_row, meaning_of, Means}
+use Rattle.row_codec.proofs.Common.{Declare, Declared, Means, State, Tables, Waybill, changing_waybill, declared_by, declared_in, flag, get_by, insert_by, ints, is_set, is_waybill_row, meaning_of, on_cargo, since_column, since_of, update_where, waybill_id, waybill_row, with_waybill, written}
 use Rattle.row_codec.proofs.Listed.{get_by-insert_by, list_all-insert_by, get_by-update_where, list_all-update_where}
 use Rattle.row_codec.proofs.Fits.{not_zero}
 

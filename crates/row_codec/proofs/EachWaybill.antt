@@ -1,7 +1,6 @@
 -- The balances of all waybills: the rows of one waybill stand behind those of another.
 use Rattle.std.proofs.Common.{◌≡◌, ℕ, suc, zero, ◌+◌, ◌-◌, ◌<◌, get_or, length, ℤ, pos, ◌==◌, Bool, true, false, cond, List, [], ◌∷◌, ◌++◌, take, drop, map, Option, Some, None, option_map, int_cmp, int_eq, refl, sym, ap, subst, ◌∙◌, arith, Ordering, Less, Equal, Greater}
-use Rattle.row_codec.proofs.Common.{int_le, int_lt, nat_lt, AllByRecursion, filter, find, prefix_len, nat_cmp, ordering_then, FinMap, is_sorted, entries, get, ints, nat_tests, drop-drop, drop_more, length-drop, IsAscending, all_weaker, all-append, ascending-append, ascending_from_map, ascending_weaker, filter-map, filter_none, balances_of, Move, Hand, Surplus, Free, Departed, Delivered, Missing, Transferred, AreAllBalances, nothing, entries_rise, count_total, Count, CountKey, count_cmp, count_meant, counts_for, CountRow, AreCounts, Tally, running_in, place_code}
-use Rattle.std.specs.FinMap.Entries.{below_all}
+use Rattle.row_codec.proofs.Common.{AllByRecursion, AreAllBalances, AreCounts, Count, CountKey, CountRow, Delivered, Departed, FinMap, Free, Hand, IsAscending, Missing, Move, Surplus, Tally, Transferred, all-append, all_weaker, ascending-append, ascending_from_map, ascending_weaker, balances_of, below_all, count_cmp, count_meant, count_total, counts_for, drop-drop, drop_more, entries, entries_rise, filter, filter-map, filter_none, find, get, int_le, int_lt, ints, is_sorted, length-drop, nat_cmp, nat_lt, nat_tests, nothing, ordering_then, place_code, prefix_len, running_in}
 use Rattle.std.specs.Option.{unwrap_or}
 use Rattle.std.proofs.Math.Seq.{take-length}
 use Rattle.station_core.specs.declared.stored.WaybillBalances.{WaybillBalances}

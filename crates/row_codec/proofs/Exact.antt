@@ -1,11 +1,5 @@
 -- A row is read exactly where each of its columns is within range.
-use Rattle.std.proofs.Common.{◌≡◌, ℕ, ℤ, ◌<◌, ◌≤◌, pos, Bool, true, false, ◌&&◌, is_some, List, string_bytes, refl, sym, ap, ◌∙◌, arith}
-use Rattle.row_codec.proofs.Common.{◌↔◌, IsTrue, int_le, is_utf8, and_parts, and_from, ints, is_airport, is_key, Flight, FlightKey, Expected, ExpectedKey, Kept, is_within, is_count, is_day, is_flag, is_number, is_flight_key, is_flight_row, is_expected_key, is_expected_row, is_kept_row}
-use Rattle.std.specs.declared.alloc.Global.{Global}
-use Rattle.std.specs.declared.string.String.{String}
-use Rattle.std.proofs.lemmas.Str.{is_utf8-from_IsUtf8, IsUtf8-string_bytes}
-use Rattle.station_days.specs.Date.{IsMomentDay}
-use Rattle.station_days.specs.Steps.{where_true}
+use Rattle.row_codec.proofs.Common.{Bool, Expected, ExpectedKey, Flight, FlightKey, Global, IsMomentDay, IsTrue, IsUtf8-string_bytes, Kept, List, String, and_from, and_parts, ap, arith, false, int_le, ints, is_airport, is_count, is_day, is_expected_key, is_expected_row, is_flag, is_flight_key, is_flight_row, is_kept_row, is_key, is_number, is_some, is_utf8, is_utf8-from_IsUtf8, is_within, pos, refl, string_bytes, sym, true, where_true, ℕ, ℤ, ◌&&◌, ◌<◌, ◌↔◌, ◌∙◌, ◌≡◌, ◌≤◌}
 
 -- ---- one column
 

@@ -1,6 +1,5 @@
 -- Worked examples of moves and running counts, computed.
-use Rattle.std.proofs.Common.{◌≡◌, ℕ, pos, negsuc, List, [], ◌∷◌, Option, Some, None, refl}
-use Rattle.row_codec.proofs.Common.{codes, FlightDate, Move, Place, Hand, Surplus, Free, Built, Departed, Delivered, Missing, Count, move_by, move_row, count_in, build_in, running}
+use Rattle.row_codec.proofs.Common.{Built, Count, Delivered, Departed, FlightDate, Free, Hand, List, Missing, Move, None, Option, Place, Some, Surplus, [], build_in, codes, count_in, move_by, move_row, negsuc, pos, refl, running, ℕ, ◌∷◌, ◌≡◌}
 
 abbrev lh400 : FlightDate
 lh400 = record { flight = record { carrier = codes "LH"; number = 400; suffix = None }; day = 19_000 }

@@ -1,9 +1,6 @@
 -- Values within range make rows within range.
-use Rattle.std.proofs.Common.{◌≡◌, ℕ, ◌<◌, ◌≤◌, zero, suc, pos, Bool, true, false, Option, Some, None, IfSome, List, IsTrue, refl, sym, arith, true≢false}
-use Rattle.row_codec.proofs.Common.{int_eq, is_utf8, and_from, ints, is_airport, IsPieces, IsBookTenths, IsPartNumber, Declared, Outbound, Part, is_within, is_number, is_count, is_day, flag, is_flag, since_column, is_since, waybill_row, is_waybill_row, FlightKey, ExpectedKey, is_designator, outbound_row, is_flight_key, is_flight_row, expected_row, is_expected_key, is_expected_row, part_key, is_part_row, line_row, is_trail_row}
+use Rattle.row_codec.proofs.Common.{Bool, Declared, ExpectedKey, FlightKey, IfSome, IsBookTenths, IsMomentDay, IsPartNumber, IsPieces, IsTrue, List, None, Option, Outbound, Part, Some, and_from, arith, expected_row, false, flag, int_eq, ints, is_airport, is_count, is_day, is_designator, is_expected_key, is_expected_row, is_flag, is_flight_key, is_flight_row, is_line, is_number, is_part_row, is_since, is_trail_row, is_utf8, is_waybill_row, is_within, line_row, outbound_row, part_key, pos, refl, since_column, suc, sym, true, true≢false, waybill_row, zero, ℕ, ◌<◌, ◌≡◌, ◌≤◌}
 use Rattle.awb_number.specs.Number.{IsNumber}
-use Rattle.imp_fields.specs.Characters.{is_line}
-use Rattle.station_days.specs.Date.{IsMomentDay}
 use Rattle.imp_fields.specs.Name.{is_goods}
 use Rattle.shipment_machine.specs.declared.moves.Expected.{Expected}
 use Rattle.row_codec.proofs.FlightKeys.{written_reads}

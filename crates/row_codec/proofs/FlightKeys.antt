@@ -1,6 +1,5 @@
 -- Flights as rows have them: a written designator is read as itself, and keys are one exactly where flights are.
-use Rattle.std.proofs.Common.{◌≡◌, ℕ, ◌==◌, pos, Bool, true, false, ◌&&◌, Option, Some, None, List, int_cmp, int_eq, refl, sym, ap, ap₂, ◌∙◌, true≢false, arith}
-use Rattle.row_codec.proofs.Common.{bytes_eq, eq_by_cmp, and_parts, and_from, leb-true, le-leb, false_from_ne_true, ints, is_eq-slice_cmp, pair_cmp, bytes_cmp, Designator, IsDesignator, flight_of, flight_text, same_flight, bytes_eq-true, bytes_eq-refl, one_by_fields, same_of_one, one_by_text, same_flight_date, same_part, FlightDate, Part, same-is, pair_eq, int_tied, flight_cmp, expected_cmp, part_cmp, is_designator, is_flight_text, is_written, flight_key, expected_key, part_key}
+use Rattle.row_codec.proofs.Common.{Bool, Designator, FlightDate, IsDesignator, List, None, Option, Part, Some, and_from, and_parts, ap, ap₂, arith, bytes_cmp, bytes_eq, bytes_eq-refl, bytes_eq-true, eq_by_cmp, expected_cmp, expected_key, false, false_from_ne_true, flight_cmp, flight_key, flight_of, flight_text, int_cmp, int_eq, int_tied, ints, is_designator, is_eq-slice_cmp, is_flight_text, is_written, le-leb, leb-true, one_by_fields, one_by_text, pair_cmp, pair_eq, part_cmp, part_key, pos, refl, same-is, same_flight, same_flight_date, same_of_one, same_part, sym, true, true≢false, ℕ, ◌&&◌, ◌==◌, ◌∙◌, ◌≡◌}
 use Rattle.imp_fields.proofs.FieldLaws.{flight_again}
 
 -- ---- the test of a designator

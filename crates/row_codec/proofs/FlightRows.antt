@@ -1,6 +1,6 @@
 -- The rows of a flight are its loads.
 use Rattle.std.proofs.Common.{◌≡◌, ℕ, suc, ◌<◌, ◌-◌, ℤ, pos, negsuc, ◌-ℤ◌, int_lt, nat_lt, ◌==◌, Bool, true, false, cond, ◌&&◌, ◌||◌, List, [], ◌∷◌, length, map, Some, None, option_map, refl, sym, ap, ap₂, subst, ◌∙◌, true≢false, arith, int_cmp, int_eq, Less}
-use Rattle.row_codec.proofs.Common.{All, filter, list_any, AllByRecursion, eq_by_cmp, ordering_then, tied_itself, int_cmp_total, FinMap, entries, get, get-entries, ints, length-map, nat_tests, IsAscending, all_both, all_weaker, bytes_cmp, IsTrue, is_designator, flight_text, pieces_of, moved_in, moved_out, same_place, built, waybills_on, FlightDate, Move, Built, load_on, loads_on, Load, texts_total, first_true, second_true, entries_rise, ascending_where, all_passed, Build, BuildKey, build_cmp, is_on, pieces_in, natural, Tally, running, running_on, build_row, is_nothing, AreBuilds, load_said, row_said, is_loaded}
+use Rattle.row_codec.proofs.Common.{All, AllByRecursion, AreBuilds, Build, BuildKey, Built, FinMap, FlightDate, IsAscending, IsTrue, Load, Move, Tally, all_both, all_passed, all_weaker, ascending_where, build_cmp, build_row, built, bytes_cmp, entries, entries_rise, eq_by_cmp, filter, first_true, flight_text, get, get-entries, int_cmp_total, ints, is_designator, is_loaded, is_nothing, is_on, length-map, list_any, load_on, load_said, loads_on, moved_in, moved_out, nat_tests, natural, ordering_then, pieces_in, pieces_of, row_said, running, running_on, same_place, second_true, texts_total, tied_itself, waybills_on}
 use Rattle.std.specs.FinMap as map_of
 use Rattle.std.proofs.lemmas.List.Elements.{All-cons, All-nil}
 use Rattle.sqlite_trees.proofs.ListLemmas.{map-map}

@@ -1,6 +1,5 @@
 -- The rows of a flight are the moves of the flight.
-use Rattle.std.proofs.Common.{◌≡◌, ℕ, ◌==◌, ◌&&◌, ◌||◌, ℤ, pos, negsuc, Bool, true, false, if◌then◌else◌, Option, Some, None, List, [], ◌∷◌, length, is_some, refl, sym, ap, ap₂, subst, ◌∙◌, true≢false, arith}
-use Rattle.row_codec.proofs.Common.{int_eq, eq_by_cmp, ints, bytes_cmp, is_eq-slice_cmp, and_parts, false_from_ne_true, bytes_eq-true, flight_text, FlightDate, Hand, Surplus, Free, Built, Departed, Delivered, Missing, Transferred, is_named, is_of_flight, is_flown, texts_total, natural, is_day, is_number, is_within, flight_date_of, is_designator, is_flight_text, are_flight_columns, is_move_row, move_by, place_of, plain_place}
+use Rattle.row_codec.proofs.Common.{Bool, Built, Delivered, Departed, FlightDate, Free, Hand, List, Missing, None, Option, Some, Surplus, Transferred, [], and_parts, ap, ap₂, are_flight_columns, arith, bytes_cmp, bytes_eq-true, eq_by_cmp, false, false_from_ne_true, flight_date_of, flight_text, if◌then◌else◌, int_eq, ints, is_day, is_designator, is_eq-slice_cmp, is_flight_text, is_flown, is_move_row, is_named, is_number, is_of_flight, is_some, is_within, length, move_by, natural, negsuc, place_of, plain_place, pos, refl, subst, sym, texts_total, true, true≢false, ℕ, ℤ, ◌&&◌, ◌==◌, ◌||◌, ◌∙◌, ◌∷◌, ◌≡◌}
 use Rattle.std.specs.Option.{unwrap_or}
 use Rattle.sqlite_typed.proofs.TestLemmas.{turn_eq}
 use Rattle.std.specs.Option.{option_map}

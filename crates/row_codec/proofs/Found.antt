@@ -1,6 +1,6 @@
 -- The row of a place among the rows of a waybill.
 use Rattle.std.proofs.Common.{◌≡◌, ℤ, Bool, true, false, cond, ◌&&◌, List, [], ◌∷◌, map, Option, Some, None, option_map, refl, sym, ap, ap₂, ◌∙◌, int_cmp, int_eq}
-use Rattle.row_codec.proofs.Common.{filter, find, eq_by_cmp, FinMap, entries, get, get-entries, pair_eq, int_tied, int_turned, Count, CountKey, count_cmp, count_meant, counts_for, CountRow, running_in, Tally}
+use Rattle.row_codec.proofs.Common.{Count, CountKey, CountRow, FinMap, Tally, count_cmp, count_meant, counts_for, entries, eq_by_cmp, filter, find, get, get-entries, int_tied, int_turned, pair_eq, running_in}
 use Rattle.std.specs.FinMap as map
 
 module _ (awb place : ℤ) where

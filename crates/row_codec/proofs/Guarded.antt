@@ -1,7 +1,6 @@
 -- A map that is read under the keys of values, where only some values have a key.
 use Rattle.std.proofs.Common.{◌≡◌, Bool, true, false, cond, Option, Some, option_map, unwrap_or, refl, sym, ap, ◌∙◌, true≢false, Ordering}
-use Rattle.row_codec.proofs.Common.{IsTotalOrder, eq_by_cmp, FinMap, get, insert, get-insert, false_from_ne_true}
-use Rattle.station_schema.specs.ColumnKeys.{adjust}
+use Rattle.row_codec.proofs.Common.{FinMap, IsTotalOrder, adjust, eq_by_cmp, false_from_ne_true, get, get-insert, insert}
 
 -- where there is a row, changing it is writing it
 pub adjusted : {K V : Type 0} {R : K → K → Ordering} (m : FinMap R V) (k : K) (v was : V) → get m k ≡ Some was → adjust m k (λ _. v) ≡ insert m k v

@@ -1,6 +1,6 @@
 -- What the rows of the book, of the trail and of the outbox hand out to readers.
 use Rattle.std.proofs.Common.{◌≡◌, ℕ, zero, suc, ◌+◌, ◌-◌, ◌<◌, ◌≤◌, ◌==◌, ◌&&◌, ℤ, pos, negsuc, Bool, true, false, cond, Some, List, [], ◌∷◌, map, filter, length, drop, ltb-true, ltb-false, refl, sym, ap, ap₂, subst, ◌∙◌, arith}
-use Rattle.row_codec.proofs.Common.{int_lt, nat_lt, IsTrue, list_all, range_with_len, int_eq, ints, drop-map, flight_text, FlightDate, numbered, book_row, book_rows, last_of, is_of_flight, message, messages_after, trail_row, trail_rows, State, is_move_after, is_flown, is_of, is_message_after, is_line_after, is_line_of, Tables, move_id, trail_id, Message, message_id, natural, is_number, book_row_by, is_move_row, move_by, is_trail_row, line_by, trail_row_by, Means, is_designator}
+use Rattle.row_codec.proofs.Common.{FlightDate, IsTrue, Means, Message, State, Tables, book_row, book_row_by, book_rows, drop-map, flight_text, int_eq, int_lt, ints, is_designator, is_flown, is_line_after, is_line_of, is_message_after, is_move_after, is_move_row, is_number, is_of, is_of_flight, is_trail_row, last_of, line_by, list_all, message, message_id, messages_after, move_by, move_id, nat_lt, natural, numbered, range_with_len, trail_id, trail_row, trail_row_by, trail_rows}
 use Rattle.station_core.specs.declared.rows.Message as reader
 use Rattle.station_schema.specs.Tables.{Move}
 use Rattle.row_codec.proofs.Listed.{head_is, tail_is}

@@ -1,6 +1,5 @@
 -- What is known of sums after an amount more.
-use Rattle.std.proofs.Common.{◌≡◌, ℕ, ◌==◌, Bool, true, false, ◌&&◌, cond, Some, None, nat_cmp, arith, refl, sym, ap, ap₂, subst, ◌∙◌, true≢false}
-use Rattle.row_codec.proofs.Common.{IfSome, nat_tests, Place, Hand, Built, Tally, Sums, plus, posting, is_built, sum_at, with_sum, sum_on, AreSumsOf, AreSumsOn, first_true, second_true}
+use Rattle.row_codec.proofs.Common.{AreSumsOf, AreSumsOn, Bool, Built, Hand, IfSome, None, Place, Some, Sums, Tally, ap, ap₂, arith, cond, false, first_true, is_built, nat_cmp, nat_tests, plus, posting, refl, second_true, subst, sum_at, sum_on, sym, true, true≢false, with_sum, ℕ, ◌&&◌, ◌==◌, ◌∙◌, ◌≡◌}
 use Rattle.std.specs.BTreeMap.{Updates, get, is_at}
 use Rattle.shipment_machine.specs.Places.{same_place}
 use Rattle.row_codec.specs.declared.known.LoadSums.{LoadSums}

@@ -1,6 +1,6 @@
 -- Rows under a number each: what is found after one is written or changed, and rows that are numbered from 1.
 use Rattle.std.proofs.Common.{◌≡◌, ℕ, suc, ◌+◌, ◌≤◌, ℤ, pos, Bool, true, false, cond, ◌&&◌, Some, option_map, List, [], ◌∷◌, ◌++◌, map, length, int_cmp, int_eq, Ordering, Less, Equal, Greater, refl, sym, ap, ap₂, subst, ◌∙◌, arith}
-use Rattle.row_codec.proofs.Common.{match_ordering, list_all, range_with_len, and_parts, ints, get_by, insert_by, update_where, AreNumbered}
+use Rattle.row_codec.proofs.Common.{AreNumbered, and_parts, get_by, insert_by, ints, list_all, match_ordering, range_with_len, update_where}
 
 turned : (a id q : ℤ) → int_eq a q ≡ true → int_eq a id ≡ int_eq id q
 turned a id q e = grind (arith, ints)

@@ -1,6 +1,5 @@
 -- One row more of a flight.
-use Rattle.std.proofs.Common.{◌≡◌, ℕ, ◌<◌, ◌+◌, Bool, true, false, cond, List, [], ◌∷◌, ◌++◌, length, take, get_or, map, refl, sym, ap, ap₂, ◌∙◌, append-nil}
-use Rattle.row_codec.proofs.Common.{filter, ℤ, Tally, take_more, Load, build_meant, load_said, row_said, is_loaded}
+use Rattle.row_codec.proofs.Common.{Bool, List, Load, Tally, [], ap, append-nil, ap₂, build_meant, cond, false, filter, get_or, is_loaded, length, load_said, map, refl, row_said, sym, take, take_more, true, ℕ, ℤ, ◌++◌, ◌+◌, ◌<◌, ◌∙◌, ◌∷◌, ◌≡◌}
 use Rattle.station_rows.specs.declared.builds.BuildRow.{BuildRow}
 
 abbrev pub said_in : List BuildRow → List (ℤ × Tally)

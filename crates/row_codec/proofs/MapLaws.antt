@@ -1,6 +1,5 @@
 -- What holds of each entry of a map holds at each key, and the other way round.
-use Rattle.std.proofs.Common.{◌≡◌, List, [], ◌∷◌, Bool, true, false, cond, Some, is_eq, refl, sym, ap, ap₂, subst, ◌∙◌, Ordering, Less, Equal, Greater}
-use Rattle.row_codec.proofs.Common.{◌&&◌, AllByRecursion, list_all, IsTotalOrder, eq_by_cmp_equiv, tied_itself, eq_by_cmp, FinMap, IsAntisymmetric, entries, get, insert, get-insert, get-entries, IsAscending, all_weaker, all_both, entries_rise}
+use Rattle.row_codec.proofs.Common.{AllByRecursion, Bool, Equal, FinMap, Greater, IsAntisymmetric, IsAscending, IsTotalOrder, Less, List, Ordering, Some, [], all_both, all_weaker, ap, ap₂, cond, entries, entries_rise, eq_by_cmp, eq_by_cmp_equiv, false, get, get-entries, get-insert, insert, is_eq, list_all, refl, subst, sym, tied_itself, true, ◌&&◌, ◌∙◌, ◌∷◌, ◌≡◌}
 use Rattle.std.specs.FinMap.{find}
 
 pub is_tied : (o : Ordering) → is_eq o ≡ true → o ≡ Equal

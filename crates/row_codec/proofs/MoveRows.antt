@@ -1,6 +1,6 @@
 -- The row of a move is within range, and is read as that move.
 use Rattle.std.proofs.Common.{◌≡◌, ℕ, ◌<◌, pos, Bool, true, false, Option, Some, is_some, unwrap_or, option_map, IsTrue, refl, ap, ◌∙◌, arith}
-use Rattle.row_codec.proofs.Common.{and_parts, and_from, IsPieces, IsBookTenths, Designator, flight_text, same_flight_date, FlightDate, Move, Place, Hand, Built, same-is, natural, is_within, is_number, is_day, is_designator, flight_date_of, place_code, place_of, move_by, move_row, flight_column, day_column, are_flight_columns, is_move_row}
+use Rattle.row_codec.proofs.Common.{Built, Designator, FlightDate, Hand, IsBookTenths, IsPieces, Move, Place, and_from, and_parts, are_flight_columns, day_column, flight_column, flight_date_of, flight_text, is_day, is_designator, is_move_row, is_number, is_within, move_by, move_row, natural, place_code, place_of, same-is, same_flight_date}
 use Rattle.station_schema.specs.Tables as table
 use Rattle.row_codec.proofs.FlightKeys.{read_again}
 use Rattle.row_codec.proofs.Fits.{within, pieces_fit, tenths_fit}

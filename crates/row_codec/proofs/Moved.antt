@@ -1,6 +1,5 @@
 -- What one move more makes of the sums.
-use Rattle.std.proofs.Common.{◌≡◌, ℕ, ℤ, pos, ◌+ℤ◌, ◌-ℤ◌, neg_ℤ, ◌+◌, ◌==◌, Bool, true, false, cond, ◌&&◌, List, [], ◌∷◌, ◌++◌, refl, sym, ap₂, ◌∙◌, arith}
-use Rattle.row_codec.proofs.Common.{ints, balance, pieces_of, tenths_of, same_place, brings, takes, moved_in, moved_out, Move, Place, Tally, running, Sums, plus, posting, come, gone}
+use Rattle.row_codec.proofs.Common.{Bool, List, Move, Place, Sums, Tally, [], ap₂, arith, balance, brings, come, cond, false, gone, ints, moved_in, moved_out, neg_ℤ, pieces_of, plus, pos, posting, refl, running, same_place, sym, takes, tenths_of, true, ℕ, ℤ, ◌&&◌, ◌++◌, ◌+ℤ◌, ◌+◌, ◌-ℤ◌, ◌==◌, ◌∙◌, ◌∷◌, ◌≡◌}
 use Rattle.std.proofs.lemmas.List.Sums.{sum_by_push}
 
 difference : (x y a b : ℕ) → pos (x + a) -ℤ pos (y + b) ≡ (pos x -ℤ pos y) +ℤ neg_ℤ (pos b) +ℤ pos a

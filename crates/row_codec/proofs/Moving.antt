@@ -1,6 +1,5 @@
 -- A move is written behind the others, under the next number.
-use Rattle.std.proofs.Common.{◌≡◌, ℕ, ◌+◌, pos, IsTrue, [], ◌∷◌, ◌++◌, length, ap, ◌∙◌}
-use Rattle.row_codec.proofs.Common.{list_all, map-append, Move, Tables, move_id, with_move, AreNumbered, move_by, move_row, book_in, is_move_row}
+use Rattle.row_codec.proofs.Common.{AreNumbered, IsTrue, Move, Tables, [], ap, book_in, is_move_row, length, list_all, map-append, move_by, move_id, move_row, pos, with_move, ℕ, ◌++◌, ◌+◌, ◌∙◌, ◌∷◌, ◌≡◌}
 use Rattle.row_codec.proofs.Listed.{list_all-insert_by, next_row, still_numbered}
 
 -- the book has one move more, and its rows are in order

@@ -1,14 +1,11 @@
 -- What is noted of flights and what they are to bring, as readers are given them: in the order of their rows' keys.
 use Rattle.std.proofs.Common.{◌≡◌, ℕ, ◌<◌, ◌≤◌, length, ℤ, pos, negsuc, Bool, true, false, cond, ◌&&◌, Option, Some, None, option_map, List, [], ◌∷◌, map, take, drop, is_lt, int_cmp, refl, sym, ap, ap₂, subst, ◌∙◌, true≢false, arith, Ordering, Less, Equal, Greater, T}
-use Rattle.row_codec.proofs.Common.{◌^◌, IfSome, IsTrue, nat_le, take_while, AllByRecursion, find, list_all, eq_by_cmp, nat_cmp, ordering_then, FinMap, entries, entries_sorted, get, get-entries, is_sorted, and_parts, le-leb, leb-true, ints, count_of, Designator, flight_of, flight_text, is_carrier, suffix_of, bytes_eq-true, same_flight_date, FlightDate, AreExpectations, AreNoted, by_expectation, by_flight, State, Expected, ExpectedKey, Flight, FlightKey, Tables, expected_cmp, flight_cmp, flight_date_of, flight_key, flights_in, is_designator, is_flight_row, is_flight_text, is_written, noted_by, outbound_by, expectation_by, expected_by, expected_in, expected_key, is_expected_row, Means, is_within, natural}
+use Rattle.row_codec.proofs.Common.{AllByRecursion, AreExpectations, AreNoted, Designator, Expected, ExpectedKey, FinMap, Flight, FlightDate, FlightKey, IfSome, IsTrue, Means, State, Tables, and_parts, below_all, by_expectation, by_flight, bytes_eq-true, count_of, drop_while, entries, entries_sorted, eq_by_cmp, expectation_by, expected_by, expected_cmp, expected_in, expected_key, find, flight_cmp, flight_date_of, flight_key, flight_of, flight_text, flights_in, get, get-entries, ints, is_carrier, is_designator, is_expected_row, is_flight_row, is_flight_text, is_sorted, is_within, is_written, le-leb, leb-true, list_all, nat_cmp, nat_le, natural, noted_by, ordering_then, outbound_by, same_flight_date, suffix_of, take_while, where_true, ◌>>=◌, ◌^◌}
 use Rattle.std.specs.Cmp.Lexicographic.{slice_cmp}
 use Rattle.std.specs.FinMap as tree
-use Rattle.std.specs.FinMap.Entries.{below_all}
 use Rattle.std.proofs.Math.Nat.{pow-le-pow_right}
 use Rattle.awb_number.specs.Digits.{decimal_value, is_digit, is_letter}
 use Rattle.awb_number.proofs.Padded.{decimal_value_bound}
-use Rattle.imp_fields.specs.Characters.{drop_while}
-use Rattle.station_days.specs.Steps.{◌>>=◌, where_true}
 use Rattle.station_core.specs.declared.rows.Expectation.{Expectation}
 use Rattle.station_core.specs.declared.rows.NotedFlight.{NotedFlight}
 use Rattle.row_codec.proofs.FlightKeys.{designator_test, same_designator, same_expected, same_expected_designator, same_expected_key, same_key}

@@ -1,6 +1,6 @@
 -- What is noted of a flight, of what it brings, and of a part of its manifest is written.
 use Rattle.std.proofs.Common.{◌≡◌, ◌==◌, ◌&&◌, ℕ, true, cond, Option, Some, None, option_map, List, sym, ap, subst, ◌∙◌}
-use Rattle.row_codec.proofs.Common.{FinMap, get, insert, same_flight_date, written, same_part, FlightDate, Outbound, Part, NoteFlight, Expect, NotePart, State, on_cargo, Tables, Flight, flight_cmp, Expected, expected_cmp, part_cmp, flight_total, flight_same, expected_total, expected_same, part_total, part_same, with_flight, changing_flight, with_expected, changing_expected, with_part, is_designator, flight_key, outbound_by, outbound_row, flights_in, is_flight_row, expected_key, expected_by, expected_row, expected_in, is_expected_row, part_key, parts_in, is_part_row, meaning_of, Means}
+use Rattle.row_codec.proofs.Common.{Expect, Expected, FinMap, Flight, FlightDate, Means, NoteFlight, NotePart, Outbound, Part, State, Tables, changing_expected, changing_flight, expected_by, expected_cmp, expected_in, expected_key, expected_row, expected_same, expected_total, flight_cmp, flight_key, flight_same, flight_total, flights_in, get, insert, is_designator, is_expected_row, is_flight_row, is_part_row, meaning_of, on_cargo, outbound_by, outbound_row, part_cmp, part_key, part_same, part_total, parts_in, same_flight_date, same_part, with_expected, with_flight, with_part, written}
 use Rattle.shipment_machine.specs.declared.moves.Expected as cargo
 use Rattle.row_codec.proofs.Declaring.{flag_again}
 use Rattle.row_codec.proofs.FlightKeys.{same_key, same_designator, same_expected, same_expected_key, same_expected_designator, same_part_key, same_part_designator}

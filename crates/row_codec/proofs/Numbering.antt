@@ -1,6 +1,5 @@
 -- A line of the trail and a message are written behind the others, under the next number.
-use Rattle.std.proofs.Common.{◌≡◌, ℕ, ◌+◌, pos, true, Some, List, [], ◌∷◌, ◌++◌, length, sym, ap, ◌∙◌}
-use Rattle.row_codec.proofs.Common.{is_utf8, map-append, length-map, insert_by, written, Trail, State, on_cargo, with_messages, Tables, trail_id, Message, message_id, with_trail_line, with_message, line_by, line_row, trail_in, is_trail_row, message_row, is_message_row, outbox_in, meaning_of, Means}
+use Rattle.row_codec.proofs.Common.{List, Means, Message, Some, State, Tables, Trail, [], ap, insert_by, is_message_row, is_trail_row, is_utf8, length, length-map, line_by, line_row, map-append, meaning_of, message_id, message_row, on_cargo, outbox_in, pos, sym, trail_id, trail_in, true, with_message, with_messages, with_trail_line, written, ℕ, ◌++◌, ◌+◌, ◌∙◌, ◌∷◌, ◌≡◌}
 use Rattle.row_codec.proofs.Listed.{list_all-insert_by, next_row, still_numbered}
 
 module _ (t : Tables) (s : State) (n : ℕ) (means : Means t (Some s)) where

@@ -1,6 +1,6 @@
 -- What was read of a row is what the state has.
 use Rattle.std.proofs.Common.{◌≡◌, ℕ, ℤ, pos, Bool, true, false, cond, Option, Some, None, option_map, is_some, List, [], ◌∷◌, int_eq, refl, sym, ap, ◌∙◌, true≢false}
-use Rattle.row_codec.proofs.Common.{get, get_by, FlightDate, Part, State, Tables, Station, station_id, waybill_id, waybill_meant, flight_meant, expected_meant, kept_meant, natural, declared_by, is_designator, flight_key, outbound_by, expected_key, expected_by, part_key, kept_by, airport_in, confirmed_in, is_station, Means}
+use Rattle.row_codec.proofs.Common.{FlightDate, Means, Part, State, Station, Tables, airport_in, confirmed_in, declared_by, expected_by, expected_key, expected_meant, flight_key, flight_meant, get, get_by, is_designator, is_station, kept_by, kept_meant, natural, outbound_by, part_key, station_id, waybill_id, waybill_meant}
 use Rattle.station_rows.specs.declared.waybills.WaybillRow.{WaybillRow}
 use Rattle.station_rows.specs.declared.flights.FlightRow.{FlightRow}
 use Rattle.station_rows.specs.declared.expected.ExpectedRow.{ExpectedRow}

@@ -1,7 +1,6 @@
 -- From the calls of a store to what was posted.
 use Rattle.std.proofs.Common.{◌≡◌, Bool, true, false, is_some, Ordering, Option, Some, None, Result, option_map, refl, sym, ap, ap₂, subst, ◌∙◌}
-use Rattle.row_codec.proofs.Common.{IfOk, OnOk, Ok, Err, FinMap, get, insert, remove, View, Seen, Survives, Displays, inside, IsShowing, Tables, Build, BuildKey, Reads, ShowsChange, Tally, running_on, come_to, stored}
-use Rattle.station_schema.specs.ColumnKeys.{adjust}
+use Rattle.row_codec.proofs.Common.{Build, BuildKey, Displays, Err, FinMap, IfOk, IsShowing, Ok, OnOk, Reads, Seen, ShowsChange, Survives, Tables, Tally, View, adjust, come_to, get, insert, inside, remove, running_on, stored}
 
 pub survives_on : (old mid new : View) → Survives old mid → Survives mid new → Survives old new
 survives_on old mid new a b = record {

@@ -1,6 +1,6 @@
 -- The value of a map when a row is stored in it.
 use Rattle.std.proofs.Common.{◌≡◌, pos, Bool, true, false, cond, is_some, Option, Some, None, option_map, unwrap_or, refl, sym, ap, ap₂, ◌∙◌, Ordering}
-use Rattle.row_codec.proofs.Common.{IsTotalOrder, eq_by_cmp, int_eq, FinMap, get, insert, get-insert, get-remove, first_true, second_true, Tally, is_nothing, unless_nothing, plus, stored, come_to}
+use Rattle.row_codec.proofs.Common.{FinMap, IsTotalOrder, Tally, come_to, eq_by_cmp, first_true, get, get-insert, get-remove, insert, int_eq, is_nothing, plus, second_true, stored, unless_nothing}
 use Rattle.row_codec.proofs.Tests.{is_int, from_zero, some_is}
 
 pub record IsNone (r : Tally) : Type 0 where

@@ -1,6 +1,6 @@
 -- What the rows of tables say is what the state has that they mean.
 use Rattle.std.proofs.Common.{◌≡◌, ℕ, pos, true, Some, None, option_map, List, length, sym, ap, ◌∙◌}
-use Rattle.row_codec.proofs.Common.{get, cond-true, length-map, get_by, FlightDate, Part, State, Tables, Message, waybill_id, natural, declared_by, holders_in, is_designator, flight_key, outbound_by, move_by, book_in, expected_key, expected_by, part_key, line_by, trail_in, outbox_in, kept_by, airport_in, confirmed_in, Means}
+use Rattle.row_codec.proofs.Common.{FlightDate, Means, Message, Part, State, Tables, airport_in, book_in, cond-true, confirmed_in, declared_by, expected_by, expected_key, flight_key, get, get_by, holders_in, is_designator, kept_by, length-map, line_by, move_by, natural, outbound_by, outbox_in, part_key, trail_in, waybill_id}
 
 module _ (t : Tables) (s : State) (means : Means t (Some s)) where
   pub here_told : airport_in t.stations ≡ s.cargo.here

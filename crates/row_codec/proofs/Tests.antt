@@ -1,6 +1,5 @@
 -- Small laws of tests, options and numbers.
-use Rattle.std.proofs.Common.{◌≡◌, ℕ, ℤ, pos, ◌==◌, ◌+ℤ◌, ◌-ℤ◌, ◌-◌, Bool, true, false, ◌&&◌, Option, Some, None, refl, sym, arith, int_eq}
-use Rattle.row_codec.proofs.Common.{ints, nat_tests}
+use Rattle.row_codec.proofs.Common.{Bool, None, Option, Some, arith, false, int_eq, ints, nat_tests, pos, refl, sym, true, ℕ, ℤ, ◌&&◌, ◌+ℤ◌, ◌-ℤ◌, ◌-◌, ◌==◌, ◌≡◌}
 
 pub same_bool : (a b : Bool) → (a ≡ true → b ≡ true) → (b ≡ true → a ≡ true) → a ≡ b
 same_bool true b f g = sym (f refl)

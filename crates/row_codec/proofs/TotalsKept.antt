@@ -1,7 +1,6 @@
 -- What a store keeps when an amount was posted.
 use Rattle.std.proofs.Common.{◌≡◌, ℕ, ℤ, pos, ◌==◌, Bool, true, false, ◌&&◌, cond, Option, Some, None, option_map, List, [], ◌∷◌, ◌++◌, refl, sym, ap, subst, ◌∙◌, int_cmp}
-use Rattle.row_codec.proofs.Common.{eq_by_cmp, get, int_cmp-IsAntisymmetric, IsTotalOrder, int_cmp_total, pair_cmp, bytes_cmp, IsTrue, is_designator, flight_text, FlightDate, Move, Place, Built, pair_total, pair_same, texts_total, texts_same, View, inside, IsShowing, Tables, CountKey, count_cmp, BuildKey, build_cmp, Tally, running, running_in, running_on, count_row, build_row, is_nothing, unless_nothing, AreCounts, AreBuilds, place_code, Sums, plus, posting, come, gone, is_built, count_in, build_in, IfSome, IsRowOf, pieces_found, posting_count, posting_build}
-use Rattle.row_codec.specs.Posted.{Keeps, Posted, WereThere}
+use Rattle.row_codec.proofs.Common.{AreBuilds, AreCounts, BuildKey, Built, CountKey, FlightDate, IfSome, IsRowOf, IsShowing, IsTotalOrder, IsTrue, Keeps, Move, Place, Posted, Sums, Tables, Tally, View, WereThere, build_cmp, build_in, build_row, bytes_cmp, come, count_cmp, count_in, count_row, eq_by_cmp, flight_text, get, gone, inside, int_cmp-IsAntisymmetric, int_cmp_total, is_built, is_designator, is_nothing, pair_cmp, pair_same, pair_total, pieces_found, place_code, plus, posting, posting_build, posting_count, running, running_in, running_on, texts_same, texts_total, unless_nothing}
 use Rattle.row_codec.proofs.Tests.{and_no}
 use Rattle.row_codec.proofs.Storing.{nothing_is, posted_as, rows_again}
 use Rattle.row_codec.proofs.Codes as codes

@@ -1,6 +1,6 @@
 -- What is built on a flight, by the flight's written form.
 use Rattle.std.proofs.Common.{◌≡◌, ℕ, ℤ, pos, negsuc, ◌==◌, Bool, true, false, cond, ◌&&◌, List, Option, Some, None, option_map, refl, sym, ap, ap₂, ◌∙◌, true≢false, arith, int_eq, int_cmp, is_eq}
-use Rattle.row_codec.proofs.Common.{nat_tests, bytes_eq, eq_by_cmp, tied_itself, pair_cmp, bytes_cmp, Designator, IsTrue, is_designator, flight_of, flight_text, same_flight, bytes_eq-true, one_by_fields, same_of_one, same_place, FlightDate, Place, Built, pair_eq, int_tied, texts_total, texts_same, first_true, second_true, BuildKey, build_cmp, Tally, unless_nothing, build_row, written_flight, is_written, Sums, plus, posting, is_built, build_here, build_in}
+use Rattle.row_codec.proofs.Common.{BuildKey, Built, Designator, FlightDate, IsTrue, Place, Sums, Tally, build_cmp, build_here, build_in, build_row, bytes_cmp, bytes_eq, bytes_eq-true, eq_by_cmp, first_true, flight_of, flight_text, int_tied, is_built, is_designator, is_written, nat_tests, one_by_fields, pair_cmp, pair_eq, plus, posting, same_flight, same_of_one, same_place, second_true, texts_same, texts_total, tied_itself, unless_nothing, written_flight}
 use Rattle.row_codec.proofs.FlightKeys.{read_again, written_reads}
 use Rattle.row_codec.proofs.MapLaws.{is_tied}
 use Rattle.row_codec.proofs.Tests.{same_bool, is_false, and_no, some_is, none_is, int_pos, is_nat}

@@ -1,6 +1,5 @@
 -- The same writes, stated of the rows and the keys that were made of the values.
-use Rattle.std.proofs.Common.{◌≡◌, ℕ, ◌+◌, ℤ, pos, true, Some, List, [], ◌∷◌, length, sym, ap, subst, ◌∙◌, IsTrue}
-use Rattle.row_codec.proofs.Common.{is_utf8, written, flight_text, FlightDate, Declared, Outbound, Part, Declare, NoteFlight, Expect, NotePart, Trail, Confirm, get_by, is_key, State, IsRequest, on_cargo, with_key, with_text, with_messages, Tables, Waybill, waybill_id, Flight, FlightKey, Expected, ExpectedKey, PartKey, Kept, TrailLine, Message, with_waybill, changing_waybill, with_flight, with_expected, with_move, with_part, with_trail_line, with_message, with_kept, with_kept_text, confirming, is_count, waybill_row, is_waybill_row, is_designator, flight_key, outbound_row, is_flight_row, expected_key, expected_row, is_expected_row, part_key, is_part_row, move_by, move_row, is_move_row, line_row, is_trail_row, message_row, kept_row, Means}
+use Rattle.row_codec.proofs.Common.{Confirm, Declare, Declared, Expect, Expected, ExpectedKey, Flight, FlightDate, FlightKey, IsRequest, IsTrue, Kept, List, Means, Message, NoteFlight, NotePart, Outbound, Part, PartKey, Some, State, Tables, Trail, TrailLine, Waybill, [], ap, changing_waybill, confirming, expected_key, expected_row, flight_key, flight_text, get_by, is_count, is_designator, is_expected_row, is_flight_row, is_key, is_move_row, is_part_row, is_trail_row, is_utf8, is_waybill_row, kept_row, length, line_row, message_row, move_by, move_row, on_cargo, outbound_row, part_key, pos, subst, sym, true, waybill_id, waybill_row, with_expected, with_flight, with_kept, with_kept_text, with_key, with_message, with_messages, with_move, with_part, with_text, with_trail_line, with_waybill, written, ℕ, ℤ, ◌+◌, ◌∙◌, ◌∷◌, ◌≡◌}
 use Rattle.shipment_machine.specs.declared.moves.Expected as cargo
 use Rattle.shipment_machine.specs.declared.moves.Move as cargo_move
 use Rattle.station_core.specs.Step as step

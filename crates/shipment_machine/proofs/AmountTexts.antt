@@ -1,6 +1,5 @@
 -- Amounts as texts.
-use Rattle.std.proofs.Common.{◌≡◌, ◌∙◌, ◌+◌, ◌/◌, ◌%◌, ℕ, List, [], ◌∷◌, ◌++◌, arith, append_assoc}
-use Rattle.shipment_machine.proofs.Common.{codes, decimal, amount, amount_text, pieces_word}
+use Rattle.shipment_machine.proofs.Common.{List, [], amount, amount_text, append_assoc, arith, codes, decimal, pieces_word, ℕ, ◌%◌, ◌++◌, ◌+◌, ◌/◌, ◌∙◌, ◌∷◌, ◌≡◌}
 use Rattle.std.proofs.lemmas.Fmt.{decimal_digit}
 
 joined : (pieces word kilograms tenth : List ℕ) → pieces ++ 32 ∷ (word ++ 44 ∷ 32 ∷ (kilograms ++ 46 ∷ (tenth ++ codes " kg")))

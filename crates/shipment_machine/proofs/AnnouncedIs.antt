@@ -1,8 +1,6 @@
 -- The lines of a manifest, found from their rows, are those of the state.
-use Rattle.std.proofs.Common.{◌≡◌, ℕ, Bool, true, false, ◌&&◌, ◌==◌, Option, Some, None, Result, List, [], ◌∷◌, map, refl, sym, ap, subst, ◌∙◌, arith}
-use Rattle.shipment_machine.proofs.Common.{is_none, if◌then◌else◌, nat_tests, Holder, FlightDate, Expected, CargoLine, Change, Refusal, Cargo, written_all, line_view_of, first_refusal, unless_refused, then_write, row_refusals, row_changes, line_refusals, line_changes, lines_changes, dated, declared_by, expected_after, Earlier, no_earlier, with_line, is_new, expected_so_far, announced_changes}
+use Rattle.shipment_machine.proofs.Common.{Bool, Cargo, CargoLine, Change, Earlier, Expected, FlightDate, Holder, LineView, List, None, Option, Refusal, Result, Some, [], announced_changes, ap, arith, dated, declared_by, expected_after, expected_so_far, false, first_refusal, if◌then◌else◌, is_new, is_none, line_changes, line_refusals, line_view_of, lines_changes, map, nat_tests, no_earlier, refl, row_changes, row_refusals, subst, sym, then_write, true, unless_refused, with_line, written_all, ℕ, ◌&&◌, ◌==◌, ◌∙◌, ◌∷◌, ◌≡◌}
 use Rattle.agent_stock.specs.declared.stock.Holder.TheVariants as holder
-use Rattle.shipment_machine.specs.declared.view.LineView.{LineView}
 use Rattle.shipment_machine.proofs.FlightKeys.{same-refl}
 
 -- what the lines before have left of a waybill: nothing, or an expected row of a declared waybill

@@ -1,7 +1,5 @@
 -- The lines of a manifest, one after another.
-use Rattle.std.proofs.Common.{◌≡◌, ℕ, ◌+◌, ◌<◌, suc, Option, None, Result, Ok, Err, List, ◌∷◌, ◌++◌, length, get_or, drop, refl, sym, ap, ◌∙◌, append_assoc, add-one, drop-cons}
-use Rattle.shipment_machine.proofs.Common.{FlightDate, CargoLine, Change, Refusal, unless_refused, then_write, Earlier, with_line, refusal_now, changes_now, expected_now, announced_changes}
-use Rattle.shipment_machine.specs.declared.view.LineView.{LineView}
+use Rattle.shipment_machine.proofs.Common.{CargoLine, Change, Earlier, Err, FlightDate, LineView, List, None, Ok, Option, Refusal, Result, add-one, announced_changes, ap, append_assoc, changes_now, drop, drop-cons, expected_now, get_or, length, refl, refusal_now, suc, sym, then_write, unless_refused, with_line, ℕ, ◌++◌, ◌+◌, ◌<◌, ◌∙◌, ◌∷◌, ◌≡◌}
 
 abbrev ok : List Change → Result (List Change) Refusal
 ok changes = Ok changes

@@ -1,6 +1,5 @@
 -- Sums by flight: where no more goes out than in at each flight, no more goes out than in at all.
-use Rattle.std.proofs.Common.{◌≡◌, ℕ, zero, suc, ◌+◌, ◌-◌, ◌≤◌, Bool, true, false, List, [], ◌∷◌, length, refl, sym, ap, ◌∙◌, arith}
-use Rattle.shipment_machine.proofs.Common.{if◌then◌else◌, FlightDate, same_flight_date}
+use Rattle.shipment_machine.proofs.Common.{Bool, FlightDate, List, [], ap, arith, false, if◌then◌else◌, length, refl, same_flight_date, suc, sym, true, zero, ℕ, ◌+◌, ◌-◌, ◌∙◌, ◌∷◌, ◌≡◌, ◌≤◌}
 use Rattle.shipment_machine.proofs.FlightKeys.{same-refl, same-alike, same-comm}
 
 -- amounts on flights

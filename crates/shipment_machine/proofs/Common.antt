@@ -2,6 +2,7 @@
 pub use Rattle.agent_stock.specs.declared.stock.Holder.{Holder}
 pub use Rattle.imp_fields.proofs.ShareLemmas.{share_heavy, share_leaves}
 pub use Rattle.imp_fields.specs.Amount.{book_weight_of, share_of}
+pub use Rattle.imp_fields.specs.Characters.{is_line}
 pub use Rattle.shipment_machine.specs.Agreement.{AreRowsOf, AreSound, FitsCommand, IsAnswer, IsOnBoard, IsViewOf, RefusesAs, StaysLawful, meant_by, outcome_of, rows_answer, rows_for, view_of}
 pub use Rattle.shipment_machine.specs.Amount.{IsHeld, amount, amount_text, fits, less, part, pieces_word, plus}
 pub use Rattle.shipment_machine.specs.Announced.{Earlier, announced_changes, changes_now, expected_now, expected_so_far, is_new, no_earlier, part_key, refusal_now, with_line}
@@ -15,26 +16,36 @@ pub use Rattle.shipment_machine.specs.Numbers.{is_in}
 pub use Rattle.shipment_machine.specs.Views.{declaration, declaration_view, line_view_of, loads_of, rows_of, undeclared}
 pub use Rattle.shipment_machine.specs.declared.amount.Amount.{Amount}
 pub use Rattle.shipment_machine.specs.declared.command.CargoLine.{CargoLine}
+pub use Rattle.shipment_machine.specs.declared.command.InboundLine.{InboundLine}
+pub use Rattle.shipment_machine.specs.declared.command.InboundPart.{InboundPart}
 pub use Rattle.shipment_machine.specs.declared.command.ShipmentCommand.{ShipmentCommand}
 pub use Rattle.shipment_machine.specs.declared.flight.FlightDate.{FlightDate}
 pub use Rattle.shipment_machine.specs.declared.moves.Declared.{Declared}
 pub use Rattle.shipment_machine.specs.declared.moves.Expected.{Expected}
 pub use Rattle.shipment_machine.specs.declared.moves.Move.{Move}
 pub use Rattle.shipment_machine.specs.declared.moves.Outbound.{Outbound}
-pub use Rattle.shipment_machine.specs.declared.moves.Place.{Place}
+pub use Rattle.shipment_machine.specs.declared.moves.Part.{Part}
 pub use Rattle.shipment_machine.specs.declared.moves.Place.TheVariants.{Built, Delivered, Departed, Free, Hand, Missing, Surplus, Transferred}
-pub use Rattle.shipment_machine.specs.declared.plans.Change.{Change}
+pub use Rattle.shipment_machine.specs.declared.moves.Place.{Place}
 pub use Rattle.shipment_machine.specs.declared.plans.Change.TheVariants.{Declare, Expect, NoteFlight, NotePart, Trail, UseUp}
+pub use Rattle.shipment_machine.specs.declared.plans.Change.{Change}
+pub use Rattle.shipment_machine.specs.declared.plans.Plan.{Plan}
+pub use Rattle.shipment_machine.specs.declared.plans.PlanFault.{PlanFault}
 pub use Rattle.shipment_machine.specs.declared.plans.Refusal.{Refusal}
 pub use Rattle.shipment_machine.specs.declared.view.FlightLoad.{FlightLoad}
+pub use Rattle.shipment_machine.specs.declared.view.LineView.{LineView}
 pub use Rattle.station_days.specs.Date.{IsMomentDay, LocalMinute, is_moment_day, resolved}
-pub use Rattle.std.proofs.lemmas.Bool.{and_from, and_parts, cond-false, cond-true, eq-eqb, eqb-true, le-leb, le-ltb, leb-false, leb-true, lt-ltb, ltb-false, ltb-true, ne_eqb}
+pub use Rattle.std.proofs.Common.{All, Bool, Err, IfSome, IsSome, List, None, Ok, Option, Result, Some, [], add-one, ap, append_assoc, arith, drop, drop-cons, false, get_or, inl, inr, length, max, min, nat_eq, nat_le, nat_lt, not, refl, subst, suc, sym, take, true, true≢false, zero, zero-add, ℕ, ◌%◌, ◌&&◌, ◌*◌, ◌++◌, ◌+◌, ◌-◌, ◌/◌, ◌<◌, ◌==◌, ◌||◌, ◌∙◌, ◌∷◌, ◌≡◌, ◌≢◌, ◌≤◌, ◌⊎◌}
 pub use Rattle.std.proofs.lemmas.Bool.Decides.{nat_tests}
-pub use Rattle.std.proofs.lemmas.List.{append-nil, length-map}
+pub use Rattle.std.proofs.lemmas.Bool.{and_from, and_parts, cond-false, cond-true, eq-eqb, eqb-true, le-leb, le-ltb, leb-false, leb-true, lt-ltb, ltb-false, ltb-true, ne_eqb}
+pub use Rattle.std.proofs.lemmas.Int.{ints}
 pub use Rattle.std.proofs.lemmas.List.Elements.{All-cons, All-more, recursion_from_All}
 pub use Rattle.std.proofs.lemmas.List.Folds.{list_any-append}
 pub use Rattle.std.proofs.lemmas.List.Sums.{sum_by-append, sum_by-cons, sum_by_push}
+pub use Rattle.std.proofs.lemmas.List.{append-nil, length-map}
 pub use Rattle.std.specs.Bool.{if◌then◌else◌}
+pub use Rattle.std.specs.HashMap.{get}
 pub use Rattle.std.specs.List.{AllByRecursion, filter, flat_map, insert, list_all, list_any, prefix_len, range_with_len, sum_by}
+pub use Rattle.std.specs.Option.{unwrap_or}
 pub use Rattle.std.specs.Prelude.{IfErr, IfOk, IsTrue, codes, decimal, is_none, is_some, map, neg_ℤ, pos, ◌-ℤ◌, ◌↔◌}
 pub use Rattle.std.specs.Str.{bytes_eq}

@@ -1,6 +1,5 @@
 -- The state after a departure.
-use Rattle.std.proofs.Common.{◌≡◌, ℕ, ◌-◌, ◌<◌, ◌≤◌, Bool, true, false, ◌||◌, ◌==◌, nat_lt, Option, Some, None, IsSome, IfSome, List, [], ◌∷◌, ◌++◌, map, refl, sym, ap, subst, ◌∙◌, arith, true≢false}
-use Rattle.shipment_machine.proofs.Common.{if◌then◌else◌, bytes_eq, AllByRecursion, list_any, flat_map, ltb-true, nat_tests, list_any-append, LocalMinute, Amount, FlightDate, Built, Departed, Move, Outbound, FlightLoad, same_flight_date, same_place, pieces_of, built, has_moves, waybills_on, Cargo, declaration, loads_of, is_closed, move_of, depart_moves, IsLawful, IsLawfulMove, IsNoted, departs_with, is_in}
+use Rattle.shipment_machine.proofs.Common.{AllByRecursion, Amount, Bool, Built, Cargo, Departed, FlightDate, FlightLoad, IfSome, IsLawful, IsLawfulMove, IsNoted, IsSome, List, LocalMinute, Move, None, Option, Outbound, Some, [], ap, arith, built, bytes_eq, declaration, depart_moves, departs_with, false, flat_map, has_moves, if◌then◌else◌, is_closed, is_in, list_any, list_any-append, loads_of, ltb-true, map, move_of, nat_lt, nat_tests, pieces_of, refl, same_flight_date, same_place, subst, sym, true, true≢false, waybills_on, ℕ, ◌++◌, ◌-◌, ◌<◌, ◌==◌, ◌||◌, ◌∙◌, ◌∷◌, ◌≡◌, ◌≤◌}
 use Rattle.shipment_machine.proofs.Places.{added}
 use Rattle.shipment_machine.proofs.FlightKeys.{same-comm}
 use Rattle.shipment_machine.proofs.OnFlight.{is_in-waybills_on, none_in}

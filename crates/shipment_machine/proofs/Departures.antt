@@ -1,6 +1,5 @@
 -- A departure keeps a state lawful.
-use Rattle.std.proofs.Common.{◌≡◌, ℕ, ◌+◌, ◌-◌, ◌<◌, ◌≤◌, Bool, true, false, ◌&&◌, ◌||◌, ◌==◌, Option, Some, IsSome, List, [], ◌∷◌, ◌++◌, refl, sym, ap, subst, ◌∙◌, arith, append_assoc, true≢false}
-use Rattle.shipment_machine.proofs.Common.{list_any, nat_tests, append-nil, sum_by_push, sum_by-cons, sum_by-append, list_any-append, LocalMinute, Amount, FlightDate, Place, Built, Departed, Move, same_flight_date, same_place, pieces_of, tenths_of, moved_in, moved_out, brings, takes, built, Cargo, IsNoted, departs_with, builds_on, StaysDeparted, is_in}
+use Rattle.shipment_machine.proofs.Common.{Amount, Bool, Built, Cargo, Departed, FlightDate, IsNoted, IsSome, List, LocalMinute, Move, Option, Place, Some, StaysDeparted, [], ap, append-nil, append_assoc, arith, brings, builds_on, built, departs_with, false, is_in, list_any, list_any-append, moved_in, moved_out, nat_tests, pieces_of, refl, same_flight_date, same_place, subst, sum_by-append, sum_by-cons, sum_by_push, sym, takes, tenths_of, true, true≢false, ℕ, ◌&&◌, ◌++◌, ◌+◌, ◌-◌, ◌<◌, ◌==◌, ◌||◌, ◌∙◌, ◌∷◌, ◌≡◌, ◌≤◌}
 use Rattle.shipment_machine.specs.Numbers.{IsAscending as Rising}
 use Rattle.shipment_machine.proofs.Places.{added}
 use Rattle.shipment_machine.proofs.Rising.{below_in, not_in}

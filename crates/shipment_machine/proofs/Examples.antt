@@ -1,7 +1,6 @@
 -- The worked rows of the cargo commands, computed.
-use Rattle.std.proofs.Common.{◌≡◌, ℕ, ◌+◌, ◌*◌, Option, Some, None, Result, Ok, Err, List, [], ◌∷◌, ◌++◌, refl, true, false}
+use Rattle.shipment_machine.proofs.Common.{Amount, Built, Cargo, Declared, Delivered, Err, FlightDate, Free, Hand, InboundLine, List, LocalMinute, Missing, Move, None, Ok, Option, Outcome, Place, Refusal, Result, ShipmentCommand, Some, Surplus, Transferred, [], amount, amount_text, built, carried_out, codes, delivered, departed, effect, expected_amount, false, found, free, map, missing, opening_cargo, refl, store, taken, transferred, true, ℕ, ◌*◌, ◌++◌, ◌+◌, ◌∷◌, ◌≡◌}
 use Rattle.std.specs.Fmt.{digits}
-use Rattle.shipment_machine.proofs.Common.{codes, map, amount, amount_text, Amount, FlightDate, LocalMinute, Place, Hand, Surplus, Free, Built, Delivered, Missing, Transferred, Move, Declared, ShipmentCommand, Refusal, taken, found, free, built, missing, store, departed, delivered, transferred, Cargo, opening_cargo, Outcome, effect, carried_out, expected_amount}
 use Rattle.shipment_machine.specs.Texts.{refused_with}
 use Rattle.jiff_core.specs.Calendar.{days_of_years, days_of_months, day_count, days_from_civil}
 use Rattle.imp_fields.specs.Flight.{Designator}
@@ -12,7 +11,6 @@ use Rattle.shipment_machine.specs.declared.notice.Notice.TheVariants as notice
 use Rattle.shipment_machine.specs.declared.notice.Event.{Event}
 use Rattle.shipment_machine.specs.declared.notice.Event.TheVariants as event
 use Rattle.imp_fields.specs.declared.discrepancy.Discrepancy.TheVariants as discrepancy
-use Rattle.shipment_machine.specs.declared.command.InboundLine.{InboundLine}
 use Rattle.shipment_machine.specs.declared.command.ShipmentCommand.TheVariants as order
 use Rattle.shipment_machine.specs.declared.command.DeskCommand.TheVariants as desk
 use Rattle.shipment_machine.specs.declared.plans.Detail.TheVariants as detail

@@ -1,6 +1,5 @@
 -- Flights on a day are compared by their fields.
-use Rattle.std.proofs.Common.{◌≡◌, Bool, true, false, refl, sym, ap, ◌∙◌, true≢false}
-use Rattle.shipment_machine.proofs.Common.{and_parts, and_from, eqb-true, eq-eqb, FlightDate, same_flight_date}
+use Rattle.shipment_machine.proofs.Common.{Bool, FlightDate, and_from, and_parts, ap, eq-eqb, eqb-true, false, refl, same_flight_date, sym, true, true≢false, ◌∙◌, ◌≡◌}
 use Rattle.imp_fields.proofs.SameFlight.{one_by_fields, same_of_one}
 
 -- what compares the same is one flight on one day

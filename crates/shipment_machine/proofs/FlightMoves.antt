@@ -1,6 +1,5 @@
 -- Moves onto a flight and off it keep a state lawful.
-use Rattle.std.proofs.Common.{◌≡◌, ◌≢◌, ℕ, ◌+◌, ◌-◌, ◌<◌, ◌≤◌, Bool, true, false, ◌&&◌, ◌||◌, ◌==◌, nat_lt, Option, Some, IsSome, IfSome, List, [], ◌∷◌, ◌++◌, length, refl, sym, ap, subst, ◌∙◌, arith, true≢false, ◌⊎◌, inl, inr}
-use Rattle.shipment_machine.proofs.Common.{if◌then◌else◌, bytes_eq, AllByRecursion, list_any, filter, nat_tests, LocalMinute, FlightDate, Place, Free, Built, Departed, Move, Outbound, same_flight_date, same_place, pieces_of, moved_in, moved_out, built, waybills_of, waybills_on, put_rising, Cargo, is_closed, IsLawful, IsLawfulMove, departs_with, StaysDeparted, is_in}
+use Rattle.shipment_machine.proofs.Common.{AllByRecursion, Bool, Built, Cargo, Departed, FlightDate, Free, IfSome, IsLawful, IsLawfulMove, IsSome, List, LocalMinute, Move, Option, Outbound, Place, Some, StaysDeparted, [], ap, arith, built, bytes_eq, departs_with, false, filter, if◌then◌else◌, inl, inr, is_closed, is_in, length, list_any, moved_in, moved_out, nat_lt, nat_tests, pieces_of, put_rising, refl, same_flight_date, same_place, subst, sym, true, true≢false, waybills_of, waybills_on, ℕ, ◌&&◌, ◌++◌, ◌+◌, ◌-◌, ◌<◌, ◌==◌, ◌||◌, ◌∙◌, ◌∷◌, ◌≡◌, ◌≢◌, ◌≤◌, ◌⊎◌}
 use Rattle.shipment_machine.proofs.Places.{added}
 use Rattle.shipment_machine.proofs.FlightKeys.{same-sym, same-alike, same-comm}
 use Rattle.shipment_machine.specs.Numbers.{IsAscending as Rising}

@@ -1,8 +1,5 @@
 -- A plan from a view of a lawful state.
-use Rattle.std.proofs.Common.{◌≡◌, ℕ, Option, Result, Ok, Err, sym, ap, subst, ◌∙◌}
-use Rattle.shipment_machine.proofs.Common.{IfOk, IfErr, LocalMinute, ShipmentCommand, Refusal, IsAnswer, IsViewOf, RefusesAs, StaysLawful, view_of, outcome_of, meant_by, FitsCommand, rows_answer, Cargo, Outcome, effect, carried_out, IsLawful, IsProper}
-use Rattle.shipment_machine.specs.declared.plans.Plan.{Plan}
-use Rattle.shipment_machine.specs.declared.plans.PlanFault.{PlanFault}
+use Rattle.shipment_machine.proofs.Common.{Cargo, Err, FitsCommand, IfErr, IfOk, IsAnswer, IsLawful, IsProper, IsViewOf, LocalMinute, Ok, Option, Outcome, Plan, PlanFault, Refusal, RefusesAs, Result, ShipmentCommand, StaysLawful, ap, carried_out, effect, meant_by, outcome_of, rows_answer, subst, sym, view_of, ℕ, ◌∙◌, ◌≡◌}
 use Rattle.shipment_machine.specs.declared.view.View.{View}
 use Rattle.shipment_machine.proofs.ViewAnswers.{fits, answers, planned, refused}
 use Rattle.shipment_machine.proofs.KeepsAll.{keeps_lawful}

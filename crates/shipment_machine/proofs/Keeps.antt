@@ -1,7 +1,5 @@
 -- Commands that keep a state lawful.
-use Rattle.std.proofs.Common.{◌≡◌, ℕ, Bool, true, false, ◌||◌, ◌==◌, Option, Some, None, is_none, IsSome, IfSome, IfOk, List, [], ◌∷◌, refl, sym, subst, true≢false}
-use Rattle.shipment_machine.proofs.Common.{if◌then◌else◌, AllByRecursion, ltb-false, append-nil, LocalMinute, Move, Declared, Expected, ShipmentCommand, Refusal, Cargo, declaration, undeclared, Outcome, effect, rule, first_refusal, unless_refused, carried_out, IsLawful, IsLawfulAmount}
-use Rattle.std.specs.Option.{unwrap_or}
+use Rattle.shipment_machine.proofs.Common.{AllByRecursion, Bool, Cargo, Declared, Expected, IfOk, IfSome, IsLawful, IsLawfulAmount, IsSome, List, LocalMinute, Move, None, Option, Outcome, Refusal, ShipmentCommand, Some, [], append-nil, carried_out, declaration, effect, false, first_refusal, if◌then◌else◌, is_none, ltb-false, refl, rule, subst, sym, true, true≢false, undeclared, unless_refused, unwrap_or, ℕ, ◌==◌, ◌||◌, ◌∷◌, ◌≡◌}
 use Rattle.shipment_machine.specs.declared.command.ShipmentCommand.TheVariants as order
 use Rattle.shipment_machine.specs.declared.command.DeskCommand.TheVariants as desk
 use Rattle.shipment_machine.proofs.Places.{noted_under}

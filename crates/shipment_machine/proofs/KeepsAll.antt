@@ -1,6 +1,5 @@
 -- Whatever is done, a lawful state stays lawful. The commands that take up few lines are here, the others in files of their own.
-use Rattle.std.proofs.Common.{◌≡◌, ℕ, zero, suc, ◌+◌, ◌-◌, ◌≤◌, min, max, Bool, true, false, ◌||◌, nat_lt, Option, Some, None, IsSome, List, refl, subst, arith, append_assoc, true≢false}
-use Rattle.shipment_machine.proofs.Common.{IfOk, ltb-false, recursion_from_All, LocalMinute, Amount, FlightDate, Place, Hand, Surplus, Free, Built, Delivered, Missing, Transferred, Move, amount, part, plus, same_place, pieces_of, tenths_of, taken, free, built, missing, taken_and_found, Cargo, effect, carried_out, move_of, surplus, is_pair, IsLawful, IsNoted, NamesFlight, HasPieces, KeepsLawful}
+use Rattle.shipment_machine.proofs.Common.{Amount, Bool, Built, Cargo, Delivered, FlightDate, Free, Hand, HasPieces, IfOk, IsLawful, IsNoted, IsSome, KeepsLawful, List, LocalMinute, Missing, Move, NamesFlight, None, Option, Place, Some, Surplus, Transferred, amount, append_assoc, arith, built, carried_out, effect, false, free, is_pair, ltb-false, max, min, missing, move_of, nat_lt, part, pieces_of, plus, recursion_from_All, refl, same_place, subst, suc, surplus, taken, taken_and_found, tenths_of, true, true≢false, zero, ℕ, ◌+◌, ◌-◌, ◌||◌, ◌≡◌, ◌≤◌}
 use Rattle.shipment_machine.specs.declared.command.DeskCommand.{DeskCommand}
 use Rattle.shipment_machine.specs.declared.command.DeskCommand.TheVariants as desk
 use Rattle.shipment_machine.specs.declared.command.ShipmentCommand.TheVariants as order

@@ -1,6 +1,5 @@
 -- Check-in, striking, manifest, rerouting and departure keep a state lawful.
-use Rattle.std.proofs.Common.{◌≡◌, ℕ, ◌+◌, ◌-◌, ◌<◌, ◌≤◌, Bool, true, false, ◌&&◌, ◌==◌, nat_lt, nat_le, Option, Some, None, is_none, IsSome, IfSome, IfOk, List, [], ◌∷◌, ◌++◌, length, refl, sym, ap, subst, ◌∙◌, arith, append_assoc, true≢false, inl, inr}
-use Rattle.shipment_machine.proofs.Common.{is_some, length-map, append-nil, if◌then◌else◌, bytes_eq, leb-true, leb-false, ltb-true, ltb-false, nat_tests, share_of, LocalMinute, Amount, FlightDate, Hand, Surplus, Free, Built, Missing, Move, Expected, Outbound, FlightLoad, NoteFlight, part, less, plus, pieces_of, tenths_of, free, built, taken_and_found, waybills_on, Cargo, written_all, declaration, effect, carried_out, move_of, is_closed, unload_of, expected_amount, counted_in, uncounted, counted_more, check_in_moves, struck, IsLawful, IsLawfulAmount, IsNoted, share_heavy, share_leaves}
+use Rattle.shipment_machine.proofs.Common.{Amount, Bool, Built, Cargo, Expected, FlightDate, FlightLoad, Free, Hand, IfOk, IfSome, IsLawful, IsLawfulAmount, IsNoted, IsSome, List, LocalMinute, Missing, Move, None, NoteFlight, Option, Outbound, Some, Surplus, [], ap, append-nil, append_assoc, arith, built, bytes_eq, carried_out, check_in_moves, counted_in, counted_more, declaration, effect, expected_amount, false, free, if◌then◌else◌, inl, inr, is_closed, is_none, is_some, leb-false, leb-true, length, length-map, less, ltb-false, ltb-true, move_of, nat_le, nat_lt, nat_tests, part, pieces_of, plus, refl, share_heavy, share_leaves, share_of, struck, subst, sym, taken_and_found, tenths_of, true, true≢false, uncounted, unload_of, waybills_on, written_all, ℕ, ◌&&◌, ◌++◌, ◌+◌, ◌-◌, ◌<◌, ◌==◌, ◌∙◌, ◌∷◌, ◌≡◌, ◌≤◌}
 use Rattle.shipment_machine.specs.declared.command.ShipmentCommand.TheVariants as order
 use Rattle.shipment_machine.specs.declared.command.DeskCommand.TheVariants as desk
 use Rattle.shipment_machine.proofs.FlightKeys.{same-refl}

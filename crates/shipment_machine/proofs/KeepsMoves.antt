@@ -1,6 +1,5 @@
 -- Moves that keep a state lawful: a part of what is at a place, or pieces from outside.
-use Rattle.std.proofs.Common.{◌≡◌, ℕ, ◌+◌, ◌≤◌, Bool, true, false, not, ◌==◌, nat_le, Option, Some, None, is_none, IsSome, List, [], ◌∷◌, ◌++◌, refl, sym, subst, ◌∙◌, arith, true≢false}
-use Rattle.shipment_machine.proofs.Common.{if◌then◌else◌, and_parts, leb-true, nat_tests, append-nil, share_of, LocalMinute, Amount, FlightDate, Place, Hand, Move, fits, same_place, pieces_of, tenths_of, taken, Cargo, move_of, is_outside, is_pair, IsLawful, IsNoted, NamesFlight, share_heavy}
+use Rattle.shipment_machine.proofs.Common.{Amount, Bool, Cargo, FlightDate, Hand, IsLawful, IsNoted, IsSome, List, LocalMinute, Move, NamesFlight, None, Option, Place, Some, [], and_parts, append-nil, arith, false, fits, if◌then◌else◌, is_none, is_outside, is_pair, leb-true, move_of, nat_le, nat_tests, not, pieces_of, refl, same_place, share_heavy, share_of, subst, sym, taken, tenths_of, true, true≢false, ℕ, ◌++◌, ◌+◌, ◌==◌, ◌∙◌, ◌∷◌, ◌≡◌, ◌≤◌}
 use Rattle.shipment_machine.proofs.Conserved.{came}
 use Rattle.shipment_machine.proofs.SoundBook.{IsFitting, with_move, there_are, came_after, part_leaves}
 use Rattle.shipment_machine.proofs.Places.{added}

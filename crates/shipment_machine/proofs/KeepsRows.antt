@@ -1,12 +1,6 @@
 -- Declarations, manifests' parts and status messages keep a state lawful.
-use Rattle.std.proofs.Common.{◌≡◌, ℕ, ◌+◌, ◌≤◌, max, Bool, true, false, not, ◌&&◌, ◌||◌, Option, Some, None, is_none, IsSome, IfSome, Result, Ok, Err, IfOk, List, [], ◌∷◌, ◌++◌, map, length, refl, sym, subst, arith, true≢false}
-use Rattle.shipment_machine.proofs.Common.{if◌then◌else◌, bytes_eq, IsTrue, AllByRecursion, filter, list_all, and_parts, append-nil, Move, book_weight_of, LocalMinute, Holder, FlightDate, Declared, Expected, CargoLine, Change, Expect, NotePart, Trail, Refusal, amount, fits, Cargo, written, written_all, declaration_view, effect, carried_out, first_refusal, unless_refused, then_write, declaring, declare, dated, declared_by, all_pieces, booked, expected_amount, expected_after, row_changes, line_refusals, line_changes, lines_changes, lines_for, inbound_flight, inbound_part, announced, IsLawful, IsLawfulAmount, HasPieces, share_heavy}
-use Rattle.std.specs.Option.{unwrap_or}
-use Rattle.imp_fields.specs.Characters.{is_line}
+use Rattle.shipment_machine.proofs.Common.{AllByRecursion, Bool, Cargo, CargoLine, Change, Declared, Err, Expect, Expected, FlightDate, HasPieces, Holder, IfOk, IfSome, InboundLine, InboundPart, IsLawful, IsLawfulAmount, IsSome, IsTrue, List, LocalMinute, Move, None, NotePart, Ok, Option, Part, Refusal, Result, Some, Trail, [], all_pieces, amount, and_parts, announced, append-nil, arith, book_weight_of, booked, bytes_eq, carried_out, dated, declaration_view, declare, declared_by, declaring, effect, expected_after, expected_amount, false, filter, first_refusal, fits, if◌then◌else◌, inbound_flight, inbound_part, is_line, is_none, length, line_changes, line_refusals, lines_changes, lines_for, list_all, map, max, not, refl, row_changes, share_heavy, subst, sym, then_write, true, true≢false, unless_refused, unwrap_or, written, written_all, ℕ, ◌&&◌, ◌++◌, ◌+◌, ◌||◌, ◌∷◌, ◌≡◌, ◌≤◌}
 use Rattle.agent_stock.specs.declared.stock.Holder.TheVariants as holder
-use Rattle.shipment_machine.specs.declared.moves.Part.{Part}
-use Rattle.shipment_machine.specs.declared.command.InboundLine.{InboundLine}
-use Rattle.shipment_machine.specs.declared.command.InboundPart.{InboundPart}
 use Rattle.shipment_machine.specs.declared.command.InboundStatus.{InboundStatus}
 use Rattle.shipment_machine.specs.declared.command.ShipmentCommand.TheVariants as order
 use Rattle.shipment_machine.specs.declared.command.DeskCommand.TheVariants as desk

@@ -1,6 +1,5 @@
 -- What a view of a lawful state shows is within bounds.
-use Rattle.std.proofs.Common.{◌≡◌, ℕ, ◌+◌, ◌-◌, ◌<◌, Bool, true, false, ◌==◌, nat_lt, Option, Some, None, IsSome, IfSome, List, [], ◌∷◌, map, length, refl, sym, ap, ◌∙◌, arith, true≢false, All}
-use Rattle.shipment_machine.proofs.Common.{is_some, if◌then◌else◌, AllByRecursion, filter, ltb-true, sum_by-cons, All-cons, FlightDate, Place, Built, Move, Expected, FlightLoad, same_flight_date, IsHeld, same_place, pieces_of, moved_in, moved_out, brings, built, waybills_of, waybills_on, Cargo, declaration, loads_of, expected_amount, IsOnBoard, IsLawfulMove, IsLawfulAmount, IsNoted, IsLawful}
+use Rattle.shipment_machine.proofs.Common.{All, All-cons, AllByRecursion, Bool, Built, Cargo, Expected, FlightDate, FlightLoad, IfSome, IsHeld, IsLawful, IsLawfulAmount, IsLawfulMove, IsNoted, IsOnBoard, IsSome, List, Move, None, Option, Place, Some, [], ap, arith, brings, built, declaration, expected_amount, false, filter, if◌then◌else◌, is_some, length, loads_of, ltb-true, map, moved_in, moved_out, nat_lt, pieces_of, refl, same_flight_date, same_place, sum_by-cons, sym, true, true≢false, waybills_of, waybills_on, ℕ, ◌+◌, ◌-◌, ◌<◌, ◌==◌, ◌∙◌, ◌∷◌, ◌≡◌}
 use Rattle.shipment_machine.proofs.Places.{no_added}
 use Rattle.shipment_machine.proofs.FlightKeys.{same-is}
 use Rattle.shipment_machine.proofs.Conserved.{held_built}

@@ -1,6 +1,5 @@
 -- The day that a date means.
-use Rattle.std.proofs.Common.{◌≡◌, ℕ, true, false, nat_le, Option, Some, None, IsSome, IfSome, refl, sym, ap, ◌∙◌, true≢false}
-use Rattle.shipment_machine.proofs.Common.{◌↔◌, is_some, and_parts, and_from, le-leb, leb-true, IsMomentDay, is_moment_day, is_day}
+use Rattle.shipment_machine.proofs.Common.{IfSome, IsMomentDay, IsSome, None, Option, Some, and_from, and_parts, ap, false, is_day, is_moment_day, is_some, le-leb, leb-true, nat_le, refl, sym, true, true≢false, ℕ, ◌↔◌, ◌∙◌, ◌≡◌}
 
 inside : (day : ℕ) → IsMomentDay day → is_moment_day day ≡ true
 inside day h = and_from _ _ (le-leb 10957 day h.0) (le-leb day 47481 h.1)

@@ -1,8 +1,7 @@
 -- A station with nothing in it is lawful.
-use Rattle.std.proofs.Common.{ℕ, List, refl, arith}
+use Rattle.shipment_machine.proofs.Common.{IsLawful, List, arith, opening_cargo, refl, ℕ}
 use Rattle.std.proofs.lemmas.Option.{none-some}
 use Rattle.agent_stock.specs.declared.stock.Holder.TheVariants.{Used}
-use Rattle.shipment_machine.proofs.Common.{opening_cargo, IsLawful}
 
 pub opening_lawful : (here : List ℕ) → IsLawful (opening_cargo here)
 opening_lawful here = record {

@@ -1,6 +1,6 @@
 -- What each place is and isn't. A place that isn't built is like the others, so that few lines name one.
 use Rattle.std.proofs.Common.{◌≡◌, ℕ, ◌+◌, Bool, true, false, ◌&&◌, if◌then◌else◌, IsSome, refl, sym, ◌∙◌, arith, true≢false}
-use Rattle.shipment_machine.proofs.Common.{FlightDate, Place, Hand, Surplus, Built, same_place, Cargo, is_outside, is_pair, IsNoted}
+use Rattle.shipment_machine.proofs.Common.{Built, Cargo, FlightDate, Hand, IsNoted, Place, Surplus, is_outside, is_pair, same_place}
 use Rattle.shipment_machine.proofs.FlightKeys.{same-alike}
 
 -- Nothing moves to the surplus, and to the hand only from the free cargo.

@@ -1,6 +1,5 @@
 -- A number in its place among ascending ones.
-use Rattle.std.proofs.Common.{◌≡◌, ◌≢◌, ℕ, suc, ◌+◌, ◌<◌, ◌≤◌, true, false, ◌==◌, nat_lt, List, [], ◌∷◌, length, refl, sym, ap, ◌∙◌, get_or, arith}
-use Rattle.shipment_machine.proofs.Common.{prefix_len, insert, cond-true, cond-false, ltb-true, ltb-false, le-ltb, lt-ltb, eq-eqb, ne_eqb, put_rising}
+use Rattle.shipment_machine.proofs.Common.{List, [], ap, arith, cond-false, cond-true, eq-eqb, false, get_or, insert, le-ltb, length, lt-ltb, ltb-false, ltb-true, nat_lt, ne_eqb, prefix_len, put_rising, refl, suc, sym, true, ℕ, ◌+◌, ◌<◌, ◌==◌, ◌∙◌, ◌∷◌, ◌≡◌, ◌≢◌, ◌≤◌}
 use Rattle.std.proofs.Math.ListN.{get_or-eq_default}
 
 abbrev pub below : ℕ → List ℕ → ℕ

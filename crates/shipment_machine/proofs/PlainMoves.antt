@@ -1,6 +1,5 @@
 -- A move that has nothing to do with a flight keeps a state lawful.
-use Rattle.std.proofs.Common.{◌≡◌, ℕ, ◌+◌, ◌-◌, ◌≤◌, Bool, true, false, ◌&&◌, ◌||◌, ◌==◌, nat_le, List, [], ◌∷◌, ◌++◌, length, refl, sym, subst, ◌∙◌, arith, true≢false}
-use Rattle.shipment_machine.proofs.Common.{IsTrue, list_any, and_parts, and_from, leb-true, sum_by_push, list_any-append, nat_tests, FlightDate, Built, Move, fits, same_place, pieces_of, moved_in, moved_out, brings, takes, taken_and_found, built, Cargo, IsLawful, departs_with, builds_on, StaysDeparted}
+use Rattle.shipment_machine.proofs.Common.{Bool, Built, Cargo, FlightDate, IsLawful, IsTrue, List, Move, StaysDeparted, [], and_from, and_parts, arith, brings, builds_on, built, departs_with, false, fits, leb-true, length, list_any, list_any-append, moved_in, moved_out, nat_le, nat_tests, pieces_of, refl, same_place, subst, sum_by_push, sym, taken_and_found, takes, true, true≢false, ℕ, ◌&&◌, ◌++◌, ◌+◌, ◌-◌, ◌==◌, ◌||◌, ◌∙◌, ◌∷◌, ◌≡◌, ◌≤◌}
 use Rattle.shipment_machine.proofs.Places.{is_built, not_built, not_built_on, added, no_added}
 use Rattle.shipment_machine.proofs.OnFlight.{same_waybills_on}
 use Rattle.shipment_machine.proofs.SoundBook.{IsFitting, IsSound, with_move, sound_after}

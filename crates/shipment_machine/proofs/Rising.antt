@@ -1,6 +1,5 @@
 -- Lists of ascending numbers, and the waybills on a flight.
-use Rattle.std.proofs.Common.{◌≡◌, ◌≢◌, ℕ, ◌<◌, Bool, true, false, ◌&&◌, ◌||◌, ◌==◌, nat_lt, List, [], ◌∷◌, refl, sym, ap, subst, ◌∙◌, arith, true≢false}
-use Rattle.shipment_machine.proofs.Common.{if◌then◌else◌, AllByRecursion, filter, nat_tests, put_rising, is_in}
+use Rattle.shipment_machine.proofs.Common.{AllByRecursion, Bool, List, [], ap, arith, false, filter, if◌then◌else◌, is_in, nat_lt, nat_tests, put_rising, refl, subst, sym, true, true≢false, ℕ, ◌&&◌, ◌<◌, ◌==◌, ◌||◌, ◌∙◌, ◌∷◌, ◌≡◌, ◌≢◌}
 use Rattle.shipment_machine.specs.Numbers.{IsAscending as Rising}
 
 above_trans : (a b : ℕ) (xs : List ℕ) → a < b → AllByRecursion (λ y. b < y) xs → AllByRecursion (λ y. a < y) xs

@@ -1,7 +1,5 @@
 -- What is shown of a waybill in a lawful state is its balances.
-use Rattle.std.proofs.Common.{◌≡◌, ℕ, ◌-◌, ◌≤◌, Bool, false, List, arith}
-use Rattle.shipment_machine.proofs.Common.{pos, neg_ℤ, ◌-ℤ◌, Place, Hand, Surplus, Move, same_place, in_store, pieces_of, tenths_of, moved_in, moved_out, held, drawn, Cargo, IsLawful, is_outside, IsBalance, CameFrom, AreBalances}
-use Rattle.std.proofs.lemmas.Int.{ints}
+use Rattle.shipment_machine.proofs.Common.{AreBalances, Bool, CameFrom, Cargo, Hand, IsBalance, IsLawful, List, Move, Place, Surplus, arith, drawn, false, held, in_store, ints, is_outside, moved_in, moved_out, neg_ℤ, pieces_of, pos, same_place, tenths_of, ℕ, ◌-ℤ◌, ◌-◌, ◌≡◌, ◌≤◌}
 use Rattle.shipment_machine.proofs.Conserved.{none_in_surplus, stay_pieces, stay_tenths, store_stays}
 
 left : (i o : ℕ) → o ≤ i → pos (i - o) ≡ pos i -ℤ pos o

@@ -1,6 +1,5 @@
 -- One more move leaves a book sound: no place overdrawn, what came in within bounds, each move lawful.
-use Rattle.std.proofs.Common.{◌≡◌, ℕ, ◌+◌, ◌-◌, ◌*◌, ◌/◌, ◌≤◌, Bool, true, false, ◌&&◌, ◌==◌, IsSome, List, [], ◌∷◌, ◌++◌, refl, sym, ap, subst, arith, true≢false}
-use Rattle.shipment_machine.proofs.Common.{if◌then◌else◌, AllByRecursion, sum_by_push, nat_tests, share_of, share_leaves, share_heavy, FlightDate, Place, Hand, Surplus, Move, same_place, pieces_of, tenths_of, moved_in, moved_out, brings, takes, taken, Cargo, is_outside, is_pair, IsStocked, IsCovered, IsNoted, NamesFlight, IsLawfulMove}
+use Rattle.shipment_machine.proofs.Common.{AllByRecursion, Bool, Cargo, FlightDate, Hand, IsCovered, IsLawfulMove, IsNoted, IsSome, IsStocked, List, Move, NamesFlight, Place, Surplus, [], ap, arith, brings, false, if◌then◌else◌, is_outside, is_pair, moved_in, moved_out, nat_tests, pieces_of, refl, same_place, share_heavy, share_leaves, share_of, subst, sum_by_push, sym, taken, takes, tenths_of, true, true≢false, ℕ, ◌&&◌, ◌*◌, ◌++◌, ◌+◌, ◌-◌, ◌/◌, ◌==◌, ◌∷◌, ◌≡◌, ◌≤◌}
 use Rattle.std.proofs.lemmas.Nat.{le-div}
 use Rattle.shipment_machine.proofs.Conserved.{none_in, came}
 use Rattle.shipment_machine.proofs.Places.{never_surplus, outside_split, outside_too, same_test, noted_under, added, no_added}

@@ -1,14 +1,10 @@
 -- A view of a lawful state fits its command, and decides the effect.
-use Rattle.std.proofs.Common.{◌≡◌, ℕ, Bool, true, false, not, Option, Some, None, Result, Ok, Err, List, [], map, length, refl, sym, ap, ◌∙◌, true≢false}
-use Rattle.shipment_machine.proofs.Common.{is_some, IfOk, IfErr, if◌then◌else◌, length-map, LocalMinute, resolved, ShipmentCommand, Change, Refusal, balances_of, Cargo, line_view_of, rows_of, Outcome, reads, effect, decided, unless_refused, first_refusal, announcing, announced, lines_for, is_day, inbound_flight, inbound_part, no_earlier, announced_changes, part_key, AreSound, AreRowsOf, FitsCommand, rows_answer, meant_by, rows_for, outcome_of, RefusesAs, IsAnswer, IsLawful}
+use Rattle.shipment_machine.proofs.Common.{AreRowsOf, AreSound, Bool, Cargo, Change, Err, FitsCommand, IfErr, IfOk, InboundPart, IsAnswer, IsLawful, List, LocalMinute, None, Ok, Option, Outcome, Plan, PlanFault, Refusal, RefusesAs, Result, ShipmentCommand, Some, [], announced, announced_changes, announcing, ap, balances_of, decided, effect, false, first_refusal, if◌then◌else◌, inbound_flight, inbound_part, is_day, is_some, length, length-map, line_view_of, lines_for, map, meant_by, no_earlier, not, outcome_of, part_key, reads, refl, resolved, rows_answer, rows_for, rows_of, sym, true, true≢false, unless_refused, ℕ, ◌∙◌, ◌≡◌}
 use Rattle.shipment_machine.specs.declared.view.RowsKey.{RowsKey}
 use Rattle.shipment_machine.specs.declared.view.RowsKey.TheVariants as key
 use Rattle.shipment_machine.specs.declared.view.Rows.{Rows}
 use Rattle.shipment_machine.specs.declared.view.Rows.TheVariants as rows
-use Rattle.shipment_machine.specs.declared.command.InboundPart.{InboundPart}
 use Rattle.shipment_machine.specs.declared.command.ShipmentCommand.TheVariants as order
-use Rattle.shipment_machine.specs.declared.plans.Plan.{Plan}
-use Rattle.shipment_machine.specs.declared.plans.PlanFault.{PlanFault}
 use Rattle.shipment_machine.specs.declared.plans.PlanFault.TheVariants as fault
 use Rattle.shipment_machine.specs.declared.plans.Detail.TheVariants as detail
 use Rattle.imp_fields.specs.declared.fault.Why.TheVariants as why

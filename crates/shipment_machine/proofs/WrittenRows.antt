@@ -1,9 +1,6 @@
 -- Written rows keep a state lawful.
-use Rattle.std.proofs.Common.{◌≡◌, ℕ, Bool, true, false, ◌&&◌, ◌==◌, Option, Some, None, IsSome, IfSome, List, [], ◌∷◌, ◌++◌, refl, sym, ap, subst, arith}
-use Rattle.shipment_machine.proofs.Common.{if◌then◌else◌, IsTrue, AllByRecursion, nat_tests, Holder, FlightDate, Declared, Expected, Declare, UseUp, Expect, NotePart, Trail, same_flight_date, Cargo, written, written_all, declare, IsLawful, IsLawfulMove, IsLawfulAmount}
-use Rattle.imp_fields.specs.Characters.{is_line}
+use Rattle.shipment_machine.proofs.Common.{AllByRecursion, Bool, Cargo, Declare, Declared, Expect, Expected, FlightDate, Holder, IfSome, IsLawful, IsLawfulAmount, IsLawfulMove, IsSome, IsTrue, List, None, NotePart, Option, Part, Some, Trail, UseUp, [], ap, arith, declare, false, if◌then◌else◌, is_line, nat_tests, refl, same_flight_date, subst, sym, true, written, written_all, ℕ, ◌&&◌, ◌++◌, ◌==◌, ◌∷◌, ◌≡◌}
 use Rattle.agent_stock.specs.declared.stock.Holder.TheVariants as holder
-use Rattle.shipment_machine.specs.declared.moves.Part.{Part}
 use Rattle.shipment_machine.proofs.Keeps.{declares}
 use Rattle.shipment_machine.proofs.SoundBook.{move_under, all_map, same_number}
 

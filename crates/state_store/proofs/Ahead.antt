@@ -1,7 +1,5 @@
 -- The entries of a stock that are ahead, and what an entry more says.
-use Rattle.std.proofs.Common.{◌≡◌, ◌∙◌, ℕ, ◌+◌, ◌<◌, ◌≤◌, Bool, true, false, cond, ◌&&◌, nat_le, nat_lt, Option, Some, None, [], ◌∷◌, refl, ap, arith, subst, inl, inr}
-use Rattle.state_store.proofs.Common.{cases_lt, nat_tests, Holders, AreStockRuns, IsNoneFrom, with_run, Holder, below, named_by, with_numbers}
-use Rattle.agent_stock.specs.declared.runs.StockRun.{StockRun}
+use Rattle.state_store.proofs.Common.{AreStockRuns, Bool, Holder, Holders, IsNoneFrom, None, Option, Some, StockRun, [], ap, arith, below, cases_lt, cond, false, inl, inr, named_by, nat_le, nat_lt, nat_tests, refl, subst, true, with_numbers, with_run, ℕ, ◌&&◌, ◌+◌, ◌<◌, ◌∙◌, ◌∷◌, ◌≡◌, ◌≤◌}
 use Rattle.state_store.proofs.Named.{AreAbove, Entries, Names, Rise, begins, named, one_name}
 
 -- ---- numbers of one holder, some more of them

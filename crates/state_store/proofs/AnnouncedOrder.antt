@@ -1,8 +1,6 @@
 -- The entries of declarations as the rows of the readers.
 use Rattle.std.proofs.Common.{◌≡◌, ◌∙◌, arith, ℕ, Bool, true, false, cond, ◌==◌, Option, Some, None, List, [], ◌∷◌, ◌++◌, map, option_map, find, refl, sym, ap, subst, Less}
-use Rattle.state_store.proofs.Common.{is_at, is_sorted, AllByRecursion, flat_map, IsStrictlySortedBy, keys_of, lookup, is_lt, nat_cmp, and_from, eqb-true, common_steps, flat_map-cons, sorted_head, sorted_tail, Move, AreAnnounced, has_come, announced_by, cargo_of, MapState}
-use Rattle.std.specs.FinMap.Entries.{below_all}
-use Rattle.shipment_machine.specs.declared.moves.Declared.{Declared}
+use Rattle.state_store.proofs.Common.{AllByRecursion, AreAnnounced, Declared, IsStrictlySortedBy, MapState, Move, and_from, announced_by, below_all, cargo_of, common_steps, eqb-true, flat_map, flat_map-cons, has_come, is_at, is_lt, is_sorted, keys_of, lookup, nat_cmp, sorted_head, sorted_tail}
 use Rattle.station_core.specs.declared.rows.AnnouncedRow.{AnnouncedRow}
 
 key_is : (k w : ℕ) → is_at (nat_cmp w) k ≡ (w == k)

@@ -1,10 +1,8 @@
 -- Rows by sums that are kept in order are those of the book.
-use Rattle.std.proofs.Common.{◌≡◌, ◌∙◌, ℕ, suc, ◌<◌, Bool, true, false, ◌&&◌, ◌||◌, ◌==◌, nat_lt, cond, Option, Some, None, List, [], ◌∷◌, ◌++◌, map, is_some, append_assoc, append-nil, refl, sym, ap, arith, Less, All}
-use Rattle.state_store.proofs.Common.{if◌then◌else◌, AllByRecursion, filter, flat_map, IsStrictlySortedBy, keys_of, lookup, unwrap_or, nat_cmp, BTreeMap, get, is_at, nat_tests, common_steps, flat_map-cons, sorted_head, sorted_tail, built, waybills_of, waybills_on, FlightDate, Move, Built, asked, waybills_for, WaybillQuery, load_on, loads_on, Load, flow_of, held_of, still, asked_by, loaded, IsWaybillSummed, flow_in, no_flows, Flow}
+use Rattle.state_store.proofs.Common.{All, AllByRecursion, BTreeMap, Bool, Built, FlightDate, Flow, IsStrictlySortedBy, IsWaybillSummed, Less, List, Load, Move, None, Option, Some, WaybillFlows, WaybillQuery, [], ap, append-nil, append_assoc, arith, asked, asked_by, built, common_steps, cond, false, filter, flat_map, flat_map-cons, flow_in, flow_of, get, held_of, if◌then◌else◌, is_at, is_some, keys_of, load_on, loaded, loads_on, lookup, map, nat_cmp, nat_lt, nat_tests, no_flows, refl, sorted_head, sorted_tail, still, suc, sym, true, unwrap_or, waybills_for, waybills_of, waybills_on, ℕ, ◌&&◌, ◌++◌, ◌<◌, ◌==◌, ◌||◌, ◌∙◌, ◌∷◌, ◌≡◌}
 use Rattle.shipment_machine.specs.Numbers.{IsAscending, is_in}
 use Rattle.shipment_machine.proofs.OnFlight.{Rising-waybills_of, is_in-waybills_of, is_in-waybills_on}
 use Rattle.shipment_machine.proofs.Rising.{Rising-filter, is_in-filter, same_rising}
-use Rattle.state_store.specs.declared.maps.waybill_flows.WaybillFlows.{WaybillFlows}
 
 -- one entry further
 pub row_more : {E X : Type 0} (f : E → List X) (rows new whole : List X) (ahead more : List E) (e : E) → rows ++ flat_map f ahead ≡ whole → ahead ≡ e ∷ more → new ≡ rows ++ f e → new ++ flat_map f more ≡ whole

@@ -1,7 +1,5 @@
 -- The waybills that are asked for in a small book, computed.
-use Rattle.std.proofs.Common.{◌≡◌, ℕ, None, List, [], ◌∷◌, ◌++◌, map, refl}
-use Rattle.state_store.proofs.Common.{codes, FlightDate, Move, Hand, Surplus, Free, Built, Departed, Delivered, Missing, WaybillQuery, Stored, Irregular, waybills_for}
-use Rattle.shipment_machine.specs.declared.moves.Place.{Place}
+use Rattle.state_store.proofs.Common.{Built, Delivered, Departed, FlightDate, Free, Hand, Irregular, List, Missing, Move, None, Place, Stored, Surplus, WaybillQuery, [], codes, map, refl, waybills_for, ℕ, ◌++◌, ◌∷◌, ◌≡◌}
 
 abbrev flight : FlightDate
 flight = record { flight = record { carrier = codes "LH"; number = 400; suffix = None }; day = 20465 }

@@ -1,7 +1,6 @@
 -- Lines that are written one after another, from rows that rise, are those that the rows list.
 use Rattle.std.proofs.Common.{◌≡◌, ◌∙◌, ℕ, Bool, true, false, ◌&&◌, ◌==◌, cond, ◌+◌, ◌<◌, length, take, get_or, Option, Some, None, List, [], ◌∷◌, ◌++◌, find, option_map, refl, sym, ap}
-use Rattle.state_store.proofs.Common.{IsTrue, map, is_sorted, and_parts, take_more, same_flight_date, FlightDate, Expected, AreExpectations, by_expectation, Lines, no_lines, same_line, with_line}
-use Rattle.station_core.specs.declared.rows.Expectation.{Expectation}
+use Rattle.state_store.proofs.Common.{AreExpectations, Expectation, Expected, FlightDate, IsTrue, Lines, and_parts, by_expectation, is_sorted, map, no_lines, same_flight_date, same_line, take_more, with_line}
 use Rattle.station_core.proofs.Asked.{apart, expectation_total, is_one, one_is, one-refl}
 use Rattle.station_core.proofs.Rising.{not_found}
 

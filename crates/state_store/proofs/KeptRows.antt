@@ -1,10 +1,7 @@
 -- What is kept under keys and of texts, with one more.
 use Rattle.std.proofs.Common.{◌≡◌, ◌∙◌, ℕ, ◌<◌, ◌≤◌, Bool, true, false, cond, List, [], ◌∷◌, length, Option, Some, None, option_map, inl, inr, refl, sym, ap, arith}
-use Rattle.state_store.proofs.Common.{Vec, ◌^◌, string_bytes, cases_lt, lookup, bytes_eq-true, keeping, keeping_text, kept_of}
-use Rattle.std.specs.Cmp.Lexicographic.{nat_list_eq_equiv}
+use Rattle.state_store.proofs.Common.{KeptReply, Vec, bytes_eq, bytes_eq-true, cases_lt, keeping, keeping_text, kept_of, lookup, nat_list_eq_equiv, string_bytes, ◌^◌}
 use Rattle.std.specs.HashMap.{HashMap, get, get_by}
-use Rattle.std.specs.Str.{bytes_eq}
-use Rattle.station_core.specs.declared.stored.KeptReply.{KeptReply}
 use Rattle.state_store.specs.Kept.{count_under, kept_under}
 
 -- two names are the same bytes

@@ -1,6 +1,6 @@
 -- Look-ups by a key of a map's order are those by what the key stands for.
 use Rattle.std.proofs.Common.{◌≡◌, ◌∙◌, Bool, true, false, cond, Option, Some, None, is_some, option_map, List, [], ◌∷◌, refl, sym, ap, Less, Equal, Greater, Ordering, true≢false, is_eq}
-use Rattle.state_store.proofs.Common.{insert_entry, is_at, Equal-is, both_ways, AreApart, IsKeyTest, lookup, eq_by_cmp, match_ordering}
+use Rattle.state_store.proofs.Common.{AreApart, Equal-is, IsKeyTest, both_ways, eq_by_cmp, insert_entry, is_at, lookup, match_ordering}
 use Rattle.std.specs.Map.{KeepsOthers}
 
 -- keys tie where they stand for one thing, and a test decides whether two things are one

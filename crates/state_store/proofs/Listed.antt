@@ -1,6 +1,5 @@
 -- The rows of the waybills that are asked for.
-use Rattle.std.proofs.Common.{◌≡◌, ℕ, Bool, true, false, List, [], ◌∷◌, ◌++◌, map, refl, sym, true≢false}
-use Rattle.state_store.proofs.Common.{if◌then◌else◌, flat_map, Move, balances_of, WaybillQuery, is_asked_for, with_balances, asked}
+use Rattle.state_store.proofs.Common.{Bool, List, Move, WaybillQuery, [], asked, balances_of, false, flat_map, if◌then◌else◌, is_asked_for, map, refl, sym, true, true≢false, with_balances, ℕ, ◌++◌, ◌∷◌, ◌≡◌}
 use Rattle.station_core.specs.declared.stored.WaybillBalances.{WaybillBalances}
 
 module _ {X : Type 0} (row_by : WaybillBalances → X) where

@@ -1,9 +1,6 @@
 -- The definitions on worked rows.
-use Rattle.std.proofs.Common.{◌≡◌, ◌∷◌, [], List, Some, None, Option, ℕ, refl}
-use Rattle.state_store.proofs.Common.{Holder, first_movement, drawn_of, held_of, below, named_by, with_numbers, nobody, Flow}
-use Rattle.agent_stock.specs.declared.stock.Holder.TheVariants.{Desk, Void}
+use Rattle.state_store.proofs.Common.{Desk, Flow, Holder, List, None, Option, Some, Void, [], amount, below, drawn_of, first_movement, held_of, named_by, nobody, refl, with_numbers, ℕ, ◌∷◌, ◌≡◌}
 use Rattle.station_core.specs.declared.rows.BookQuery.TheVariants.{After, All, Last}
-use Rattle.shipment_machine.specs.Amount.{amount}
 
 -- the desk has 0200000010 to 0200000014, then five numbers are void
 abbrev entries : List (ℕ × Option Holder)

@@ -1,12 +1,10 @@
 -- The day that a date means.
-use Rattle.std.proofs.Common.{◌≡◌, ℕ, true, false, [], Option, Some, sym, ap, ◌∙◌}
-use Rattle.state_store.proofs.Common.{unwrap_or, cond-false, cond-true, Cargo, part_rows_on}
+use Rattle.state_store.proofs.Common.{Cargo, Option, Some, [], ap, cond-false, cond-true, false, is_day, part_rows_on, sym, true, unwrap_or, ℕ, ◌∙◌, ◌≡◌}
 use Rattle.station_days.specs.Date.{LocalMinute, resolved}
 use Rattle.shipment_machine.specs.declared.command.InboundPart.{InboundPart}
 use Rattle.shipment_machine.specs.declared.command.ShipmentCommand.TheVariants as order
 use Rattle.shipment_machine.specs.declared.view.Rows.TheVariants as rows
 use Rattle.shipment_machine.specs.Agreement.{rows_for}
-use Rattle.shipment_machine.specs.Effect.{is_day}
 
 -- the rows of a part whose date means a day
 pub on_day : (s : Cargo) (f : InboundPart) (at : LocalMinute) (day : ℕ) → resolved f.date at.day ≡ Some day → is_day (resolved f.date at.day) ≡ true → part_rows_on s f day ≡ rows_for s (order.Ffm f) at

@@ -1,6 +1,5 @@
 -- The entry that names a number's holder, by the look-ups of a map.
-use Rattle.std.proofs.Common.{◌≡◌, ◌∙◌, ℕ, ◌<◌, ◌≤◌, ◌⊎◌, inl, inr, false, cond, nat_le, nat_eq, Option, Some, None, IsSome, List, [], ◌∷◌, refl, sym, ap, arith, subst}
-use Rattle.state_store.proofs.Common.{cases_lt, nat_cmp, is_lt, is_gt, IsStrictlySortedBy, keys_of, lookup, is_at, nat_tests, common_steps, sorted_head, sorted_tail, Holder, named_by}
+use Rattle.state_store.proofs.Common.{Holder, IsSome, IsStrictlySortedBy, List, None, Option, Some, [], ap, arith, cases_lt, common_steps, cond, false, inl, inr, is_at, is_gt, is_lt, keys_of, lookup, named_by, nat_cmp, nat_eq, nat_le, nat_tests, refl, sorted_head, sorted_tail, subst, sym, ℕ, ◌<◌, ◌∙◌, ◌∷◌, ◌≡◌, ◌≤◌, ◌⊎◌}
 use Rattle.std.specs.declared.cmp.Ordering.TheVariants.{Less}
 
 abbrev pub Entries : Type 0

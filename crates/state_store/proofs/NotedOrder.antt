@@ -1,6 +1,5 @@
 -- The entries of flights as the rows of the readers.
-use Rattle.std.proofs.Common.{◌≡◌, ◌∙◌, List, map, refl, sym, ap, subst}
-use Rattle.state_store.proofs.Common.{BTreeMap, is_sorted, IsStrictlySortedBy, keys_of, same_flight_date, AreNoted, by_flight, by_key, FlightKey, flights_in}
+use Rattle.state_store.proofs.Common.{AreNoted, BTreeMap, FlightKey, IsStrictlySortedBy, List, ap, by_flight, by_key, flights_in, is_sorted, keys_of, map, refl, same_flight_date, subst, sym, ◌∙◌, ◌≡◌}
 use Rattle.shipment_machine.specs.declared.moves.Outbound.{Outbound}
 use Rattle.station_core.specs.declared.rows.NotedFlight.{NotedFlight}
 use Rattle.state_store.proofs.InOrder.{found_in, map_map, sorted}

@@ -1,6 +1,5 @@
 -- Rows with their numbers from a place on, and those of them that are asked for.
-use Rattle.std.proofs.Common.{◌≡◌, ◌∙◌, ℕ, zero, suc, ◌+◌, ◌-◌, ◌<◌, ◌≤◌, Bool, true, false, nat_lt, min, List, [], ◌∷◌, ◌++◌, drop, length, map, get_or, refl, sym, ap, arith, ◌==◌, ◌⊎◌, inl, inr}
-use Rattle.state_store.proofs.Common.{if◌then◌else◌, filter, flat_map, cases_lt, nat_tests, drop_all, drop_more, flat_map-cons, Move, book_row, last_of, lines_for, movements_for, numbered, trail_row, first_line, first_movement, if_line, if_movement, is_movement_of}
+use Rattle.state_store.proofs.Common.{Bool, List, Move, [], ap, arith, book_row, cases_lt, drop, drop_all, drop_more, false, filter, first_line, first_movement, flat_map, flat_map-cons, get_or, if_line, if_movement, if◌then◌else◌, inl, inr, is_movement_of, last_of, length, lines_for, map, min, movements_for, nat_lt, nat_tests, numbered, refl, suc, sym, trail_row, true, zero, ℕ, ◌++◌, ◌+◌, ◌-◌, ◌<◌, ◌==◌, ◌∙◌, ◌∷◌, ◌≡◌, ◌≤◌, ◌⊎◌}
 use Rattle.station_core.specs.declared.rows.BookQuery.{BookQuery}
 use Rattle.station_core.specs.declared.rows.BookQuery.TheVariants as book
 use Rattle.station_core.specs.declared.rows.BookRow.{BookRow}

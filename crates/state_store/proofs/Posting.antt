@@ -1,13 +1,10 @@
 -- What a move more changes of the sums beside the book.
-use Rattle.std.proofs.Common.{◌≡◌, ◌∙◌, ℕ, ◌+◌, Bool, true, false, ◌&&◌, ◌||◌, ◌==◌, Option, Some, None, List, [], ◌∷◌, ◌++◌, is_some, refl, sym, ap, arith, cond, true≢false, is_eq}
-use Rattle.state_store.proofs.Common.{if◌then◌else◌, unwrap_or, nat_cmp, BTreeMap, get, is_at, lookup, tied_itself, Equal-is, both_ways, and_from, eqb-true, common_steps, FlightDate, Move, Built, Delivered, Departed, Free, Hand, Missing, Surplus, Transferred, same_flight_date, brings, has_moves, moved_in, moved_out, pieces_of, same_place, takes, tenths_of, same-is, same-refl, by_key, key_total, by_flight, flow_of, flow_with, more, still, IsWaybillSummed, flow_at, flow_by, flow_in, flows_of, flows_with, no_flows, FlightKey, Flow}
+use Rattle.state_store.proofs.Common.{BTreeMap, Bool, Built, Delivered, Departed, Equal-is, FlightDate, FlightKey, Flow, Free, Hand, IsWaybillSummed, List, Missing, Move, None, Option, Place, Some, Surplus, Transferred, WaybillFlows, [], and_from, ap, arith, both_ways, brings, by_flight, by_key, common_steps, cond, eqb-true, false, flow_at, flow_by, flow_in, flow_of, flow_with, flows_of, flows_with, get, has_moves, if◌then◌else◌, is_at, is_eq, is_some, key_total, lookup, more, moved_in, moved_out, nat_cmp, no_flows, pieces_of, refl, same-is, same-refl, same_flight_date, same_place, still, sym, takes, tenths_of, tied_itself, true, true≢false, unwrap_or, ℕ, ◌&&◌, ◌++◌, ◌+◌, ◌==◌, ◌||◌, ◌∙◌, ◌∷◌, ◌≡◌}
 use Rattle.std.proofs.lemmas.List.Folds.{list_any-append}
 use Rattle.std.proofs.lemmas.List.Sums.{sum_by_push}
-use Rattle.shipment_machine.specs.declared.moves.Place.{Place}
 use Rattle.shipment_machine.proofs.Places.{same_test}
 use Rattle.state_store.proofs.Tied.{one_flight}
 use Rattle.state_store.specs.declared.maps.flow.Total.{Total}
-use Rattle.state_store.specs.declared.maps.waybill_flows.WaybillFlows.{WaybillFlows}
 
 -- ---- the flow of a place, with a move more
 

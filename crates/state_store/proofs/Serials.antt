@@ -1,6 +1,5 @@
 -- Numbers of a run, one further.
-use Rattle.std.proofs.Common.{◌≡◌, ℕ, zero, suc, ◌+◌, ◌-◌, ◌≤◌, ◌<◌, Bool, true, false, cond, ◌&&◌, nat_le, nat_lt, ◌%◌, Some, ◌∙◌, ap, arith}
-use Rattle.state_store.proofs.Common.{find, range_with_len, nat_tests}
+use Rattle.state_store.proofs.Common.{Bool, Some, ap, arith, cond, false, find, nat_le, nat_lt, nat_tests, range_with_len, suc, true, zero, ℕ, ◌%◌, ◌&&◌, ◌+◌, ◌-◌, ◌<◌, ◌∙◌, ◌≡◌, ◌≤◌}
 
 pub not_empty : (first count : ℕ) → (nat_lt 0 count && nat_le count 1_000_000 && nat_le (first % 10_000_000 + count) 10_000_000) ≡ true → first < first + count
 not_empty first count run = grind (arith, nat_tests)

@@ -1,6 +1,5 @@
 -- What the steps of an order change in what is named.
-use Rattle.std.proofs.Common.{◌≡◌, ◌∙◌, ℕ, ◌<◌, ◌≤◌, inl, inr, cond, ◌&&◌, nat_le, nat_lt, nat_eq, Option, Some, None, IsSome, sym, ap, arith}
-use Rattle.state_store.proofs.Common.{cases_lt, nat_tests, Holder, named_by}
+use Rattle.state_store.proofs.Common.{Holder, IsSome, None, Option, Some, ap, arith, cases_lt, cond, inl, inr, named_by, nat_eq, nat_le, nat_lt, nat_tests, sym, ℕ, ◌&&◌, ◌<◌, ◌∙◌, ◌≡◌, ◌≤◌}
 use Rattle.state_store.proofs.Named.{Entries, Begins, begins, Names, Rise, named, one_name}
 
 module _ {X : Type 0} (k j : ℕ) (x y : X) where

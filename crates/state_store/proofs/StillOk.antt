@@ -1,5 +1,5 @@
 -- What follows of what a call returned.
-use Rattle.state_store.proofs.Common.{Result, Ok, Err, IfOk, OnOk}
+use Rattle.state_store.proofs.Common.{Err, IfOk, Ok, OnOk, Result}
 
 pub still_ok : {A E : Type 0} (P Q : A → Type 0) (r : Result A E) → ((a : A) → P a → Q a) → IfOk r P → IfOk r Q
 still_ok P Q (Ok a) so h = so a h

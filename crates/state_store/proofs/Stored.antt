@@ -1,6 +1,5 @@
 -- What is in store follows from the other balances.
-use Rattle.std.proofs.Common.{◌≡◌, ℕ, ◌+◌, ◌-◌, List, ap, arith}
-use Rattle.state_store.proofs.Common.{Amount, Move, balances_of, store, taken, found, departed, delivered, missing, transferred, stored_of}
+use Rattle.state_store.proofs.Common.{Amount, List, Move, ap, arith, balances_of, delivered, departed, found, missing, store, stored_of, taken, transferred, ℕ, ◌+◌, ◌-◌, ◌≡◌}
 use Rattle.shipment_machine.specs.Laws.{IsConserved}
 
 rest : (came stored m d e f : ℕ) → came ≡ stored + (m + (d + (e + (f + 0)))) → came - (d + e + m + f) ≡ stored

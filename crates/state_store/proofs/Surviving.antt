@@ -1,6 +1,5 @@
 -- Memory is sound, and no reopening finds it.
-use Rattle.std.proofs.Common.{◌≡◌, Result, Ok, Err, ap}
-use Rattle.state_store.proofs.Common.{IfOk, OnOk, MayLeave, Reads, Survives, State, cargo_of, Shows, in_memory, MapState}
+use Rattle.state_store.proofs.Common.{Err, IfOk, MapState, MayLeave, Ok, OnOk, Reads, Result, Shows, State, Survives, ap, cargo_of, in_memory, ◌≡◌}
 
 pub survives_so : (old new : MapState) → Survives in_memory old new
 survives_so old new = record { clean = λ _. tt; still = λ _ _. tt; sound = λ _. tt; leaves = λ _ found no_one. no_one }

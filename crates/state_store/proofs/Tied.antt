@@ -1,6 +1,5 @@
 -- Keys tie where their flights are one.
-use Rattle.std.proofs.Common.{◌≡◌, ◌∙◌, ℕ, ap, refl, sym, arith, Less, Equal, Greater, is_eq, Ordering, true≢false}
-use Rattle.state_store.proofs.Common.{nat_cmp, ordering_then, tied_itself, nat_cmp-IsAntisymmetric, slice_cmp-IsAntisymmetric, and_parts, and_from, eqb-true, eq-eqb, nat_tests, one_by_text, same_flight_date, FlightDate, same-is, same-refl, by_flight, line_of, same_line, by_key, key_total, FlightKey}
+use Rattle.state_store.proofs.Common.{Equal, FlightDate, FlightKey, Greater, Less, Ordering, and_from, and_parts, ap, arith, by_flight, by_key, eq-eqb, eqb-true, is_eq, key_total, line_of, nat_cmp, nat_cmp-IsAntisymmetric, nat_tests, one_by_text, ordering_then, refl, same-is, same-refl, same_flight_date, same_line, slice_cmp-IsAntisymmetric, sym, tied_itself, true≢false, ℕ, ◌∙◌, ◌≡◌}
 use Rattle.imp_fields.specs.Flight.{flight_text}
 use Rattle.state_store.proofs.Keyed.{IsKeyed}
 

@@ -1,6 +1,5 @@
 -- One call after another, and rows that are walked.
-use Rattle.std.proofs.Common.{◌≡◌, ℕ, ◌+◌, ◌<◌, List, [], ◌∷◌, ◌++◌, length, take, map, ap, ◌∙◌, get_or}
-use Rattle.state_store.proofs.Common.{Result, Ok, Err, IfOk, State, mapped, Reads, ReadsAtRest, Says, Storing, Survives}
+use Rattle.state_store.proofs.Common.{Err, IfOk, List, Ok, Reads, ReadsAtRest, Result, Says, State, Storing, Survives, [], ap, get_or, length, map, mapped, take, ℕ, ◌++◌, ◌+◌, ◌<◌, ◌∙◌, ◌∷◌, ◌≡◌}
 
 -- what is said of a value is said in other words
 pub told_so : {X E : Type 0} (P Q : X → Type 0) (r : Result X E) → ((x : X) → P x → Q x) → IfOk r P → IfOk r Q

@@ -1,11 +1,6 @@
 -- What a row more makes of the state that is shown.
-use Rattle.std.proofs.Common.{◌≡◌, ◌∙◌, ℕ, suc, ◌+◌, ◌<◌, Bool, true, false, ◌&&◌, ◌==◌, cond, nat_le, Some, List, [], ◌∷◌, ◌++◌, length, refl, sym, ap, arith, Ordering}
-use Rattle.state_store.proofs.Common.{if◌then◌else◌, nat_cmp, ordering_then, nat_cmp-IsAntisymmetric, slice_cmp-IsAntisymmetric, bytes_eq-refl, bytes_eq-true, nat_cmp_total, tied_itself, BTreeMap, get, is_at, Vec, common_steps, Holders, assigned, covers, and_parts, and_from, eqb-true, eq-eqb, nat_tests, length-append, Cargo, same_part, Move, same-is, same-refl, State, has_room, on_cargo, by_key, declared_in, part_of, trail_in, trail_line, texts_in, Shows, state_of, IsSummed, FlightKey, MapState}
-use Rattle.std.specs.Cmp.Lexicographic.{nat_list_cmp_total, slice_cmp}
-use Rattle.agent_stock.specs.declared.stock.Holder.TheVariants.{Used}
+use Rattle.state_store.proofs.Common.{BTreeMap, Bool, Cargo, Declared, FlightKey, Holders, IsSummed, List, MapState, Move, Ordering, Part, Shows, Some, State, Used, Vec, [], and_from, and_parts, ap, arith, assigned, by_key, bytes_eq-refl, bytes_eq-true, common_steps, cond, covers, declared_in, eq-eqb, eqb-true, false, get, has_room, if◌then◌else◌, is_at, length, length-append, nat_cmp, nat_cmp-IsAntisymmetric, nat_cmp_total, nat_le, nat_list_cmp_total, nat_tests, on_cargo, ordering_then, part_of, refl, same-is, same-refl, same_part, slice_cmp, slice_cmp-IsAntisymmetric, state_of, suc, sym, texts_in, tied_itself, trail_in, trail_line, true, ℕ, ◌&&◌, ◌++◌, ◌+◌, ◌<◌, ◌==◌, ◌∙◌, ◌∷◌, ◌≡◌}
 use Rattle.agent_stock.specs.declared.stock.Run.{Run}
-use Rattle.shipment_machine.specs.declared.moves.Declared.{Declared}
-use Rattle.shipment_machine.specs.declared.moves.Part.{Part}
 use Rattle.state_store.specs.declared.maps.state.TrailEntry.{TrailEntry}
 use Rattle.state_store.proofs.Keyed.{IsKeyed}
 use Rattle.state_store.proofs.Tied.{both_equal, flight_tied, one_flight}

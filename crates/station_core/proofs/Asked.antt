@@ -1,15 +1,9 @@
 -- What is asked for of what flights are to bring, from the list of all.
-use Rattle.std.proofs.Common.{◌≡◌, ◌∙◌, ap, sym, refl, ℕ, Bool, true, false, cond, Option, Some, None, List}
-use Rattle.station_core.proofs.Common.{◌&&◌, ◌==◌, not, filter, Expectation, by_flight, by_expectation, AreExpectations, asked_of, asks_for, expected_for}
+use Rattle.station_core.proofs.Common.{AreExpectations, Bool, Expectation, FlightDate, Less, List, None, Option, Ordering, Some, ap, asked_of, asks_for, by_expectation, by_flight, cond, expected_for, false, filter, flight_text, is_lt, not, ordering_reverse, refl, sym, true, ℕ, ◌&&◌, ◌==◌, ◌∙◌, ◌≡◌}
 use Rattle.std.specs.Cmp.{IsTotalOrder, nat_cmp_total, on_total, then_total}
 use Rattle.std.specs.Cmp.Lexicographic.{nat_list_cmp_total}
-use Rattle.std.specs.Ordering.{is_lt, ordering_reverse}
-use Rattle.std.specs.declared.cmp.Ordering.{Ordering}
-use Rattle.std.specs.declared.cmp.Ordering.TheVariants.{Less}
 use Rattle.std.proofs.lemmas.Bool.{and_parts, and_from, eqb-true, eq-eqb, true≢false}
-use Rattle.imp_fields.specs.Flight.{flight_text}
 use Rattle.shipment_machine.specs.Flights.{same_flight_date}
-use Rattle.shipment_machine.specs.declared.flight.FlightDate.{FlightDate}
 use Rattle.shipment_machine.specs.declared.moves.Expected.{Expected}
 use Rattle.shipment_machine.proofs.FlightKeys.{same-is, same-refl}
 use Rattle.station_core.specs.declared.rows.ExpectedQuery.{ExpectedQuery}

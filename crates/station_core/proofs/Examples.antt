@@ -1,15 +1,8 @@
 -- The worked rows of the whole station, computed.
-use Rattle.std.proofs.Common.{◌≡◌, ℕ, ◌+◌, ◌*◌, None, List, [], ◌∷◌, ◌++◌, length, refl}
-use Rattle.station_core.proofs.Common.{codes, map, flat_map, LocalMinute, command_text, Answer, Done, Refused, Input, Keyed, Wire, refusal_text, reply_text, State, opening, after_all, answers_of}
+use Rattle.station_core.proofs.Common.{Answer, Designator, DeskCommand, Done, FlightDate, InboundLine, Input, Issue, Keyed, List, LocalMinute, None, Order, Refused, State, TakeIn, Void, Wire, [], after_all, answers_of, codes, command_text, flat_map, length, map, opening, refl, refusal_text, reply_text, ℕ, ◌*◌, ◌++◌, ◌+◌, ◌∷◌, ◌≡◌}
 use Rattle.std.specs.Fmt.{digits}
 use Rattle.jiff_core.specs.Calendar.{days_of_years, days_of_months, day_count, days_from_civil}
-use Rattle.imp_fields.specs.Flight.{Designator}
-use Rattle.shipment_machine.specs.declared.flight.FlightDate.{FlightDate}
 use Rattle.agent_stock.specs.declared.stock.Run.{Run}
-use Rattle.agent_stock.specs.declared.stock.Order.{Order}
-use Rattle.agent_stock.specs.declared.stock.Order.TheVariants.{TakeIn, Issue, Void}
-use Rattle.shipment_machine.specs.declared.command.InboundLine.{InboundLine}
-use Rattle.shipment_machine.specs.declared.command.DeskCommand.{DeskCommand}
 use Rattle.shipment_machine.specs.declared.command.DeskCommand.TheVariants.{Notify, Book, Receive, Withdraw, Manifest, Offload, Reroute, Depart, CheckIn, Deliver, Missing, Confirm}
 use Rattle.desk_commands.specs.declared.command.Command.TheVariants.{Stock, Cargo}
 use Rattle.desk_commands.specs.Day.{day_line}

@@ -1,8 +1,6 @@
 -- The length of a key, and that it is ASCII.
-use Rattle.std.proofs.Common.{◌≡◌, ◌≤◌, ◌<◌, ℕ, Bool, true, false, ◌&&◌, nat_le, List, length, arith}
-use Rattle.station_core.proofs.Common.{nat_tests, list_all, IsAscii}
+use Rattle.station_core.proofs.Common.{Bool, IsAscii, List, arith, false, is_key, is_key_byte, length, list_all, nat_le, nat_tests, true, ℕ, ◌&&◌, ◌<◌, ◌≡◌, ◌≤◌}
 use Rattle.awb_number.specs.Ascii.{IsAscii-tested}
-use Rattle.station_core.specs.Key.{is_key, is_key_byte}
 
 middle : (n : ℕ) (a b : Bool) → (a && nat_le n 40 && b) ≡ true → n ≤ 40
 middle n true true h = grind (arith, nat_tests)

@@ -1,6 +1,5 @@
 -- What holds of the lines so far, and of the next one, holds of one line more.
-use Rattle.std.proofs.Common.{ℕ, ◌+◌, ◌<◌, List, [], ◌∷◌, ◌++◌, length, take, get_or, sym, subst}
-use Rattle.station_core.proofs.Common.{AllByRecursion, take_more}
+use Rattle.station_core.proofs.Common.{AllByRecursion, List, [], get_or, length, subst, sym, take, take_more, ℕ, ◌++◌, ◌+◌, ◌<◌, ◌∷◌}
 
 all_end : {X : Type 0} (P : X → Type 0) (xs : List X) (y : X) → AllByRecursion P xs → P y → AllByRecursion P (xs ++ y ∷ [])
 all_end P [] y all next = (next, tt)

@@ -1,12 +1,9 @@
 -- What the readers hand out in the worked rows, computed.
-use Rattle.std.proofs.Common.{◌≡◌, ℕ, false, Option, Some, None, List, [], ◌∷◌, length, refl}
-use Rattle.station_core.proofs.Common.{codes, map, opening, shed_rows, irregular_rows, book_rows, book_by, pending_messages, trail_by, waybill_of}
+use Rattle.station_core.proofs.Common.{Confirm, Free, Hand, List, None, Option, Some, [], book_by, book_rows, codes, false, irregular_rows, length, map, opening, pending_messages, refl, shed_rows, trail_by, waybill_of, ℕ, ◌∷◌, ◌≡◌}
 use Rattle.std.specs.Fmt.{digits}
 use Rattle.jiff_core.specs.Calendar.{days_of_years, days_of_months, day_count, days_from_civil}
 use Rattle.shipment_machine.specs.Amount.{amount}
 use Rattle.shipment_machine.specs.declared.amount.Amount.{Amount}
-use Rattle.shipment_machine.specs.declared.moves.Place.TheVariants.{Hand, Free}
-use Rattle.shipment_machine.specs.declared.command.DeskCommand.TheVariants.{Confirm}
 use Rattle.station_core.specs.declared.rows.BookQuery.{BookQuery}
 use Rattle.station_core.specs.declared.rows.BookQuery.TheVariants.{After, Last, Of, On}
 use Rattle.station_core.specs.declared.rows.TrailQuery.{TrailQuery}

@@ -1,6 +1,5 @@
 -- A refusal changes nothing.
-use Rattle.std.proofs.Common.{◌≡◌, ℕ, true, false, Option, Some, None, Result, Ok, Err, refl}
-use Rattle.station_core.proofs.Common.{if◌then◌else◌, LocalMinute, Refusal, Answer, Refused, Input, State, stepped, accepted, refused, Acted, acted, with_notices, has_room, kept_with, first_time, answered, repeated, step}
+use Rattle.station_core.proofs.Common.{Acted, Answer, Err, Input, LocalMinute, None, Ok, Option, Refusal, Refused, Result, Some, State, accepted, acted, answered, false, first_time, has_room, if◌then◌else◌, kept_with, refl, refused, repeated, step, stepped, true, with_notices, ℕ, ◌≡◌}
 
 refused_first : (s : State) (i : Input) (a : Result Acted Refusal) (r : Refusal) → (first_time s i a).answer ≡ Refused r → (first_time s i a).state ≡ s
 refused_first s i (Err e) r h = refl

@@ -1,7 +1,6 @@
 -- Retries act once: the law over every list of events.
 use Rattle.std.proofs.Common.{◌≡◌, ℕ, Bool, true, false, ◌&&◌, ◌||◌, ◌==◌, ◌⊎◌, inl, inr, Option, Some, None, is_none, is_some, Result, Ok, Err, List, [], ◌∷◌, ◌++◌, refl, sym, ap, subst, ◌∙◌, arith, true≢false}
-use Rattle.station_core.proofs.Common.{IsTrue, if◌then◌else◌, AllByRecursion, list_any, nat_tests, bytes_eq, LocalMinute, Refusal, command_text, Answer, Done, Refused, Input, Keyed, Wire, State, Stepped, stepped, accepted, refused, opening, repeated, key_answer, text_answer, Acted, acted, with_notices, has_room, kept_with, first_time, answered, step, after_all, answers_of}
-use Rattle.shipment_machine.specs.Cargo.{Cargo}
+use Rattle.station_core.proofs.Common.{Acted, AllByRecursion, Answer, Cargo, Done, Input, IsTrue, Keyed, LocalMinute, Refusal, Refused, State, Stepped, Wire, accepted, acted, after_all, answered, answers_of, bytes_eq, command_text, first_time, has_room, if◌then◌else◌, kept_with, key_answer, list_any, nat_tests, opening, refused, repeated, step, stepped, text_answer, with_notices}
 use Rattle.station_core.specs.declared.answer.Reply.{Reply}
 use Rattle.station_core.specs.Retries.{RetryEvent, sent as sending, cut_before, cut_after, reopened, World, after_events, is_done, IfDone, commits, committed, same_identity, same_request, EachOnce, StandsIn, started, ActsOnce}
 

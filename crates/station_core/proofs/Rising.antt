@@ -1,12 +1,8 @@
 -- Two lists of rows whose keys strictly rise are equal, where each look-up finds the same in both. A
 -- look-up in those of them that pass a test finds what passes.
-use Rattle.std.proofs.Common.{◌≡◌, ◌∙◌, ap, sym, refl, Bool, true, false, cond, Option, Some, None, List, [], ◌∷◌}
-use Rattle.station_core.proofs.Common.{IsTrue, is_some, map, filter, find}
+use Rattle.station_core.proofs.Common.{Bool, Equal, Greater, IsTrue, Less, List, None, Option, Ordering, Some, [], ap, cond, false, filter, find, is_lt, is_some, map, refl, sym, true, ◌∙◌, ◌∷◌, ◌≡◌}
 use Rattle.std.specs.FinMap.Entries.{is_sorted, below_all}
 use Rattle.std.specs.Option.{option_map, unwrap_or}
-use Rattle.std.specs.Ordering.{is_lt}
-use Rattle.std.specs.declared.cmp.Ordering.{Ordering}
-use Rattle.std.specs.declared.cmp.Ordering.TheVariants.{Less, Equal, Greater}
 use Rattle.std.proofs.lemmas.Bool.{and_from, and_parts, false≢true, true≢false}
 
 less : (o : Ordering) → IsTrue (is_lt o) → o ≡ Less

@@ -1,6 +1,5 @@
 -- A run of inputs from a new station keeps it lawful.
-use Rattle.std.proofs.Common.{ℕ, List, [], ◌∷◌}
-use Rattle.station_core.proofs.Common.{LocalMinute, Input, AreInputs, State, IsLawfulState, opening, step, after_all}
+use Rattle.station_core.proofs.Common.{AreInputs, Input, IsLawfulState, List, LocalMinute, State, [], after_all, opening, step, ℕ, ◌∷◌}
 use Rattle.shipment_machine.proofs.Opening.{opening_lawful}
 use Rattle.station_core.proofs.StepLaw.{step_lawful}
 

@@ -1,6 +1,5 @@
 -- Runs of inputs, one input longer.
-use Rattle.std.proofs.Common.{◌≡◌, Ok, Err, ℕ, ◌+◌, ◌<◌, List, [], ◌∷◌, ◌++◌, length, get_or, take, refl, sym, ◌∙◌, ap}
-use Rattle.station_core.proofs.Common.{take_more, LocalMinute, Input, Answer, State, step, after_all, answers_of}
+use Rattle.station_core.proofs.Common.{Answer, Err, Input, List, LocalMinute, Ok, State, [], after_all, answers_of, ap, get_or, length, refl, step, sym, take, take_more, ℕ, ◌++◌, ◌+◌, ◌<◌, ◌∙◌, ◌∷◌, ◌≡◌}
 use Rattle.station_core.specs.declared.answer.ActFault.{ActFault}
 
 -- what is answered is no fault

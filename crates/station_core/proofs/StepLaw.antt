@@ -1,24 +1,18 @@
 -- A step leaves a lawful station lawful.
-use Rattle.std.proofs.Common.{◌≡◌, ℕ, ◌+◌, ◌≤◌, Bool, true, false, Option, Some, None, IsSome, IfSome, IfOk, Result, Ok, Err, List, [], ◌∷◌, ◌++◌, map, length, refl, arith}
-use Rattle.station_core.proofs.Common.{⊤, if◌then◌else◌, AllByRecursion, bytes_eq, length-append, LocalMinute, Refusal, notice_text, IsDeskCommand, Answer, Input, Keyed, Wire, IsInput, IsContent, IsInboundLine, State, IsLawfulState, stepped, accepted, refused, Acted, stock_acted, cargo_acted, shipment_of, acted, sent, with_notices, has_room, keeping_text, kept_with, first_time, answered, repeated, step}
+use Rattle.station_core.proofs.Common.{Acted, AllByRecursion, Answer, Bool, Cargo, DeskCommand, Err, GiveBack, IfOk, IfSome, InboundLine, Input, IsContent, IsDeskCommand, IsInboundLine, IsInput, IsLawfulState, IsSome, Issue, Keyed, List, LocalMinute, None, Ok, Option, Order, Refusal, Result, Some, State, TakeIn, Void, Wire, [], accepted, acted, answered, arith, bytes_eq, cargo_acted, false, first_time, has_room, if◌then◌else◌, keeping_text, kept_with, length, length-append, map, notice_text, refl, refused, repeated, same_part, sent, shipment_of, step, stepped, stock_acted, true, with_notices, written, written_all, ℕ, ⊤, ◌++◌, ◌+◌, ◌∷◌, ◌≡◌, ◌≤◌}
 use Rattle.std.proofs.lemmas.List.Elements.{All-from_recursion}
 use Rattle.agent_stock.specs.Stock.{Holders, covers, run_of, holder_after, order_refusal, after_order}
 use Rattle.agent_stock.specs.declared.stock.Holder.{Holder}
 use Rattle.agent_stock.specs.declared.stock.Holder.TheVariants.{Used}
 use Rattle.agent_stock.specs.declared.stock.Holder.TheVariants as holder
-use Rattle.agent_stock.specs.declared.stock.Order.{Order}
-use Rattle.agent_stock.specs.declared.stock.Order.TheVariants.{TakeIn, Issue, GiveBack, Void}
 use Rattle.shipment_machine.specs.declared.moves.Place.{Place}
 use Rattle.shipment_machine.specs.declared.moves.Place.TheVariants.{Hand, Surplus, Free, Built, Departed, Delivered, Missing, Transferred}
 use Rattle.shipment_machine.specs.declared.moves.Move.{Move}
 use Rattle.shipment_machine.specs.declared.moves.Part.{Part}
-use Rattle.shipment_machine.specs.declared.command.InboundLine.{InboundLine}
-use Rattle.shipment_machine.specs.declared.command.DeskCommand.{DeskCommand}
 use Rattle.shipment_machine.specs.declared.command.DeskCommand.TheVariants as desk
 use Rattle.shipment_machine.specs.declared.command.ShipmentCommand.TheVariants as shipment
 use Rattle.shipment_machine.specs.declared.plans.Change.{Change}
 use Rattle.shipment_machine.specs.declared.plans.Change.TheVariants.{Declare, UseUp, NoteFlight, Expect, NotePart, Trail, Confirm}
-use Rattle.shipment_machine.specs.Cargo.{Cargo, same_part, written, written_all}
 use Rattle.shipment_machine.specs.Effect.{Outcome, used_up, unless_refused, first_refusal, rule, effect, carried_out}
 use Rattle.shipment_machine.specs.Lawful.{IsLawful, IsLawfulMove, IsNoted, IsProper, HasPieces}
 use Rattle.shipment_machine.proofs.KeepsAll.{keeps_lawful}

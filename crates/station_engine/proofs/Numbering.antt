@@ -1,10 +1,6 @@
 -- Whether all rows can be numbered after a plan.
-use Rattle.std.proofs.Common.{◌≡◌, ℕ, suc, ◌+◌, Bool, List, [], ◌∷◌, ◌++◌, length, filter, refl, sym, ap, ◌∙◌, arith}
-use Rattle.station_engine.proofs.Common.{nat_le, ◌&&◌, length-append, Cargo, written, written_all, outcome_of, carried_out, has_room, sent, sizes_of}
-use Rattle.shipment_machine.specs.declared.plans.Change.{Change}
+use Rattle.station_engine.proofs.Common.{Bool, Cargo, Change, List, Plan, [], ap, arith, carried_out, filter, has_room, is_line, length, length-append, nat_le, outcome_of, refl, sent, sizes_of, suc, sym, written, written_all, ℕ, ◌&&◌, ◌++◌, ◌+◌, ◌∙◌, ◌∷◌, ◌≡◌}
 use Rattle.shipment_machine.specs.declared.plans.Change.TheVariants.{Declare, UseUp, NoteFlight, Expect, NotePart, Trail, Confirm}
-use Rattle.shipment_machine.specs.declared.plans.Plan.{Plan}
-use Rattle.station_engine.specs.Room.{is_line}
 use Rattle.station_core.specs.declared.stored.Sizes.{Sizes}
 
 -- what the changes leave of the numbered rows

@@ -1,13 +1,9 @@
 -- What a call leaves of a station.
-use Rattle.std.proofs.Common.{◌≡◌, ◌∙◌, ℕ, Bool, false, List, take, Result, Ok, Err, inl, inr, refl, sym, ap, subst}
-use Rattle.station_engine.proofs.Common.{◌⊎◌, Option, Some, None, IfErr, OnOk, OnErr, Cargo, State, IsLawfulState, step, StaysAtRest, Storing, Survives, at_rest}
+use Rattle.station_engine.proofs.Common.{Bool, Cargo, Err, IfErr, Input, IsAfter, IsLawfulState, List, LocalMinute, None, Ok, OnErr, OnOk, Option, Result, Some, State, StaysAtRest, Storing, Survives, ap, at_rest, false, inl, inr, refl, step, subst, sym, take, ℕ, ◌∙◌, ◌≡◌, ◌⊎◌}
 use Rattle.row_sinks.specs.Handed.{HandedOut, Hands}
 use Rattle.station_core.specs.declared.answer.ActFault.{ActFault}
-use Rattle.station_days.specs.Date.{LocalMinute}
-use Rattle.station_core.specs.declared.input.Input.{Input}
 use Rattle.station_core.specs.Keeping.{HandsOut, IsReadersFault, OnlyReads}
 use Rattle.station_engine.specs.Found.{Finds, station_over}
-use Rattle.station_engine.specs.Serving.{IsAfter}
 
 abbrev option_value : State → Option State → State
 option_value s None = s

@@ -1,24 +1,18 @@
 -- What a step comes to.
-use Rattle.std.proofs.Common.{◌≡◌, ◌∙◌, ℕ, Bool, true, false, Option, Some, None, IfOk, Result, Ok, Err, List, [], ◌++◌, map, inl, inr, sym, ap, subst, append-nil}
-use Rattle.station_engine.proofs.Common.{◌⊎◌, StaysLawful, outcome_of, Outcome, effect, carried_out, State, IsLawfulState, Stepped, stepped, accepted, refused, waybill_or_nothing, Acted, stock_acted, cargo_acted, shipment_of, acted, sent, with_notices, has_room, keeping_text, kept_with, first_time, answered, repeated, step, with_order, with_plan}
+use Rattle.station_engine.proofs.Common.{Acted, Bool, Err, IfOk, IfPlanned, Input, IsAfter, IsEffect, IsLawfulState, IsNewTo, IsPlanned, List, LocalMinute, None, Ok, Option, Outcome, Plan, Result, Serves, Some, State, StaysLawful, Stepped, [], accepted, acted, answered, ap, append-nil, cargo_acted, carried_out, effect, false, first_time, has_room, inl, inr, keeping_text, kept_with, map, notice_text, outcome_of, refused, repeated, sent, shipment_of, step, stepped, stock_acted, subst, sym, true, waybill_or_nothing, with_notices, with_order, with_plan, ℕ, ◌++◌, ◌∙◌, ◌≡◌, ◌⊎◌}
 use Rattle.std.specs.Bool.{if◌then◌else◌}
-use Rattle.station_days.specs.Date.{LocalMinute}
 use Rattle.agent_stock.specs.Stock.{run_of, order_refusal, after_order}
 use Rattle.agent_stock.specs.declared.stock.Order.{Order}
 use Rattle.shipment_machine.specs.declared.command.DeskCommand.{DeskCommand}
 use Rattle.shipment_machine.specs.declared.command.ShipmentCommand.{ShipmentCommand}
 use Rattle.shipment_machine.specs.declared.command.ShipmentCommand.TheVariants as shipment
-use Rattle.shipment_machine.specs.declared.plans.Plan.{Plan}
 use Rattle.shipment_machine.specs.declared.plans.Refusal.{Refusal}
 use Rattle.shipment_machine.specs.Lawful.{IsLawful}
-use Rattle.telegrams.specs.NoticeText.{notice_text}
 use Rattle.desk_commands.specs.declared.command.Command.TheVariants as command
 use Rattle.station_core.specs.declared.answer.Answer.{Answer}
 use Rattle.station_core.specs.declared.answer.Answer.TheVariants.{Refused}
-use Rattle.station_core.specs.declared.input.Input.{Input}
 use Rattle.station_core.specs.declared.input.Input.TheVariants.{Keyed, Wire}
 use Rattle.station_core.proofs.StepLaw.{AreKept, Quiet, all_written_kept, desk_quiet, if_more, kept_now, ordered_lawful, same_parts, sent_lawful, texts_after}
-use Rattle.station_engine.specs.Serving.{IfPlanned, IsAfter, IsEffect, IsNewTo, IsPlanned, Serves}
 
 -- A step, by what is known of its input.
 

@@ -1,7 +1,5 @@
 -- Rows that are written one after another.
-use Rattle.std.proofs.Common.{◌≡◌, ℕ, ◌+◌, ◌<◌, List, [], ◌∷◌, ◌++◌, length, take, refl, sym, ap, ◌∙◌, get_or}
-use Rattle.station_engine.proofs.Common.{take_more, Cargo, written, written_all, State, with_changes}
-use Rattle.shipment_machine.specs.declared.plans.Change.{Change}
+use Rattle.station_engine.proofs.Common.{Cargo, Change, List, State, [], ap, get_or, length, refl, sym, take, take_more, with_changes, written, written_all, ℕ, ◌++◌, ◌+◌, ◌<◌, ◌∙◌, ◌∷◌, ◌≡◌}
 
 written_then : (text : List ℕ) (xs : List Change) (x : Change) (c : Cargo) → written_all text (xs ++ x ∷ []) c ≡ written text x (written_all text xs c)
 written_then text [] x c = refl

@@ -1,9 +1,7 @@
 -- What files hold by a list of their trees: found at an opening, left by a crash and by a close.
-use Rattle.std.proofs.Common.{◌≡◌, ◌≤◌, false, Bool, ℕ, List, Some, Option, refl, sym, subst, inl, inr, arith}
-use Rattle.station_files.proofs.Common.{cases_eq, ∥∥₁_elim, ∥∥₁_map, Ghosts, Files, bytes_of, size_in_file, Names, Image, IsIgnored, PageMap, reserved, stored_size, adopts_of, size_is_allowed, Trees, state, schema_in, reading, recovers, IsOurs, Wanted, FileStore, HoldsDatabase, AreDatabases, Held, HoldsByList, HoldsByListAlone, HoldsPages, IsCopiedByList, LeavesByList}
+use Rattle.station_files.proofs.Common.{AreDatabases, Bool, FileStore, Files, Ghosts, Held, HoldsByList, HoldsByListAlone, HoldsDatabase, HoldsPages, Image, IsCopiedByList, IsIgnored, IsOurs, LeavesByList, List, Names, Option, PageMap, Some, Trees, Wanted, adopts_of, arith, bytes_of, cases_eq, false, inl, inr, reading, recovers, refl, reserved, schema_in, size_by_file, size_by_log, size_in_file, size_is_allowed, state, stored_size, subst, sym, ℕ, ∥∥₁_elim, ∥∥₁_map, ◌≡◌, ◌≤◌}
 use Rattle.sqlite_wal.specs.Format.{be32}
 use Rattle.sqlite_wal.specs.declared.page_size.PageSize.{PageSize}
-use Rattle.sqlite_pool.proofs.ProbeLemmas.{size_by_log, size_by_file}
 use Rattle.sqlite.specs.Closing.{HoldsAlone, IsCopied}
 
 pub in_any_order : {size : ℕ} {is_numbered : Bool} {wanted : List Wanted} {pages : PageMap} → IsOurs size is_numbered wanted pages → IsOurs size false wanted pages

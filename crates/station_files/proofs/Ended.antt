@@ -1,7 +1,5 @@
 -- From the end of a connection to the next opening.
-use Rattle.std.proofs.Common.{◌≡◌, ◌∙◌, IsTrue, IfErr, List, length, map, take, Result, Ok, Err, inl, inr, arith, ap, subst, sym}
-use Rattle.station_files.proofs.Common.{∥∥₁_map, file_state, image_of, over_files, Held, Ghosts, Files, recovers, view, FileStore, Trees, Object, catalog_tree, wanted_of, catalog_rows, HoldsOwn, IsListedBy, ListsStation}
-use Rattle.std.proofs.Math.Seq.{take-length}
+use Rattle.station_files.proofs.Common.{Err, FileStore, Files, Ghosts, Held, HoldsOwn, IfErr, IsListedBy, IsTrue, List, ListsStation, Object, Ok, Result, Trees, ap, arith, catalog_rows, catalog_tree, file_state, image_of, inl, inr, length, map, over_files, recovers, subst, sym, take, take-length, view, wanted_of, ∥∥₁_map, ◌∙◌, ◌≡◌}
 use Rattle.sqlite.proofs.Theorems.{next_run}
 use Rattle.sqlite.specs.Held.{state}
 use Rattle.sqlite_trees.specs.declared.store.Store as trees

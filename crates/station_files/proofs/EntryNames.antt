@@ -1,7 +1,6 @@
 -- No two entries of sqlite_schema have one name, so all lists of a file's trees say the same of a
 -- tree with a name.
-use Rattle.std.proofs.Common.{◌≡◌, ◌≢◌, ◌⊎◌, ◌<◌, ℕ, ◌+◌, suc, pos, true, false, None, Some, List, [], ◌∷◌, ◌++◌, map, find, get_or, is_eq, nat_cmp, not, ◌&&◌, unwrap_or, refl, sym, ap, subst, ◌∙◌, inl, inr, arith, ne_eqb}
-use Rattle.station_files.proofs.Common.{cases_Bool, cases_eq, and_parts, list_any, PageMap, header_in, trunks_of, unlocked, IsSoundFile, has_left, has_right, some_from, Has, is_present, same_value, shape_at, rows_at, IsFile, is_listed, listed_from, Wanted, catalog_tree, number_in, row_for, shape_code, version_tree, has_rowid, Shape, Absent, Table, Index, Pageless, FrozenTable, FrozenIndex, value_cmp-apart, value_cmp-Text, Row, bytes, class, column, Value, Null, Int, Real, Text, Blob}
+use Rattle.station_files.proofs.Common.{Absent, Blob, FrozenIndex, FrozenTable, Has, Index, Int, IsFile, IsSoundFile, List, None, Null, PageMap, Pageless, Real, Row, Shape, Some, Table, Text, Value, Wanted, [], and_parts, ap, arith, bytes, cases_Bool, cases_eq, catalog_tree, class, column, false, find, get_or, has_left, has_right, has_rowid, header_in, inl, inr, is_eq, is_listed, is_present, list_any, listed_from, map, nat_cmp, ne_eqb, not, number_in, pos, refl, row_for, rows_at, same_value, shape_at, shape_code, some_from, subst, suc, sym, true, trunks_of, unlocked, unwrap_or, value_cmp-Text, value_cmp-apart, version_tree, ℕ, ◌&&◌, ◌++◌, ◌+◌, ◌<◌, ◌∙◌, ◌∷◌, ◌≡◌, ◌≢◌, ◌⊎◌}
 use Rattle.std.proofs.lemmas.Map.Text.{is_eq-slice_cmp}
 use Rattle.std.proofs.lemmas.Slice.Eq.{bytes_eq-Decides}
 use Rattle.std.specs.Char.{to_ascii_lowercase}

@@ -1,15 +1,10 @@
 -- The rows of sqlite_schema list one schema, whoever reads them; so files hold one database.
-use Rattle.std.proofs.Common.{◌≡◌, true, ◌-◌, ◌<◌, ◌∷◌, ℕ, List, [], Bool, map, length, suc, pos, get_or, refl, sym, ap, ap₂, subst, ◌∙◌, inl, inr, arith}
-use Rattle.station_files.proofs.Common.{Int, Value, Row, column, bytes, ∥∥₁_elim, Ghosts, Files, Recovers, plain_adopts, IsSound, FileStore, state, view, IsOurs, image_of, HoldsDatabase, wanted_of, Object, PageMap, version_in, recovers_once, Image, all_has, unordered, Trees, View, number_in, shape_code, with_version, Shape, Table, Wanted, rows_at, file_trees, listed_from, meets, unsorted_code, unsorted_plain}
+use Rattle.station_files.proofs.Common.{Bool, FileStore, Files, Ghosts, HoldsDatabase, Image, Int, IsOurs, IsReadByList, IsSound, List, Object, PageMap, Recovers, Row, Shape, Table, Trees, Value, View, Wanted, [], all_has, ap, ap₂, arith, bytes, coded_list, column, file_trees, get_or, image_of, in_use, index_reals, inl, inr, length, listed_from, map, meets, number_in, plain_adopts, pos, recovers_once, refl, rows_at, shape_code, state, subst, suc, sym, table_reals, true, unordered, unsorted_code, unsorted_plain, version_in, view, wanted_of, with_version, ℕ, ∥∥₁_elim, ◌-◌, ◌<◌, ◌∙◌, ◌∷◌, ◌≡◌}
 use Rattle.sqlite_value.specs.contracts.row.Row as row
-use Rattle.std.specs.Coded.{coded_list}
 use base.Stored.{Coded-set}
-use Rattle.station_files.specs.Listed.{IsReadByList}
 use Rattle.station_files.proofs.ByList.{pages_of}
-use Rattle.sqlite_pool.specs.File.{in_use}
 use Rattle.sqlite_schema.specs.declared.schema.Schema.{Schema}
 use Rattle.sqlite_schema.specs.declared.schema.Table.{Table as TableOf}
-use Rattle.sqlite_schema.specs.Rules.{table_reals, index_reals}
 use Rattle.sqlite_catalog.specs.Reading.{AreRead, coded_by, IsTableShaped, IsIndexShaped, IsViewShaped}
 use Rattle.sqlite_catalog.proofs.ReadLemmas.{read_once}
 use Rattle.sqlite_store.specs.Joined.{joined}

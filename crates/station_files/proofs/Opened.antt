@@ -1,9 +1,7 @@
 -- Files that are opened behind a call that read them.
-use Rattle.std.proofs.Common.{◌≡◌, ◌≢◌, ◌%◌, ◌∙◌, IsTrue, List, false, ap, sym, subst, subst₂, inl, inr, arith}
-use Rattle.station_files.proofs.Common.{Ghosts, Files, PageMap, adopts_of, plain_adopts, stored_size, IsUnreadable, Recovers, RecoversAs, carried, readable, RecoversAs-from, pair, image, state_of, Opens, Object, bytes_of, Image, stays_something, stored_used, image_of, BeginsWell, IsKept}
+use Rattle.station_files.proofs.Common.{BeginsWell, Files, Ghosts, Image, IsKept, IsTrue, IsUnopened, IsUnreadable, List, Object, Opens, PageMap, Recovers, RecoversAs, RecoversAs-from, adopts_of, ap, arith, bytes_of, carried, false, image, image_of, inl, inr, pair, plain_adopts, readable, state_of, stays_something, stored_size, stored_used, subst, subst₂, sym, ◌%◌, ◌∙◌, ◌≡◌, ◌≢◌}
 use Rattle.sqlite_store.specs.declared.store.open.Unopened.{Unopened}
 use Rattle.sqlite_wal.specs.State.{State}
-use Rattle.station_files.specs.Listed.{IsUnopened}
 
 module _ {D : Type 0} {g : Ghosts D} (old mid : Unopened D g) (new : State) (pages : PageMap) where
   -- both calls leave what they found

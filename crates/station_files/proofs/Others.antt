@@ -1,10 +1,6 @@
 -- Each call of a store leaves the trees of other programs as they were.
-use Rattle.std.proofs.Common.{◌≡◌, unwrap_or, ◌≢◌, ◌<◌, ◌-◌, ℕ, false, List, [], ◌∷◌, length, take, Option, Result, Ok, Err, IfErr, OnOk, IsTrue, refl, sym, ap, subst, ◌∙◌, inl, inr, arith, slice_index, slice_index_or}
-use Rattle.station_files.proofs.Common.{on_ok_weaker, Has, has_at, has_either, has_front, Row, catalog_tree, row_for, version_tree, object_row, Creates, Trees, put_row, with_tree, Snapshot, View, newest, snapshot, GoesBack, IsClean, IsFailure, IsQuiet, Marks, Releases, SetsTree, Object, Shape, AreApart}
-use Rattle.std.proofs.lemmas.List.{get_or_default, take-append-drop}
-use Rattle.sqlite_trees.specs.declared.error.StoreError.{StoreError}
+use Rattle.station_files.proofs.Common.{AreApart, AreCalls, Creates, Err, GoesBack, Has, IfErr, IsClean, IsFailure, IsQuiet, IsTrue, List, Marks, MayShow, Object, Ok, OnOk, Option, Releases, Result, Row, SameOthers, SetsTree, Shape, Shows, Snapshot, SparesOthers, StoreError, Trees, View, [], ap, arith, catalog_tree, false, get_or_default, has_at, has_either, has_front, inl, inr, length, newest, object_row, on_ok_weaker, put_row, refl, row_for, slice_index, slice_index_or, snapshot, subst, sym, take, take-append-drop, unwrap_or, version_tree, with_tree, ℕ, ◌-◌, ◌<◌, ◌∙◌, ◌∷◌, ◌≡◌, ◌≢◌}
 use Rattle.sqlite_trees.specs.declared.store.Store.{Ghosts}
-use Rattle.station_files.specs.Others.{AreCalls, MayShow, SameOthers, Shows, SparesOthers}
 use Rattle.station_files.proofs.Owning.{last, other_found, with_other}
 
 pub same_others : (numbers : List ℕ) (db : Trees) → SameOthers numbers db db

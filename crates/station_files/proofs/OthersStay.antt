@@ -1,10 +1,7 @@
 -- Calls of a store leave the trees of other programs in its files as they were.
-use Rattle.std.proofs.Common.{◌≡◌, ◌∙◌, List, ℕ, Option, inl, inr, refl, sym, ap, subst, arith}
-use Rattle.station_files.proofs.Common.{∥∥₁_elim, ∥∥₁_map, Ghosts, Files, Has, adopts_of, Trees, Snapshot, reading, recovers, schema_in, state, view, settled_at, FileStore, over_files, IsReadByTheirs}
-use Rattle.sqlite_wal.proofs.LogLemmas.{SeenMayStay}
+use Rattle.station_files.proofs.Common.{FileStore, Files, Ghosts, Has, IsReadByTheirs, List, MayShow, Option, SeenMayStay, Snapshot, SparesOthers, Trees, adopts_of, ap, arith, inl, inr, over_files, reading, recovers, refl, schema_in, settled_at, state, subst, sym, view, ℕ, ∥∥₁_elim, ∥∥₁_map, ◌∙◌, ◌≡◌}
 use Rattle.sqlite_trees.specs.declared.store.Store as trees
 use Rattle.station_files.specs.declared.own_trees.OwnTrees.{OwnTrees}
-use Rattle.station_files.specs.Others.{MayShow, SparesOthers}
 use Rattle.station_files.specs.OthersStay.{CallsSpareOthers}
 use Rattle.station_files.proofs.ByList.{in_any_order}
 use Rattle.station_files.proofs.Others.{calls_spare}

@@ -1,12 +1,7 @@
 -- What files hold of the trees of a list: found at an opening, and left by a crash and by a close.
-use Rattle.std.proofs.Common.{◌≡◌, ◌≢◌, ◌<◌, ◌%◌, ℕ, List, length, map, get_or, take, refl, sym, ap, subst, subst₂, ◌∙◌}
-use Rattle.std.specs.Coded.{coded_list}
+use Rattle.station_files.proofs.Common.{Adopts, AreBeside, AreDatabases, FileStore, Files, FindsOwn, Ghosts, HoldsByList, HoldsOwn, HoldsOwnAlone, HoldsPages, Image, IsFile, IsListedBy, IsReadByTheirs, IsTrue, LeavesOwn, List, Lists, ListsStation, Object, PageMap, Recovers, SeenMayStay, Trees, adopts_of, ap, catalog_rows, catalog_tree, clean_of, coded_list, file_alone, file_trees, get_or, image_of, kept_schema, length, listed_from, log_frames, map, may_leave_own, own_trees, plain_adopts, read_by, reading, recovers_once, refl, rows_from, schema_in, settled, size_is_allowed, state, station_schema, stays_at, subst, subst₂, sym, take, view, wanted_of, ℕ, ∥∥₁_elim, ∥∥₁_map, ◌%◌, ◌<◌, ◌∙◌, ◌≡◌, ◌≢◌}
 use base.Stored.{Coded-set}
 use Rattle.sqlite_value.specs.contracts.row.Row as row
-use Rattle.station_files.proofs.Common.{Lists, Ghosts, Files, ∥∥₁_elim, ∥∥₁_map, Image, PageMap, Adopts, Recovers, recovers_once, adopts_of, plain_adopts, size_is_allowed, settled, file_alone, catalog_tree, Trees, Object, wanted_of, IsFile, log_frames, reading, schema_in, state, view, stays_at, kept_schema, AreDatabases, catalog_rows, file_trees, listed_from, read_by, FileStore, image_of, station_schema, AreBeside, HoldsByList, HoldsOwn, HoldsPages, IsListedBy, own_trees, rows_from, may_leave_own, FindsOwn, HoldsOwnAlone, IsReadByTheirs, LeavesOwn, ListsStation}
-use Rattle.sqlite_wal.proofs.LogLemmas.{SeenMayStay}
-use Rattle.sqlite_wal.proofs.StateLemmas.{clean_of}
-use Rattle.std.proofs.Common.{IsTrue}
 use Rattle.sqlite.specs.State.{State}
 use Rattle.station_schema.specs.Own.{IsOwn}
 use Rattle.station_files.proofs.ByList.{in_any_order}

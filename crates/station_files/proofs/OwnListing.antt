@@ -1,6 +1,5 @@
 -- Rows that list the trees that are asked for, one place at a time.
-use Rattle.std.proofs.Common.{◌≡◌, ◌<◌, ◌-◌, ◌+◌, ℕ, ℤ, zero, suc, pos, Bool, true, false, cond, ◌&&◌, List, [], ◌∷◌, ◌++◌, length, map, take, find, get_or, slice_get, ltb, ltb-true, ltb-false, option_map, Option, None, Some, unwrap_or, refl, sym, ap, ap₂, ◌∙◌, inl, inr, arith}
-use Rattle.station_files.proofs.Common.{cases_Bool, list_all, Int, Row, column, listing, number_in, shape_code, IsListed, has_rowid, Object, Shape, Absent, Table, Index, Pageless, FrozenTable, FrozenIndex, is_present, wanted_of, listed, listed_from, is_known, rows_from, shown_row}
+use Rattle.station_files.proofs.Common.{Absent, Bool, FrozenIndex, FrozenTable, Index, Int, IsListed, List, None, Object, Option, Pageless, Row, Shape, Some, Table, [], ap, ap₂, arith, cases_Bool, column, cond, false, find, get_or, has_rowid, inl, inr, is_known, is_present, length, list_all, listed, listed_from, listing, ltb, ltb-false, ltb-true, map, number_in, option_map, pos, refl, rows_from, shape_code, shown_row, slice_get, suc, sym, take, true, unwrap_or, wanted_of, zero, ℕ, ℤ, ◌&&◌, ◌++◌, ◌+◌, ◌-◌, ◌<◌, ◌∙◌, ◌∷◌, ◌≡◌}
 
 -- the first five columns have the rowid
 pub find_taken : (id : ℤ) (rows : List Row) → find (has_rowid id) (map (take 5) rows) ≡ option_map (take 5) (find (has_rowid id) rows)

@@ -1,8 +1,6 @@
 -- The trees with some numbers are read as the list of them alone reads them.
-use Rattle.std.proofs.Common.{◌≡◌, ◌≢◌, ◌<◌, ◌≤◌, ◌+◌, ℕ, pos, find, List, [], length, get_or, option_map, Option, None, Some, unwrap_or, refl, sym, ap, ◌∙◌, inl, inr, arith, ltb, eq-eqb, ne_eqb, ltb-true, ltb-false}
-use Rattle.station_files.proofs.Common.{fun_ext, cases_eq, cases_Bool, Row, column, catalog_tree, version_tree, number_in, row_for, shape_code, has_rowid, Absent, PageMap, Wanted, reals_at, shape_at, is_listed, file_trees, listed_from, reals_if_present, own_trees, renumbered, rows_from}
+use Rattle.station_files.proofs.Common.{Absent, List, None, Option, PageMap, Row, Some, Wanted, [], ap, arith, cases_Bool, cases_eq, catalog_tree, column, eq-eqb, file_trees, find, fun_ext, get_or, has_rowid, in_use, inl, inr, is_listed, length, listed_from, ltb, ltb-false, ltb-true, ne_eqb, number_in, option_map, own_trees, pos, reals_at, reals_if_present, refl, renumbered, row_for, rows_from, shape_at, shape_code, sym, unwrap_or, version_tree, ℕ, ◌+◌, ◌<◌, ◌∙◌, ◌≡◌, ◌≢◌, ◌≤◌}
 use Rattle.sqlite_trees.specs.Listing.{same_code}
-use Rattle.sqlite_pool.specs.File.{in_use}
 use Rattle.sqlite_store.specs.Db.{trees_in}
 use Rattle.sqlite_store.specs.Listing.{all_reals, all_shapes, all_trees}
 use Rattle.station_files.specs.OwnRows.{found_own, found_none}

@@ -1,13 +1,7 @@
 -- What a call does to the trees that are shown is what it does inside.
-use Rattle.std.proofs.Common.{◌≡◌, ◌≢◌, ◌<◌, ◌≤◌, ◌-◌, ◌+◌, if◌then◌else◌, ℕ, pos, ◌++◌, List, [], ◌∷◌, length, map, suc, zero, Bool, true, false, Option, Some, None, Result, Ok, Err, IfErr, OnOk, find, get_or, option_map, Ordering, Less, Equal, Greater, is_eq, refl, sym, ap, ap₂, subst, ◌∙◌, inl, inr, arith, ltb, ne_eqb, eq-eqb, ltb-true, ltb-false, slice_index, slice_index_or, take, drop, add-one, append_assoc, append-nil, subst₂, IsTrue}
-use Rattle.station_files.proofs.Common.{fun_ext, cases_eq, cases_Bool, AllByRecursion, Int, Text, Row, column, value_cmp, value_cmp-Int, value_cmp_total, catalog_tree, version_tree, version_rows, object_row, set_at, Creates, IsListed, Trees, rowid, has_rowid, with_tree, put_row, Snapshot, View, doubt, newest, snapshot, Commits, GoesBack, IsClean, IsFailure, IsRolledBack, KeepsCommitted, Marks, Releases, SetsTree, Object, Shape, Absent, Table, own_reals, own_shapes, own_snapshot, own_trees, own_view, reals_by, renumbered, rows_from, shapes_by, shown_row, AreApart, AreLaidOut, IsNumberOf, IsShown, Layout}
-use Rattle.std.proofs.Math.Seq.{drop-cons}
+use Rattle.station_files.proofs.Common.{Absent, AllByRecursion, AreApart, AreLaidOut, Bool, Commits, Creates, Equal, Err, GoBack, GoesBack, Greater, IfErr, Int, IsClean, IsFailure, IsListed, IsNumberOf, IsPast, IsRolledBack, IsShown, IsTrue, KeepsCommitted, Layout, Less, List, Marks, None, Object, Ok, OnOk, Option, Ordering, Releases, Result, Row, SetsTree, Shape, Snapshot, Some, StoreError, Table, Text, Trees, View, [], add-one, all_past, ap, append-nil, append_assoc, ap₂, arith, cases_Bool, cases_eq, catalog_tree, column, doubt, drop, drop-cons, eq-eqb, false, find, fun_ext, get_or, has_rowid, id_below, if◌then◌else◌, inl, inr, ints, is_eq, kind_of, length, length-map, ltb, ltb-false, ltb-true, map, map-append, ne_eqb, newest, object_row, option_map, own_at, own_past, own_reals, own_shapes, own_snapshot, own_trees, own_values, own_view, pos, put_row, reals_by, refl, renumbered, rowid, rows_from, set_at, shapes_by, shown_row, slice_index, slice_index_or, snapshot, subst, subst₂, suc, sym, take, take-map, true, value_at, value_cmp, value_cmp-Int, value_cmp_total, value_past, version_rows, version_tree, with_tree, zero, ℕ, ◌++◌, ◌+◌, ◌-◌, ◌<◌, ◌∙◌, ◌∷◌, ◌≡◌, ◌≢◌, ◌≤◌}
 use Rattle.std.proofs.lemmas.Bool.Decides.{nat_tests}
-use Rattle.std.proofs.lemmas.Int.{ints}
-use Rattle.std.proofs.lemmas.List.{length-map, map-append, take-map}
 use Rattle.std.specs.Ordering.{match_ordering}
-use Rattle.sqlite_trees.specs.declared.error.StoreError.{StoreError}
-use Rattle.station_files.specs.OwnLaws.{all_past, id_below, kind_of, own_at, own_past, own_values, value_at, value_past, GoBack, IsPast}
 
 id_same : (a : ℕ) → value_cmp (Int (pos a)) (Int (pos a)) ≡ Equal
 id_same a = value_cmp-Int (pos a) (pos a) ∙ grind (arith, ints, nat_tests)

@@ -1,7 +1,5 @@
 -- Two lists with the same rows read the same pages alike, whatever the order of trees in the pages.
-use Rattle.std.proofs.Common.{◌≡◌, ℕ, zero, suc, ◌+◌, true, cond, ◌&&◌, List, [], ◌∷◌, ◌++◌, map, pos, get_or, refl, sym, ap, ◌∙◌, inl, inr, arith, eq-eqb, ne_eqb, lt-ltb, le-ltb}
-use Rattle.station_files.proofs.Common.{cases_eq, fun_ext, PageMap, Value, Row, column, value_cmp-Int, Shape, Absent, Table, Index, Pageless, FrozenTable, FrozenIndex, catalog_tree, version_tree, row_for, Wanted, is_present, page_number, reals_at, root_in, same_value, shape_at, rows_at, shown, thawed, same_listing, file_trees, listed, listed_from, reals_if_present}
-use Rattle.sqlite_pool.specs.File.{in_use}
+use Rattle.station_files.proofs.Common.{Absent, FrozenIndex, FrozenTable, Index, List, PageMap, Pageless, Row, Shape, Table, Value, Wanted, [], ap, arith, cases_eq, catalog_tree, column, cond, eq-eqb, file_trees, fun_ext, get_or, in_use, inl, inr, is_present, le-ltb, listed, listed_from, lt-ltb, map, ne_eqb, page_number, pos, reals_at, reals_if_present, refl, root_in, row_for, rows_at, same_listing, same_value, shape_at, shown, suc, sym, thawed, true, value_cmp-Int, version_tree, zero, ℕ, ◌&&◌, ◌++◌, ◌+◌, ◌∙◌, ◌∷◌, ◌≡◌}
 use Rattle.sqlite_store.specs.Catalog.{describes, is_about}
 use Rattle.sqlite_store.specs.Db.{roots_of, trees_in}
 use Rattle.sqlite_store.specs.Listing.{all_reals, all_shapes, all_trees}

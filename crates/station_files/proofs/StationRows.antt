@@ -1,9 +1,7 @@
 -- The rows that list some trees of a store, one by one; and those of a database of a station.
-use Rattle.std.proofs.Common.{◌≡◌, ◌<◌, ℕ, ◌+◌, zero, suc, pos, Bool, true, ◌&&◌, ◌||◌, List, [], ◌∷◌, ◌++◌, length, map, find, get_or, slice_get, option_map, unwrap_or, Option, None, Some, eqb, eqb-true, refl, sym, ap, ap₂, subst, ◌∙◌, inl, inr, arith}
-use Rattle.station_files.proofs.Common.{and_parts, cases_eq, or_cases, list_all, list_any, is_index_row, is_table_row, is_view_row, IsIndexRow, IsTableRow, IsViewRow, Lists, all_has, has_either, has_filtered, has_kept, has_left, has_right, some_has, test_has, Has, text_or_null, wanted_of, listed, listed_from, listing, number_in, shape_code, has_rowid, rowid, Object, Shape, Row, column, Int, Text, renumbered, rows_from, shown_row, name_of, ListsIndex, ListsStation, ListsTable, station_schema}
+use Rattle.station_files.proofs.Common.{Bool, Has, Int, IsIndexRow, IsTableRow, IsViewRow, List, Lists, ListsIndex, ListsStation, ListsTable, None, Object, Option, Row, Shape, Some, Text, [], all_has, and_parts, ap, ap₂, arith, cases_eq, column, eqb, eqb-true, find, get_or, has_either, has_filtered, has_kept, has_left, has_right, has_rowid, index_reals, inl, inr, is_index_row, is_table_row, is_view_row, length, list_all, list_any, listed, listed_from, listing, map, name_of, number_in, option_map, or_cases, pos, refl, renumbered, rowid, rows_from, shape_code, shown_row, slice_get, some_has, station_schema, subst, suc, sym, table_reals, test_has, text_or_null, true, unwrap_or, wanted_of, zero, ℕ, ◌&&◌, ◌++◌, ◌+◌, ◌<◌, ◌||◌, ◌∙◌, ◌∷◌, ◌≡◌}
 use Rattle.std.specs.Borrow.{Bor}
 use Rattle.sqlite_catalog.proofs.LayoutLemmas.{row_kind, zipped_left, zipped_right}
-use Rattle.sqlite_schema.specs.Rules.{index_reals, table_reals}
 use Rattle.sqlite_schema.specs.declared.schema.Index.{Index}
 use Rattle.sqlite_schema.specs.declared.schema.Table.{Table}
 use Rattle.sqlite_trees.specs.declared.store.Shape.TheVariants as shape

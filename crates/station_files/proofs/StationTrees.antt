@@ -1,7 +1,5 @@
 -- Two lists of a file's trees, each of which lists those of a station, list the same rows.
-use Rattle.std.proofs.Common.{◌≡◌, ◌<◌, ◌≤◌, ℕ, ◌+◌, pos, List, [], ◌∷◌, zero, suc, length, map, get_or, slice_get, ltb, ltb-true, ltb-false, Option, None, Some, refl, sym, ap, subst, ◌∙◌, inl, inr, arith}
-use Rattle.station_files.proofs.Common.{and_parts, cases_Bool, Lists, PageMap, wanted_of, rows_at, IsFile, listed_from, Wanted, number_in, rowid, Object, Table, Row, column, Int, rows_from, AreLow, name_of, ListsStation, station_schema, Has}
-use Rattle.sqlite_pool.specs.File.{in_use}
+use Rattle.station_files.proofs.Common.{AreLow, Has, Int, IsFile, List, Lists, ListsStation, None, Object, Option, PageMap, Row, Some, Table, Wanted, [], and_parts, ap, arith, cases_Bool, column, get_or, in_use, inl, inr, length, listed_from, ltb, ltb-false, ltb-true, map, name_of, number_in, pos, refl, rowid, rows_at, rows_from, slice_get, station_schema, subst, suc, sym, wanted_of, zero, ℕ, ◌+◌, ◌<◌, ◌∙◌, ◌∷◌, ◌≡◌, ◌≤◌}
 use Rattle.station_files.proofs.EntryNames.{entry_of, says_the_same, IsWorded}
 use Rattle.station_files.proofs.StationRows.{has_shown, has_tree, listed_within, named, object_row, row_at, rows_same, shown_has, shows, IsNamed}
 

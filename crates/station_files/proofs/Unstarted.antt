@@ -1,9 +1,6 @@
 -- What a database that was only begun leaves of its files.
-use Rattle.std.proofs.Common.{◌⊎◌, ◌∙◌, ℕ, true, [], refl, subst, inl, inr}
-use Rattle.station_files.proofs.Common.{∥∥₁_map, IsPageSize, Image, AreWhole, PageMap, version_in, IsBlankFile, IsNew, stored_size, Recovers, trimmed_whole, adopts_of, Trees, catalog_rows, file_trees, IsOurs, HoldsDatabase, IsEmpty, Ghosts, Files, OnlyReads, pair, same_image}
-use Rattle.sqlite_pool.specs.File.{in_use}
+use Rattle.station_files.proofs.Common.{AreWhole, Files, Ghosts, HoldsDatabase, Image, IsBlankFile, IsEmpty, IsNew, IsOurs, IsPageSize, OnlyReads, PageMap, Recovers, Trees, [], adopts_of, all_trees, catalog_rows, file_trees, in_use, inl, inr, pair, refl, same_image, stored_size, subst, trimmed_whole, true, version_in, ℕ, ∥∥₁_map, ◌∙◌, ◌⊎◌}
 use Rattle.sqlite_store.specs.Db.{trees_in}
-use Rattle.sqlite_store.specs.Listing.{all_trees}
 use Rattle.sqlite_store.specs.Opening.{IsFresh}
 use Rattle.sqlite_store.proofs.BuildLemmas.{new_is_empty}
 use Rattle.sqlite_store.proofs.ListingLemmas.{past_version, named_tree}

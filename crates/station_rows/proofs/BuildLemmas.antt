@@ -1,7 +1,5 @@
 -- The table `build`.
-use Rattle.std.proofs.Common.{ap, ap₂, filter, map, refl, sym, false, true, pos, inl, Ok, Err, Result, List, [], ℕ, ℤ, int_cmp, int_eq, ◌∙◌, ◌∷◌, ◌≡◌}
-use Rattle.station_rows.proofs.Common.{entries, eq_by_cmp, ordering_then, IfOk, Vec, ◌&&◌, Row, Output, Query, output, output_cmp, IsUnchanged, Shown, State, Term, eval_all, Error, Int, Text, value_cmp-Int, Eq, pair_cmp, map_back, at_ints, at_texts, last_key, last_term, then_term, bytes_cmp, one_table, first_true, int_both, int_tied, pair_eq, second_true, texts_both, cast_int, cast_null, Asks, by_column, Reads, build_same, build_total, edits_builds, build, station_schema, BuildKey, Build, IsStation, build_cmp, build_in, build_row, tables_of, typed_builds, is_on, pieces_in, pieces_read, pieces_shown}
-use Rattle.std.specs.declared.alloc.Global.{Global}
+use Rattle.station_rows.proofs.Common.{Asks, Build, BuildKey, Eq, Err, Error, Global, IfOk, Int, IsStation, IsUnchanged, List, Ok, Output, Query, Reads, Result, Row, Shown, State, Term, Text, Vec, [], ap, ap₂, at_ints, at_texts, build, build_cmp, build_in, build_row, build_same, build_total, by_column, bytes_cmp, cast_int, cast_null, edits_builds, entries, eq_by_cmp, eval_all, false, filter, first_true, inl, int_both, int_cmp, int_eq, int_tied, is_on, last_key, last_term, map, map_back, one_table, ordering_then, output, output_cmp, pair_cmp, pair_eq, pieces_in, pieces_read, pieces_shown, pos, refl, second_true, station_schema, sym, tables_of, texts_both, then_term, true, typed_builds, value_cmp-Int, ℕ, ℤ, ◌&&◌, ◌∙◌, ◌∷◌, ◌≡◌}
 use Rattle.sqlite_value.specs.Keys.{first_key}
 use Rattle.sqlite_trees.proofs.ListLemmas.{map-map}
 use Rattle.station_rows.proofs.KeyedLemmas.{IsTableOf, KeyedTable, lists}

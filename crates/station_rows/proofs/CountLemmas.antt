@@ -1,6 +1,5 @@
 -- The table `counts`.
-use Rattle.std.proofs.Common.{ap, ap₂, filter, map, refl, sym, false, true, List, [], ℤ, int_cmp, int_eq, ◌∙◌, ◌∷◌, ◌≡◌}
-use Rattle.station_rows.proofs.Common.{entries, eq_by_cmp, ordering_then, ◌&&◌, Row, Shown, State, Int, value_cmp-Int, Eq, unfiltered, at_ints, last_key, last_term, then_key, then_term, int_both, int_tied, pair_eq, cast_int, cast_null, count_same, count_total, edits_counts, counts, CountKey, Count, IsStation, count_cmp, count_in, count_row, tables_of, typed_counts, counts_for}
+use Rattle.station_rows.proofs.Common.{Count, CountKey, Eq, Int, IsStation, List, Row, Shown, State, [], ap, ap₂, at_ints, cast_int, cast_null, count_cmp, count_in, count_row, count_same, count_total, counts, counts_for, edits_counts, entries, eq_by_cmp, false, filter, int_both, int_cmp, int_eq, int_tied, last_key, last_term, map, ordering_then, pair_eq, refl, sym, tables_of, then_key, then_term, true, typed_counts, unfiltered, value_cmp-Int, ℤ, ◌&&◌, ◌∙◌, ◌∷◌, ◌≡◌}
 use Rattle.sqlite_value.specs.Keys.{first_key}
 use Rattle.station_rows.proofs.KeyedLemmas.{IsTableOf, KeyedTable, lists}
 use Rattle.station_rows.proofs.Texts.{all_count_is, all_count_text, list_count_is, list_count_text}

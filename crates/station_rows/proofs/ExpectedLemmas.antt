@@ -1,6 +1,5 @@
 -- The table `expected`.
-use Rattle.std.proofs.Common.{ap, ap₂, map, refl, sym, false, true, List, [], int_cmp, int_eq, ◌∙◌, ◌∷◌, ◌≡◌}
-use Rattle.station_rows.proofs.Common.{entries, eq_by_cmp, ◌&&◌, Row, Shown, State, Int, Text, value_cmp-Int, value_cmp-Text, Eq, pair_cmp, unfiltered, at_ints, at_texts, last_key, last_term, then_key, then_term, bytes_cmp, int_tied, pair_eq, cast_int, cast_null, expected_same, expected_total, edits_expected, expected, ExpectedKey, Expected, IsStation, expected_cmp, expected_in, expected_row, tables_of, typed_expected}
+use Rattle.station_rows.proofs.Common.{Eq, Expected, ExpectedKey, Int, IsStation, List, Row, Shown, State, Text, [], ap, ap₂, at_ints, at_texts, bytes_cmp, cast_int, cast_null, edits_expected, entries, eq_by_cmp, expected, expected_cmp, expected_in, expected_row, expected_same, expected_total, false, int_cmp, int_eq, int_tied, last_key, last_term, map, pair_cmp, pair_eq, refl, sym, tables_of, then_key, then_term, true, typed_expected, unfiltered, value_cmp-Int, value_cmp-Text, ◌&&◌, ◌∙◌, ◌∷◌, ◌≡◌}
 use Rattle.sqlite_value.specs.Keys.{first_key}
 use Rattle.station_rows.proofs.KeyedLemmas.{IsTableOf, KeyedTable, lists}
 use Rattle.station_rows.proofs.Texts.{all_expected_is, all_expected_text}

@@ -1,6 +1,5 @@
 -- The table `flight`.
-use Rattle.std.proofs.Common.{ap, ap₂, map, refl, sym, false, true, List, [], int_cmp, int_eq, ◌∙◌, ◌∷◌, ◌≡◌}
-use Rattle.station_rows.proofs.Common.{entries, eq_by_cmp, ◌&&◌, Row, Shown, State, Int, Text, value_cmp-Int, value_cmp-Text, Eq, unfiltered, at_ints, at_texts, last_key, last_term, then_key, then_term, bytes_cmp, int_tied, pair_eq, cast_int, cast_null, flight_same, flight_total, edits_flights, flight, FlightKey, Flight, IsStation, flight_cmp, flight_in, flight_row, tables_of, typed_flights}
+use Rattle.station_rows.proofs.Common.{Eq, Flight, FlightKey, Int, IsStation, List, Row, Shown, State, Text, [], ap, ap₂, at_ints, at_texts, bytes_cmp, cast_int, cast_null, edits_flights, entries, eq_by_cmp, false, flight, flight_cmp, flight_in, flight_row, flight_same, flight_total, int_cmp, int_eq, int_tied, last_key, last_term, map, pair_eq, refl, sym, tables_of, then_key, then_term, true, typed_flights, unfiltered, value_cmp-Int, value_cmp-Text, ◌&&◌, ◌∙◌, ◌∷◌, ◌≡◌}
 use Rattle.sqlite_value.specs.Keys.{first_key}
 use Rattle.station_rows.proofs.KeyedLemmas.{IsTableOf, KeyedTable, lists}
 use Rattle.station_rows.proofs.Texts.{all_flight_is, all_flight_text}

@@ -1,6 +1,5 @@
 -- The moves of a flight whose numbers lie in a range.
-use Rattle.std.proofs.Common.{ℕ, ℤ, List, [], ◌∷◌, ◌≡◌, codes, false, filter, map, refl}
-use Rattle.station_rows.proofs.Common.{reads_as, Binary, Select, Row, Shown, State, Term, col, op2, Int, Text, Compare, Eq, Gt, Le, at_ints, at_texts, last_term, then_term, Asks, asks, by_column, one_table, rows_by_key, station_schema, IsStation, move_id, move_in, move_row, tables_of, typed_moves, is_flown_within, move_shown}
+use Rattle.station_rows.proofs.Common.{Asks, Binary, Compare, Eq, Gt, Int, IsStation, Le, List, Row, Select, Shown, State, Term, Text, [], asks, at_ints, at_texts, by_column, codes, col, false, filter, is_flown_within, last_term, map, move_id, move_in, move_row, move_shown, one_table, op2, reads_as, refl, rows_by_key, station_schema, tables_of, then_term, typed_moves, ℕ, ℤ, ◌∷◌, ◌≡◌}
 use Rattle.sqlite.specs.Listing.{understood}
 use Rattle.sqlite_tied.specs.Compute.{everything}
 use Rattle.station_rows.proofs.Texts.{move_columns, move_names}

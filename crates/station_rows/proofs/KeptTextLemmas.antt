@@ -1,6 +1,5 @@
 -- The table `kept_text`.
-use Rattle.std.proofs.Common.{refl, false, List, [], ℕ, ℤ, ◌∷◌}
-use Rattle.station_rows.proofs.Common.{Text, Eq, at_texts, last_term, cast_int, cast_null, kept_text_same, kept_text_total, edits_kept_texts, kept_text, kept_text_cmp, kept_text_in, kept_text_row, typed_kept_texts}
+use Rattle.station_rows.proofs.Common.{Eq, List, Text, [], at_texts, cast_int, cast_null, edits_kept_texts, false, kept_text, kept_text_cmp, kept_text_in, kept_text_row, kept_text_same, kept_text_total, last_term, refl, typed_kept_texts, ℕ, ℤ, ◌∷◌}
 use Rattle.sqlite_value.specs.Keys.{first_key}
 use Rattle.station_rows.proofs.KeyedLemmas.{IsTableOf, KeyedTable}
 

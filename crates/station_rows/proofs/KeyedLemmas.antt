@@ -1,17 +1,12 @@
 -- What the statements do to a table whose key is made of columns, whatever the table.
-use Rattle.std.proofs.Common.{Bool, List, None, Ok, Option, Ordering, Some, [], cond, filter, length, map, not, option_map, pos, refl, subst, sym, true, ℕ, ℤ, ◌++◌, ◌+◌, ◌/◌, ◌∙◌, ◌∷◌, ◌≡◌, ◌≢◌}
+use Rattle.station_rows.proofs.Common.{AllByRecursion, AreEntries, Asks, Bool, Compares, Database, Delete, Edits, Executes, FinMap, Insert, Int, IsAntisymmetric, IsInside, IsMap, IsPlaced, IsStation, IsTotalOrder, Key, List, Means, None, Ok, Option, Ordering, Row, Select, Shown, Shows, Some, State, Tables, Term, Trees, Update, Values, [], adjust, asks, col, cond, delete_ran, deleted_at, entries, eq_by_cmp, eval_all, filter, from_entries, get, holds, insert, insert_ran, inserted, length, list_all, map, map_of, not, one_table, option_map, option_to_list, output, output_cmp, plain, pos, reads_as, refl, remove, row_shown, rows_in_order, station_schema, subst, sym, tables_of, true, turn_eq, update_ran, updated_at, value_rows, ℕ, ℤ, ◌&&◌, ◌++◌, ◌+◌, ◌/◌, ◌∙◌, ◌∷◌, ◌≡◌, ◌≢◌}
 use Rattle.std.proofs.lemmas.List.{append-nil}
-use Rattle.std.specs.Cmp.{IsTotalOrder}
-use Rattle.station_rows.proofs.Common.{FinMap, IsAntisymmetric, entries, from_entries, get, insert, remove, AllByRecursion, list_all, eq_by_cmp, option_to_list, ◌&&◌, reads_as, Delete, Insert, Select, Update, Database, value_rows, Row, output, output_cmp, Executes, Shown, Shows, State, Term, col, eval_all, holds, Trees, Int, turn_eq, plain, Key, one_table, IsPlaced, delete_ran, insert_ran, update_ran, Asks, Means, asks, Edits, IsInside, station_schema, IsStation, Tables, tables_of}
 use Rattle.sqlite.specs.Cast.{cast_row}
 use Rattle.sqlite.specs.Edit.{edit_of, next_rowid}
 use Rattle.sqlite.specs.Rowids.TheVariants.{Chosen}
-use Rattle.sqlite.specs.Source.TheVariants.{Values}
 use Rattle.sqlite.specs.Table.{Table}
 use Rattle.sqlite_schema.specs.Rules.{Keeps, clashes}
 use Rattle.sqlite_schema.specs.declared.schema.Constraint.TheVariants.{Unique}
-use Rattle.station_schema.proofs.ColumnKeys.{Compares, IsMap, deleted_at, inserted, map_of, row_shown, rows_in_order, updated_at}
-use Rattle.station_schema.specs.ColumnKeys.{AreEntries, adjust}
 use Rattle.station_rows.proofs.Terms.{insert_terms, key_terms, update_terms}
 
 -- its place in the schema, its rows as entries of a map, and that map

@@ -1,14 +1,10 @@
 -- SELECT .. ORDER BY the key downwards LIMIT n, over one table whose key is made of columns.
 use Rattle.std.proofs.Common.{◌≡◌, ℕ, zero, suc, ◌-◌, ℤ, pos, length, drop, arith, List, [], ◌∷◌, ◌++◌, map, filter, take, reverse, Bool, true, Option, None, Some, append_assoc, append-nil, refl, sym, ap, subst, ◌∙◌, Ordering, Less, IsPermutation}
-use Rattle.station_rows.proofs.Common.{option_to_list, AllByRecursion, list_all, last_or, FinMap, entries, Null, Int, Row, Trees, IsAscending, Query, Output, output, output_cmp, as_count, limited, Term, eval, eval_all, holds, Answers, Key, sorted_unique, all-append, map-map, map_same, filter-map, ascending-append, ascending-filter, ascending-map, IsPermutation-filter, at_end, last_table, matches_are, one_table, no_overlay}
-use Rattle.std.specs.Cmp.{IsTotalOrder}
-use Rattle.std.proofs.lemmas.List.{map-append, reverse-append, reverse-reverse, length-reverse, length-drop, take-append-drop, take_all, take_at, take-map}
+use Rattle.station_rows.proofs.Common.{AllByRecursion, Answers, FinMap, Int, IsAscending, IsMap, IsPermutation-filter, IsTotalOrder, Key, Null, Output, Query, Row, Term, Trees, all-append, as_count, ascending-append, ascending-filter, ascending-map, at_end, entries, entry, eval, eval_all, filter-map, holds, last_or, last_table, length-drop, length-reverse, limited, list_all, map-append, map-map, map_same, matches_are, no_overlay, number, numbered, one_table, option_to_list, output, output_cmp, reverse-append, reverse-reverse, same_rows, sorted_unique, take-append-drop, take-map, take_all, take_at}
 use Rattle.std.proofs.lemmas.List.Sorted.{IsPermutation-map, IsPermutation-trans, IsPermutation-sym, IsPermutation-reverse}
 use Rattle.sqlite.specs.Schema.{Schema}
 use Rattle.sqlite.specs.Program.{overlay}
 use Rattle.sqlite_sql.proofs.QueryLemmas.{output_cmp_total}
-use Rattle.station_schema.specs.ColumnKeys.{numbered}
-use Rattle.station_schema.proofs.ColumnKeys.{number, entry, IsMap, same_rows}
 use Rattle.station_schema.proofs.Maps.{all_passed, ascending_where, entries_rise}
 
 one_first : {X : Type 0} (ys : List X) (x : X) (rest : List X) → take 1 (ys ++ (x ∷ rest)) ≡ take 1 (ys ++ (x ∷ []))

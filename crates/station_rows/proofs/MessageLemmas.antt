@@ -1,6 +1,5 @@
 -- What the statements on `outbox` do.
-use Rattle.std.proofs.Common.{List, Ok, [], false, filter, map, refl, ℕ, ℤ, ◌∷◌, ◌≡◌}
-use Rattle.station_rows.proofs.Common.{reads_as, Select, value_rows, Row, Executes, Shown, State, Int, Gt, IsKeyedBy-insert_by, insert_by, at_ints, last_term, one_table, puts, rows_by_key, IsPlaced, insert_ran, cast_int, cast_null, asks, by_column, edits_outbox, Edits, IsInside, outbox, station_schema, IsStation, Message, message_id, message_in, message_row, tables_of, typed_outbox, is_message_after, with_message, message_shown, insert_message_text}
+use Rattle.station_rows.proofs.Common.{Edits, Executes, Gt, Int, IsInside, IsKeyedBy-insert_by, IsPlaced, IsStation, List, Message, Ok, Row, Select, Shown, State, [], asks, at_ints, by_column, cast_int, cast_null, edits_outbox, false, filter, insert_by, insert_message_text, insert_ran, is_message_after, last_term, map, message_id, message_in, message_row, message_shown, one_table, outbox, puts, reads_as, refl, rows_by_key, station_schema, tables_of, typed_outbox, value_rows, with_message, ℕ, ℤ, ◌∷◌, ◌≡◌}
 use Rattle.station_rows.proofs.Texts.{after_message_is, after_message_text, after_message_where, insert_message_is, message_columns, message_names, message_terms}
 
 message_placed : IsPlaced station_schema 8 outbox

@@ -1,6 +1,5 @@
 -- What the statements on `moves` do.
-use Rattle.std.proofs.Common.{List, Ok, [], ap, false, filter, map, refl, true, ℕ, ℤ, ◌∙◌, ◌∷◌, ◌≡◌}
-use Rattle.station_rows.proofs.Common.{reads_as, Select, value_rows, Row, Executes, Shown, State, Int, Text, Eq, Gt, IsKeyedBy-insert_by, insert_by, unfiltered, at_ints, at_texts, last_term, then_term, one_table, puts, rows_by_key, IsPlaced, insert_ran, cast_int, cast_null, asks, by_column, edits_moves, Edits, IsInside, moves, station_schema, IsStation, Move, move_id, move_in, move_row, tables_of, typed_moves, is_move_after, is_flown, is_of, with_move, move_shown, insert_move_text}
+use Rattle.station_rows.proofs.Common.{Edits, Eq, Executes, Gt, Int, IsInside, IsKeyedBy-insert_by, IsPlaced, IsStation, List, Move, Ok, Row, Select, Shown, State, Text, [], ap, asks, at_ints, at_texts, by_column, cast_int, cast_null, edits_moves, false, filter, insert_by, insert_move_text, insert_ran, is_flown, is_move_after, is_of, last_term, map, move_id, move_in, move_row, move_shown, moves, one_table, puts, reads_as, refl, rows_by_key, station_schema, tables_of, then_term, true, typed_moves, unfiltered, value_rows, with_move, ℕ, ℤ, ◌∙◌, ◌∷◌, ◌≡◌}
 use Rattle.station_rows.proofs.Texts.{after_move_is, after_move_text, after_move_where, all_move_is, all_move_text, flown_move_is, flown_move_text, flown_move_where, insert_move_is, list_move_is, list_move_text, list_move_where, move_columns, move_names, move_terms}
 
 move_placed : IsPlaced station_schema 4 moves

@@ -1,8 +1,7 @@
 -- The text that reads a row of `counts` by its key.
-use Rattle.std.proofs.Common.{ℕ, List, [], codes, refl}
+use Rattle.station_rows.proofs.Common.{Asks, List, [], codes, one_table, refl, station_schema, ℕ}
 use Rattle.sqlite.specs.Listing.{understood}
 use Rattle.sqlite_tied.specs.Compute.{everything}
-use Rattle.station_rows.proofs.Common.{Asks, one_table, station_schema}
 use Rattle.station_rows.proofs.Terms.{columns, key_terms}
 use Rattle.station_rows.proofs.Texts.{count_names}
 

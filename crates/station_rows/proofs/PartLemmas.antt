@@ -1,6 +1,5 @@
 -- The table `part`.
-use Rattle.std.proofs.Common.{ap₂, refl, sym, false, List, [], ℕ, int_cmp, int_eq, ◌∙◌, ◌∷◌, ◌≡◌}
-use Rattle.station_rows.proofs.Common.{eq_by_cmp, ◌&&◌, Int, Text, Eq, pair_cmp, at_ints, at_texts, last_term, then_term, bytes_cmp, int_tied, pair_eq, cast_int, cast_null, part_same, part_total, edits_parts, part, PartKey, part_cmp, part_in, part_row, typed_parts}
+use Rattle.station_rows.proofs.Common.{Eq, Int, List, PartKey, Text, [], ap₂, at_ints, at_texts, bytes_cmp, cast_int, cast_null, edits_parts, eq_by_cmp, false, int_cmp, int_eq, int_tied, last_term, pair_cmp, pair_eq, part, part_cmp, part_in, part_row, part_same, part_total, refl, sym, then_term, typed_parts, ℕ, ◌&&◌, ◌∙◌, ◌∷◌, ◌≡◌}
 use Rattle.sqlite_value.specs.Keys.{first_key}
 use Rattle.station_rows.proofs.KeyedLemmas.{IsTableOf, KeyedTable}
 

@@ -1,11 +1,7 @@
 -- What a query reads of a station's tables.
-use Rattle.std.proofs.Common.{Bool, Err, List, None, Ok, Option, Result, Some, [], ap, inl, subst, false, true, map, option_map, refl, sym, take, get_or, length, ℕ, ◌+◌, ◌<◌, ◌++◌, ◌∙◌, ◌∷◌, ◌≡◌}
+use Rattle.station_rows.proofs.Common.{AreRead, Asks, Bool, Err, Error, Ghosts, Global, HasCleanDisk, Held, IfOk, IsErr, IsPlain, IsStation, IsUnchanged, List, None, Ok, Option, Queries, Query, Reads, Result, Row, Shown, Some, State, Stops, Vec, [], ap, false, get_or, inl, length, map, map_back, option_map, option_to_list, refl, state, station_schema, still_plain, subst, sym, take, true, understood, ℕ, ◌++◌, ◌+◌, ◌<◌, ◌∙◌, ◌∷◌, ◌≡◌}
 use native.Mathlib.Numerals.{unary_clauses}
 use Rattle.std.proofs.Math.Seq.{take-suc}
-use Rattle.station_rows.proofs.Common.{IfOk, IsErr, Vec, option_to_list, IsPlain, Held, state, Row, HasCleanDisk, IsUnchanged, Shown, State, Error, map_back, Query, Asks, Reads, Stops, still_plain, station_schema, IsStation, AreRead, Queries}
-use Rattle.std.specs.declared.alloc.Global.{Global}
-use Rattle.sqlite.specs.Listing.{understood}
-use Rattle.sqlite_trees.specs.declared.store.Store.{Ghosts}
 use Rattle.station_schema.proofs.Handing.{hands}
 use Rattle.station_schema.specs.Streams.{Streams, StreamsRows}
 

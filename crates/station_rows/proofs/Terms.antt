@@ -1,6 +1,5 @@
 -- The terms of the statements on a table, by how many columns it has and how many of them are its key.
-use Rattle.std.proofs.Common.{List, [], map, suc, zero, ℕ, ◌++◌, ◌+◌, ◌-◌, ◌∷◌}
-use Rattle.station_rows.proofs.Common.{Binary, Term, col, lit, op2, Null, Compare, Eq}
+use Rattle.station_rows.proofs.Common.{Binary, Compare, Eq, List, Null, Term, [], col, lit, map, op2, suc, zero, ℕ, ◌++◌, ◌+◌, ◌-◌, ◌∷◌}
 
 -- so many numbers from this one on
 abbrev pub from : ℕ → ℕ → List ℕ

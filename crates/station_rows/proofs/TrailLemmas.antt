@@ -1,6 +1,5 @@
 -- What the statements on `trail` do.
-use Rattle.std.proofs.Common.{List, Ok, [], ap, false, filter, map, refl, true, ℕ, ℤ, ◌∙◌, ◌∷◌, ◌≡◌}
-use Rattle.station_rows.proofs.Common.{reads_as, Select, value_rows, Row, Executes, Shown, State, Int, Eq, Gt, IsKeyedBy-insert_by, insert_by, unfiltered, at_ints, last_term, one_table, puts, rows_by_key, IsPlaced, insert_ran, cast_int, cast_null, asks, by_column, edits_trail, Edits, IsInside, station_schema, trail, IsStation, TrailLine, tables_of, trail_id, trail_in, trail_row, typed_trail, is_line_after, is_line_of, with_trail_line, trail_shown, insert_trail_text}
+use Rattle.station_rows.proofs.Common.{Edits, Eq, Executes, Gt, Int, IsInside, IsKeyedBy-insert_by, IsPlaced, IsStation, List, Ok, Row, Select, Shown, State, TrailLine, [], ap, asks, at_ints, by_column, cast_int, cast_null, edits_trail, false, filter, insert_by, insert_ran, insert_trail_text, is_line_after, is_line_of, last_term, map, one_table, puts, reads_as, refl, rows_by_key, station_schema, tables_of, trail, trail_id, trail_in, trail_row, trail_shown, true, typed_trail, unfiltered, value_rows, with_trail_line, ℕ, ℤ, ◌∙◌, ◌∷◌, ◌≡◌}
 use Rattle.station_rows.proofs.Texts.{after_trail_is, after_trail_text, after_trail_where, all_trail_is, all_trail_text, insert_trail_is, of_trail_is, of_trail_text, of_trail_where, trail_columns, trail_names, trail_terms}
 
 trail_placed : IsPlaced station_schema 7 trail

@@ -1,7 +1,5 @@
 -- What the statements on `waybill2` do.
-use Rattle.std.proofs.Common.{List, Ok, [], ap, false, int_eq, map, refl, true, ℕ, ℤ, ◌∙◌, ◌∷◌, ◌≡◌}
-use Rattle.station_rows.proofs.Common.{list_all, option_to_list, reads_as, Select, value_rows, Row, Executes, Shown, State, holds, Int, Null, Text, Eq, IsKeyedBy-insert_by, IsKeyedBy, get_by, insert_by, unfiltered, at_ints, last_term, one_table, puts, changed_at, row_at, rows_by_key, IsPlaced, insert_ran, update_ran, cast_int, cast_null, asks, by_column, edits_waybills, Edits, IsInside, station_schema, waybill2, IsStation, Waybill, tables_of, typed_waybills, waybill_id, waybill_in, waybill_row, changing_waybill, with_waybill, waybill_shown, insert_waybill_text, update_waybill_text}
-use Rattle.sqlite_keyed.specs.Lists.{update_where}
+use Rattle.station_rows.proofs.Common.{Edits, Eq, Executes, Int, IsInside, IsKeyedBy, IsKeyedBy-insert_by, IsPlaced, IsStation, List, Null, Ok, Row, Select, Shown, State, Text, Waybill, [], ap, asks, at_ints, by_column, cast_int, cast_null, changed_at, changing_waybill, edits_waybills, false, get_by, holds, insert_by, insert_ran, insert_waybill_text, int_eq, last_term, list_all, map, one_table, option_to_list, puts, reads_as, refl, row_at, rows_by_key, station_schema, tables_of, true, typed_waybills, unfiltered, update_ran, update_waybill_text, update_where, value_rows, waybill2, waybill_id, waybill_in, waybill_row, waybill_shown, with_waybill, ℕ, ℤ, ◌∙◌, ◌∷◌, ◌≡◌}
 use Rattle.station_rows.proofs.Texts.{all_waybill_is, all_waybill_text, get_waybill_is, get_waybill_text, insert_waybill_is, update_waybill_is, update_waybill_terms, waybill_columns, waybill_key_is, waybill_names, waybill_terms}
 
 waybill_placed : IsPlaced station_schema 13 waybill2

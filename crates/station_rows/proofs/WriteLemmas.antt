@@ -1,9 +1,7 @@
 -- What a statement that writes does, whatever the statement.
-use Rattle.std.proofs.Common.{List, Ok, Result, ℕ}
-use Rattle.station_rows.proofs.Common.{Delete, Insert, Update, Held, state, Row, CommitsBy, Executes, HasCleanDisk, State, Survives, Error, Means, changes, execute_survives, Alters, Edits, IsInside, station_schema, Tables}
+use Rattle.station_rows.proofs.Common.{Alters, CommitsBy, Delete, Edits, Error, Executes, Ghosts, HasCleanDisk, Held, Insert, IsInside, List, Means, Ok, Result, Row, State, Survives, Tables, Update, changes, execute_survives, state, station_schema, ℕ}
 use Rattle.sqlite.specs.Source.{Source}
 use Rattle.sqlite_schema.specs.declared.program.Program.{Program}
-use Rattle.sqlite_trees.specs.declared.store.Store.{Ghosts}
 
 pub made_by : {S : Type 0} (g : Ghosts S) (old new : Held S) (sql : List ℕ) (params : Row) (change : Tables → Tables) → ((count : ℕ) → IsInside (state g old) → Executes sql params (state g old) (state g new) (Ok count) → Edits (state g old) (state g new) change)
     → (r : Result ℕ Error) → (HasCleanDisk (state g new) → Executes sql params (state g old) (state g new) r) → Alters g old new r change

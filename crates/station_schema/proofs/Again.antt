@@ -1,6 +1,5 @@
 -- The tables of a database that obeys the schema of a station are a station's.
-use Rattle.std.proofs.Common.{◌≡◌, ◌++◌, ℕ, List, IsTrue, [], ◌∷◌, refl, sym, ap, subst, ◌∙◌, arith, codes}
-use Rattle.station_schema.proofs.Common.{Schema, IsLive, Held, state, Integer, IsLaidOut, Keeps, View, IsShaped, IsOrdered, catalog_tree, IsListed, Ghosts, AreEntries, AreListed, key_column, schema_with, old_schema, station_schema, station, waybill, waybill2, stock, flight, moves, expected, part, trail, outbox, kept_key, kept_text, counts, build, IsTyped, IsStation, IsOldStation, LiesInOrder, drop, AllByRecursion, Table}
+use Rattle.station_schema.proofs.Common.{AllByRecursion, AreEntries, AreListed, Ghosts, Held, Integer, IsLaidOut, IsListed, IsLive, IsOldStation, IsOrdered, IsShaped, IsStation, IsTrue, IsTyped, Keeps, LiesInOrder, List, Schema, Table, View, [], ap, arith, build, catalog_tree, codes, counts, drop, expected, flight, kept_key, kept_text, key_column, moves, old_schema, outbox, part, refl, schema_with, state, station, station_schema, stock, subst, sym, trail, waybill, waybill2, ℕ, ◌++◌, ◌∙◌, ◌∷◌, ◌≡◌}
 use Rattle.sqlite_schema.specs.declared.schema.Constraint.TheVariants.{Datatype, NotNull, Unique}
 use Rattle.sqlite_catalog.specs.Listing.{IsSound}
 use Rattle.sqlite_catalog.proofs.LayoutLemmas.{laid_out, objects_rise}

@@ -1,11 +1,9 @@
 -- What texts mean under a schema.
-use Rattle.std.proofs.Common.{◌≡◌, ℕ, List, [], codes, false, Ok, Some, slice_get, refl}
+use Rattle.station_schema.proofs.Common.{Begin, Command, Commit, CreateIndex, CreateTable, Index, IsPlain, Key, List, Ok, Program, Query, Rollback, Schema, Select, Some, Table, Term, [], codes, col, command_of, false, reads_listing, refl, slice_get, statement_of, ℕ, ◌≡◌}
 use Rattle.sqlite.specs.Collation.TheVariants.{Binary}
-use Rattle.station_schema.proofs.Common.{Key, Term, col, Program, Query, Schema, Command, Select, CreateTable, CreateIndex, Begin, Commit, Rollback, reads_listing, IsPlain, command_of, statement_of, Table}
 use Rattle.sqlite_tied.specs.Compute.{everything}
 use Rattle.sqlite.specs.Listing.{understood}
 use Rattle.sqlite.specs.Compile.{table_defined_by, index_defined_by}
-use Rattle.sqlite_schema.specs.declared.schema.Index.{Index}
 
 abbrev pub asks : Query → Program
 asks q = record { lets = []; body = q }

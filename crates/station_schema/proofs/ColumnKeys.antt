@@ -1,6 +1,5 @@
 -- What each kind of statement does to a table whose key is made of columns, whatever the table.
-use Rattle.std.proofs.Common.{◌≡◌, ◌≤◌, ◌<ℤ◌, ℕ, ℤ, pos, ◌+ℤ◌, List, [], ◌∷◌, ◌++◌, map, filter, length, Bool, true, false, cond, not, None, option_map, refl, sym, ap, ap₂, subst, ◌∙◌, arith, int_eq, Ordering, Less, IsPermutation}
-use Rattle.station_schema.proofs.Common.{option_to_list, ◌&&◌, drop, AllByRecursion, list_all, IsTotalOrder, eq_by_cmp, FinMap, IsAntisymmetric, find, entries, get, insert, remove, from_entries, get-from_entries, from_entries_push, ints, IsPermutation-map, IsPermutation-trans, IsPermutation-sym, length_permutation, Null, Int, Row, Trees, rowid, IsAscending, id_in, next_rowid, edit_of, Applies, Chosen, Given, Table, Schema, overlay, Output, output, output_cmp, Term, eval_all, holds, Answers, Keys, ids_of, Key, plain, agree, differ, clashes, Ne, IsKeyedBy, next_key, insert_by, above_all, IsKeyedBy-insert_by, IsKeyedBy-delete_where, IsKeyedBy-update_where, sorted_unique, map_back, all_weaker, all_both, all_map, all_unmap, none_from_any, map-map, map_same, filter-map, filter_same, ascending-append, ascending-filter, ascending-map, ascending_weaker, IsPermutation-filter, at_end, last_table, matches_are, at_ints, numbered, numbered_in, AreEntries, adjust, length-map, update_where, cast_row}
+use Rattle.station_schema.proofs.Common.{AllByRecursion, Answers, Applies, AreEntries, Bool, Chosen, FinMap, Given, Int, IsAntisymmetric, IsAscending, IsKeyedBy, IsKeyedBy-delete_where, IsKeyedBy-insert_by, IsKeyedBy-update_where, IsPermutation, IsPermutation-filter, IsPermutation-map, IsPermutation-sym, IsPermutation-trans, IsTotalOrder, Key, Keys, Less, List, Ne, None, Null, Ordering, Output, Row, Schema, Table, Term, Trees, [], above_all, adjust, agree, all_both, all_map, all_unmap, all_weaker, ap, ap₂, arith, ascending-append, ascending-filter, ascending-map, ascending_weaker, at_end, at_ints, cast_row, clashes, cond, differ, drop, edit_of, entries, eq_by_cmp, eval_all, false, filter, filter-map, filter_same, find, from_entries, from_entries_push, get, get-from_entries, holds, id_in, ids_of, insert, insert_by, int_eq, ints, last_table, length, length-map, length_permutation, list_all, map, map-map, map_back, map_same, matches_are, next_key, next_rowid, none_from_any, not, numbered, numbered_in, option_map, option_to_list, output, output_cmp, overlay, plain, pos, refl, remove, rowid, sorted_unique, subst, sym, true, update_where, ℕ, ℤ, ◌&&◌, ◌++◌, ◌+ℤ◌, ◌<ℤ◌, ◌∙◌, ◌∷◌, ◌≡◌, ◌≤◌}
 use Rattle.sqlite_sql.proofs.QueryLemmas.{output_cmp_total}
 use Rattle.sqlite_keyed.proofs.SliceLemmas.{insert_next}
 use Rattle.station_schema.proofs.Keyed.{one_table, no_overlay, any_rows, few_rows, puts, removed_any, changed, fold-map}

@@ -1,6 +1,5 @@
 -- How UNIQUE compares the keys that are made of columns.
-use Rattle.std.proofs.Common.{◌≡◌, ◌∙◌, [], ◌∷◌, ap₂, refl, sym, false, int_cmp, int_eq}
-use Rattle.station_schema.proofs.Common.{◌&&◌, eq_by_cmp, Eq, pair_cmp, at_ints, at_texts, last_term, then_term, bytes_cmp, StockKey, FlightKey, ExpectedKey, PartKey, stock_cmp, stock_row, flight_cmp, flight_row, expected_cmp, expected_row, part_cmp, part_row, kept_cmp, kept_row, kept_text_cmp, kept_text_row, count_cmp, count_row, build_cmp, build_row}
+use Rattle.station_schema.proofs.Common.{Eq, ExpectedKey, FlightKey, PartKey, StockKey, [], ap₂, at_ints, at_texts, build_cmp, build_row, bytes_cmp, count_cmp, count_row, eq_by_cmp, expected_cmp, expected_row, false, flight_cmp, flight_row, int_cmp, int_eq, kept_cmp, kept_row, kept_text_cmp, kept_text_row, last_term, pair_cmp, part_cmp, part_row, refl, stock_cmp, stock_row, sym, then_term, ◌&&◌, ◌∙◌, ◌∷◌, ◌≡◌}
 use Rattle.sqlite_value.specs.Keys.{first_key}
 use Rattle.station_schema.proofs.ColumnKeys.{Compares}
 use Rattle.station_schema.proofs.OneRow.{int_tied, pair_eq}

@@ -1,13 +1,9 @@
 -- From no tables to those of a station.
-use Rattle.std.proofs.Common.{◌≡◌, ◌<◌, ◌+◌, ◌++◌, ℕ, zero, suc, true, false, IsTrue, List, [], ◌∷◌, length, refl, sym, ap, subst, ◌∙◌, get_or, drop, map, arith, Result, Ok, Err}
-use Rattle.station_schema.proofs.Common.{length-map, AllByRecursion, lacks_sequence, Database, Schema, State, Executes, KeepsCommit, Shows, Survives, Table, Trees, Error, IsMade, Makes, IsInside, no_schema, station_schema, station, waybill, waybill2, stock, flight, moves, expected, part, trail, outbox, kept_key, kept_text, counts, build, moves_index}
+use Rattle.station_schema.proofs.Common.{AllByRecursion, BUILD, COUNTS, CommitsBy, DECLARATIONS, Database, EXPECTED, Err, Error, Executes, FLIGHT, IsInside, IsMade, IsTrue, KEPT_KEY, KEPT_TEXT, KeepsCommit, KeepsRows, List, MOVES, MOVES_AWB, Makes, OUTBOX, Ok, PART, Result, STATION, STOCK, Schema, Shows, State, Survives, TRAIL, Table, Trees, WAYBILL, WAYBILL2, [], ap, arith, build, counts, created, drop, expected, false, flight, get_or, kept_key, kept_text, lacks_sequence, length, length-map, map, moves, moves_index, next_tree, no_schema, outbox, part, refl, station, station_schema, stock, subst, suc, sym, trail, true, waybill, waybill2, zero, ℕ, ◌++◌, ◌+◌, ◌<◌, ◌∙◌, ◌∷◌, ◌≡◌}
 use Rattle.std.specs.Borrow.{Bor}
 use Rattle.std.specs.Fmt.{digits}
-use Rattle.sqlite.specs.Change.{created, next_tree, KeepsRows}
-use Rattle.sqlite.specs.State.{CommitsBy}
 use Rattle.station_schema.proofs.Making.{makes_it, create_survives, indexes_it, index_survives}
 use Rattle.station_schema.proofs.AnyTexts.{IsCreate}
-use Rattle.station_schema.specs.declared.declarations.TheConstants.{DECLARATIONS, STATION, WAYBILL, STOCK, FLIGHT, MOVES, MOVES_AWB, EXPECTED, PART, TRAIL, OUTBOX, KEPT_KEY, KEPT_TEXT, COUNTS, BUILD, WAYBILL2}
 use Rattle.station_schema.proofs.Stored.{made_station}
 use Rattle.station_schema.proofs.Texts.{made, station_is, waybill_is, stock_is, flight_is, moves_is, moves_awb_is, expected_is, part_is, trail_is, outbox_is, kept_key_is, kept_text_is, counts_is, build_is, waybill2_is}
 

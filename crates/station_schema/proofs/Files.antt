@@ -1,7 +1,5 @@
 -- A store in files lies in order, where the disk may show what it holds.
-use Rattle.station_schema.proofs.Common.{◌≡◌, IsTrue, List, IsOrdered, catalog_tree, IsListed, LiesInOrder}
-use Rattle.std.proofs.Common.{subst}
-use Rattle.std.proofs.Math.Logic.{∥∥₁_elim}
+use Rattle.station_schema.proofs.Common.{IsListed, IsOrdered, IsOrdered-prop, IsTrue, LiesInOrder, List, catalog_tree, subst, ∥∥₁_elim, ◌≡◌}
 use Rattle.sqlite_disk.specs.declared.Disk.{Ghosts}
 use Rattle.sqlite_wal.proofs.LogLemmas.{SeenMayStay}
 use Rattle.sqlite_wal.proofs.StateLemmas.{clean_of}
@@ -9,7 +7,6 @@ use Rattle.sqlite_pool.specs.StoredLaws.{recovers_once}
 use Rattle.sqlite_pool.specs.File.{in_use}
 use Rattle.sqlite_pool.proofs.StateLemmas.{settled}
 use Rattle.sqlite_pages.specs.PageMap.{PageMap}
-use Rattle.sqlite_trees.specs.Props.{IsOrdered-prop}
 use Rattle.sqlite_store.specs.declared.catalog.Wanted.{Wanted}
 use Rattle.sqlite_store.specs.declared.store.FileStore.{FileStore}
 use Rattle.sqlite_store.specs.FileStore.{state, schema_in, schema_of, view}

@@ -1,12 +1,8 @@
 -- Rows that a query gives one at a time, and the sink that takes them.
-use Rattle.std.proofs.Common.{◌≡◌, ◌⊎◌, inl, inr, ℕ, ◌≤◌, Bool, true, false, List, [], ◌∷◌, ◌++◌, append-nil, append_assoc, map, take, length, ap, Some, None, Ok, Err, Result, IsTrue, refl, sym, ◌∙◌, subst, arith}
-use Rattle.station_schema.proofs.Common.{IsErr, take-map, Held, state, Database, reads_listing, IsSourceOf, Row, State, HasCleanDisk, IsStatement, IsUnchanged, ShowsRows, Survives, Error, Compiled, Ghosts, Command, Select, Query, Schema, begins_shown, command_of, EndsIn, given_begin, unchanged_then, survives_then, Stops}
+use Rattle.station_schema.proofs.Common.{Bool, Command, CompileError, Compiled, Database, EndsIn, Err, Error, Ghosts, HasCleanDisk, Held, IsErr, IsSourceOf, IsStatement, IsTrue, IsUnchanged, List, None, Ok, Query, Result, Row, Schema, Select, ShowsRows, Some, State, Stops, Survives, [], ap, append-nil, append_assoc, arith, begins_shown, command_of, false, given_begin, inl, inr, length, map, reads_listing, refl, state, subst, survives_then, sym, take, take-map, timed, true, unchanged_then, understood, ℕ, ◌++◌, ◌∙◌, ◌∷◌, ◌≡◌, ◌≤◌, ◌⊎◌}
 use Rattle.std.proofs.Math.Seq.{take-append_seam}
 use Rattle.sqlite.specs.Given.{HasGiven, IsPlain}
-use Rattle.sqlite.specs.Clock.{timed}
-use Rattle.sqlite.specs.Listing.{understood}
 use Rattle.sqlite.specs.State.{FailsToQuery, Shown, Begins}
-use Rattle.sqlite_resolve.specs.declared.error.CompileError.{CompileError}
 use Rattle.sqlite.proofs.StreamLemmas.{given_plain, rolled_back_since}
 use Rattle.station_schema.proofs.Inside.{query_stops}
 use Rattle.station_schema.proofs.AnyTexts.{asks}

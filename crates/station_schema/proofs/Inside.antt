@@ -1,9 +1,6 @@
 -- What a statement does to a connection in a transaction, whatever the statement.
-use Rattle.std.proofs.Common.{◌≡◌, ◌≢◌, inl, inr, ℕ, List, true, false, cond, None, Ok, Err, IsTrue, Result, sym, ap, subst, ◌∙◌, arith}
+use Rattle.station_schema.proofs.Common.{Command, Commit, Compiled, Err, Error, Executes, Fails, FailsToShow, HasCleanDisk, IfErr, IfOk, IsPlain, IsTrue, IsUnchanged, KeepsCommit, List, None, Ok, Reads, Release, Result, Row, RunsCommand, Schema, Shows, ShowsRows, State, Stops, Survives, Trees, Vec, ap, arith, command_of, cond, false, inl, inr, shows_rows, subst, survives_then, sym, timed, true, understood, ℕ, ◌∙◌, ◌≡◌, ◌≢◌}
 use Rattle.std.proofs.lemmas.Bool.{cases_Bool}
-use Rattle.station_schema.proofs.Common.{Row, Trees, Schema, Command, Commit, Release, Compiled, Error, State, KeepsCommit, Shows, HasCleanDisk, Survives, IsUnchanged, Fails, Executes, RunsCommand, shows_rows, FailsToShow, ShowsRows, survives_then, IsPlain, command_of, Vec, IfOk, IfErr, Stops, Reads}
-use Rattle.sqlite.specs.Clock.{timed}
-use Rattle.sqlite.specs.Listing.{understood}
 use Rattle.sqlite.specs.State.{ExecutesIn, IsNotRun, FailsToQuery, Shown, CommitsBy}
 use Rattle.std.specs.declared.alloc.Global.{Global}
 

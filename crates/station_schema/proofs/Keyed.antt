@@ -1,9 +1,7 @@
 -- What each kind of statement does to a table that stands for a list of typed rows, in the order of their rowids.
-use Rattle.std.proofs.Common.{◌≡◌, ◌<ℤ◌, ℕ, ℤ, pos, negsuc, List, [], ◌∷◌, map, filter, fold, length, slice_get, Bool, true, false, cond, not, Some, None, Option, refl, sym, ap, ap₂, subst, ◌∙◌, arith, nat_le, int_eq, int_cmp, Greater, is_some, unwrap_or, ◌≤◌, ◌-◌, ◌^◌, IsPermutation}
-use Rattle.station_schema.proofs.Common.{◌||◌, ◌&&◌, drop, AllByRecursion, list_all, match_ordering, ints, length_permutation, Null, Int, Row, value_cmp-Int, Trees, rowid, put_row, is_taken, are_fresh, id_in, edit_of, with_rowid, without_all, put_all, left_by, Applies, cast_row, ids_of, IsPermutation-map, IsPermutation-sym, Chosen, Given, Table, Keys, overlay, Query, Output, output, inner, end, Term, lit, eval_all, holds, Schema, Answers, Key, length-map, one_permutation, IsKeyedBy, has_key, insert_by, update_where, delete_where, without_key, Less-from_lt, all_weaker, all_map, all-filter, map-map, map_same, Source, at_end, last_table, matches_are}
+use Rattle.station_schema.proofs.Common.{AllByRecursion, Answers, Applies, Bool, Chosen, Given, Greater, Int, IsKeyedBy, IsPermutation, IsPermutation-map, IsPermutation-sym, Key, Keys, Less-from_lt, List, None, Null, Option, Output, Query, Row, Schema, Some, Source, Table, Term, Trees, [], all-filter, all_map, all_weaker, ap, ap₂, are_fresh, arith, at_end, cast_row, cond, delete_where, drop, edit_of, end, eval_all, false, filter, fold, has_key, holds, id_in, ids_of, inner, insert_by, int_cmp, int_eq, ints, is_some, is_taken, last_table, left_by, length, length-map, length_permutation, list_all, lit, map, map-map, map_same, match_ordering, matches_are, nat_le, negsuc, not, one_permutation, output, overlay, pos, put_all, put_row, refl, rowid, slice_get, subst, subst₂, sym, true, unwrap_or, update_where, value_cmp-Int, with_rowid, without_all, without_key, ℕ, ℤ, ◌&&◌, ◌-◌, ◌<ℤ◌, ◌^◌, ◌||◌, ◌∙◌, ◌∷◌, ◌≡◌, ◌≤◌}
 use Rattle.sqlite.specs.Edit.{numbered}
 use Rattle.sqlite_keyed.proofs.WriteLemmas.{removes_delete}
-use Rattle.std.proofs.Common.{subst₂}
 use Rattle.station_schema.proofs.Many.{any_order}
 use Rattle.sqlite_typed.proofs.RowLemmas.{puts-map, deletes-map}
 

@@ -1,6 +1,5 @@
 -- The orders of the keys that are made of columns.
-use Rattle.std.proofs.Common.{int_cmp}
-use Rattle.station_schema.proofs.Common.{IsTotalOrder, int_cmp_total, IsAntisymmetric, int_cmp-IsAntisymmetric, bytes_cmp, pair_cmp, stock_cmp, flight_cmp, expected_cmp, part_cmp, kept_cmp, kept_text_cmp, count_cmp, build_cmp}
+use Rattle.station_schema.proofs.Common.{IsAntisymmetric, IsTotalOrder, build_cmp, bytes_cmp, count_cmp, expected_cmp, flight_cmp, int_cmp, int_cmp-IsAntisymmetric, int_cmp_total, kept_cmp, kept_text_cmp, pair_cmp, part_cmp, stock_cmp}
 use Rattle.station_schema.proofs.OneRow.{pair_total, pair_same, texts_total, texts_same}
 
 pub stock_total : IsTotalOrder stock_cmp

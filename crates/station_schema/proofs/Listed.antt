@@ -1,6 +1,5 @@
 -- What each kind of statement does to a table whose key is the rowid, whatever the table.
-use Rattle.std.proofs.Common.{◌≡◌, ◌<ℤ◌, ℕ, ℤ, List, [], ◌∷◌, map, filter, length, Bool, true, false, cond, Some, None, refl, sym, ap, ap₂, subst, ◌∙◌, arith, int_eq, map-id, ◌≤◌}
-use Rattle.station_schema.proofs.Common.{option_to_list, drop, Option, AllByRecursion, list_all, ints, Null, Int, Row, value_cmp, value_cmp-Int, Trees, rowid, id_in, edit_of, Applies, cast_row, ids_of, Given, Table, Keys, overlay, Term, eval_all, holds, Schema, Answers, last_key, IsKeyedBy, get_by, update_where, IsKeyedBy-update_where, all_weaker, filter_none, answer_by_keys, AreListed}
+use Rattle.station_schema.proofs.Common.{AllByRecursion, Answers, Applies, AreListed, Bool, Given, Int, IsKeyedBy, IsKeyedBy-update_where, Keys, List, None, Null, Option, Row, Schema, Some, Table, Term, Trees, [], all_weaker, answer_by_keys, ap, ap₂, arith, cast_row, cond, drop, edit_of, eval_all, false, filter, filter_none, get_by, holds, id_in, ids_of, int_eq, ints, last_key, length, list_all, map, map-id, option_to_list, overlay, refl, rowid, subst, sym, true, update_where, value_cmp, value_cmp-Int, ℕ, ℤ, ◌<ℤ◌, ◌∙◌, ◌∷◌, ◌≡◌, ◌≤◌}
 use Rattle.station_schema.proofs.Keyed.{one_table, few_rows, changed, seen}
 use Rattle.station_schema.proofs.AnyTexts.{by_column}
 

@@ -1,10 +1,5 @@
 -- CREATE TABLE, inside a transaction.
-use Rattle.std.proofs.Common.{◌≡◌, ℕ, List, [], ◌∷◌, false, None, Ok, Err, Result, sym, ap, subst, ◌∙◌}
-use Rattle.station_schema.proofs.Common.{Table, AllByRecursion, Schema, CreateTable, CreateIndex, Error, Tally, lacks_sequence, Does, MakesIndex, Defines, AtPlace, mode_of, Database, State, Executes, Writes, Survives, survives_weaker, runs_as, IsMade, Makes}
-use Rattle.sqlite.specs.Change.{created, indexed, next_tree, KeepsRows}
-use Rattle.sqlite.specs.State.{CommitsBy}
-use Rattle.sqlite_schema.specs.declared.schema.Index.{Index}
-use Rattle.std.proofs.Common.{slice_get}
+use Rattle.station_schema.proofs.Common.{AllByRecursion, AtPlace, CommitsBy, CreateIndex, CreateTable, Database, Defines, Does, Err, Error, Executes, Index, IsMade, KeepsRows, List, Makes, MakesIndex, None, Ok, Result, Schema, State, Survives, Table, Tally, Writes, [], ap, created, false, indexed, lacks_sequence, mode_of, next_tree, runs_as, slice_get, subst, survives_weaker, sym, ℕ, ◌∙◌, ◌∷◌, ◌≡◌}
 use Rattle.station_schema.proofs.Inside.{execute_stops, keeps, commits_nothing, transaction_stays}
 use Rattle.station_schema.proofs.Shared.{went, same_value}
 use Rattle.station_schema.proofs.AnyTexts.{IsCreate, IsIndex}

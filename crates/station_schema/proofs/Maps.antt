@@ -1,6 +1,5 @@
 -- Maps and lists of entries: each key once, in some order.
-use Rattle.std.proofs.Common.{◌≡◌, ◌≤◌, List, [], ◌∷◌, map, filter, length, Bool, true, false, cond, not, T, Some, None, Option, option_map, is_eq, is_lt, refl, sym, ap, subst, ◌∙◌, arith, Ordering, Less, Equal, Greater, IsPermutation}
-use Rattle.station_schema.proofs.Common.{option_to_list, unwrap_or, ◌&&◌, AllByRecursion, IsTotalOrder, eq_by_cmp_equiv, eq_by_cmp, FinMap, IsAntisymmetric, find, put, is_sorted, entries, entries_sorted, empty, get, insert, remove, from_entries, get-insert, get-entries, get-from_entries, get-remove, entries-insert, len-empty, len-entries, same_map, length_permutation, IsPermutation-refl, IsPermutation-cons, IsPermutation-trans, IsPermutation-middle, IsAscending, all_weaker, all_both, filter_none, one_permutation, adjust}
+use Rattle.station_schema.proofs.Common.{AllByRecursion, Bool, Equal, FinMap, Greater, IsAntisymmetric, IsAscending, IsPermutation, IsPermutation-cons, IsPermutation-middle, IsPermutation-refl, IsPermutation-trans, IsTotalOrder, Less, List, None, Option, Ordering, Some, T, [], adjust, all_both, all_weaker, ap, arith, cond, empty, entries, entries-insert, entries_sorted, eq_by_cmp, eq_by_cmp_equiv, false, filter, filter_none, find, from_entries, get, get-entries, get-from_entries, get-insert, get-remove, insert, is_eq, is_lt, is_sorted, len-empty, len-entries, length, length_permutation, map, not, one_permutation, option_map, option_to_list, put, refl, remove, same_map, subst, sym, true, unwrap_or, ◌&&◌, ◌∙◌, ◌∷◌, ◌≡◌, ◌≤◌}
 use Rattle.std.specs.FinMap.Entries.{below_all, by_order, where_key, find-where_key}
 
 no_entries : {E : Type 0} (es : List E) → length es ≡ 0 → es ≡ []

@@ -1,12 +1,9 @@
 -- A store in memory lies in order.
-use Rattle.station_schema.proofs.Common.{◌==◌, ℕ, zero, suc, List, [], ◌∷◌, map, true, false, refl, if◌then◌else◌, catalog_tree, version_tree, version_rows, with_version, IsShaped, IsOrdered, LiesInOrder}
-use Rattle.std.proofs.Math.Logic.{∥∥₁_elim}
+use Rattle.station_schema.proofs.Common.{IsOrdered, IsShaped, IsShaped-prop, LiesInOrder, List, [], catalog_tree, false, if◌then◌else◌, map, over_memory, refl, suc, true, version_rows, version_tree, with_version, zero, ℕ, ∥∥₁_elim, ◌==◌, ◌∷◌}
 use Rattle.sqlite_trees.specs.declared.memory.tree.Tree.{Tree}
 use Rattle.sqlite_trees.specs.declared.store.Shape.TheVariants.{Table}
 use Rattle.sqlite_trees.specs.Memory.{shape_of, rows_of, shapes, forest, objects_of, all_shapes, heading}
 use Rattle.sqlite_trees.specs.Listing.{objects_are_ordered, objects_are_listed}
-use Rattle.sqlite_trees.specs.Props.{IsShaped-prop}
-use Rattle.sqlite.specs.Steps.{over_memory}
 
 trees_are_ordered : (trees : List Tree) → IsOrdered (shape_of trees) (rows_of trees)
 trees_are_ordered [] t = refl

@@ -1,6 +1,5 @@
 -- The orders of the keys that are made of columns.
-use Rattle.std.proofs.Common.{◌≡◌, ◌∙◌, ap, sym, Bool, true, false, ℤ, ℕ, List, refl, ap₂, arith, Ordering, Less, Equal, Greater, is_eq, int_eq, int_cmp}
-use Rattle.station_schema.proofs.Common.{◌&&◌, IsTotalOrder, on_total, then_total, tied_itself, eq_by_cmp, ordering_then, IsAntisymmetric, nat_cmp-IsAntisymmetric, slice_cmp-IsAntisymmetric, ints, pair_cmp, bytes_cmp}
+use Rattle.station_schema.proofs.Common.{Bool, Equal, Greater, IsAntisymmetric, IsTotalOrder, Less, List, Ordering, ap, ap₂, arith, bytes_cmp, eq_by_cmp, false, int_cmp, int_eq, ints, is_eq, nat_cmp-IsAntisymmetric, on_total, ordering_then, pair_cmp, refl, slice_cmp-IsAntisymmetric, sym, then_total, tied_itself, true, ℕ, ℤ, ◌&&◌, ◌∙◌, ◌≡◌}
 use Rattle.std.proofs.lemmas.Cmp.{nat_list_cmp_total}
 
 both_tied : (a b : Ordering) → ordering_then a b ≡ Equal → (a ≡ Equal) × (b ≡ Equal)

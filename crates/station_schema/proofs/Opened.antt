@@ -1,9 +1,7 @@
 -- Memory that was just opened.
-use Rattle.std.proofs.Common.{ap}
-use Rattle.station_schema.proofs.Common.{IfOk, Result, Ok, Err, Held, Database, Tables, tables_of}
+use Rattle.station_schema.proofs.Common.{Database, Err, Held, IfOk, IsEmpty, Ok, Result, Tables, ap, over_memory, tables_of}
 use Rattle.sqlite_trees.specs.declared.memory.MemStore.{MemStore}
 use Rattle.sqlite.specs.Held.{state as held}
-use Rattle.sqlite.specs.Steps.{over_memory, IsEmpty}
 use Rattle.station_schema.specs.Store.{IsAtRest}
 use Rattle.station_schema.specs.Connection.{view_of}
 

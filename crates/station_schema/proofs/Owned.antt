@@ -1,6 +1,5 @@
 -- Trees of which a database reads the schema of a station.
-use Rattle.std.proofs.Common.{◌≡◌, ◌∙◌}
-use Rattle.station_schema.proofs.Common.{Database, IsDatabase, IsOwn, IsOldOwn, old_schema, station_schema}
+use Rattle.station_schema.proofs.Common.{Database, IsDatabase, IsOldOwn, IsOwn, old_schema, station_schema, ◌∙◌, ◌≡◌}
 use Rattle.sqlite_catalog.proofs.ReadLemmas.{lists_once}
 
 -- a schema is read out of trees in one way

@@ -1,9 +1,6 @@
 -- What an INSERT, an UPDATE or a DELETE ran, whatever the schema and the table.
-use Rattle.std.proofs.Common.{◌≡◌, ℕ, List, [], Ok, Some, None, length, slice_get, false, cond, subst, ◌/◌}
-use Rattle.station_schema.proofs.Common.{Row, Term, Table, Insert, Update, Delete, Values, Chosen, Given, Edit, edit_of, Applies, Answers, value_rows, Does, State, mode_of, Shows, Executes, runs_as, statement_of, ids_of, Keys, Program, Schema}
+use Rattle.station_schema.proofs.Common.{Answers, Applies, Chosen, Delete, Does, Edit, Executes, Given, Insert, Keys, List, None, Ok, Program, Row, Schema, Shows, Some, State, Table, Term, Update, Values, [], cond, edit_of, false, ids_of, length, mode_of, runs_as, slice_get, statement_of, subst, understood, value_rows, works, ℕ, ◌/◌, ◌≡◌}
 use Rattle.sqlite.specs.Source.TheVariants.{Query}
-use Rattle.sqlite.specs.Listing.{understood}
-use Rattle.sqlite_rules.specs.Action.{works}
 use Rattle.station_schema.proofs.Shared.{inserts, inserts_rows_of, updates, deletes}
 use Rattle.station_schema.proofs.AnyTexts.{Means}
 

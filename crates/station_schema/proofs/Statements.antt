@@ -1,8 +1,5 @@
 -- What a statement on a table of a station does to a connection, whatever the table.
-use Rattle.std.proofs.Common.{◌≡◌, ◌≢◌, ℕ, List, Ok, Err, Result, sym, subst}
-use Rattle.station_schema.proofs.Common.{Row, Command, Commit, Release, Error, State, Survives, Executes, CommitsShowing, survives_weaker, IsPlain, command_of, never_commits, station_schema, Tables, IsStation, IsInside, Edits, Changes}
-use Rattle.sqlite.specs.Listing.{understood}
-use Rattle.sqlite.specs.State.{CommitsBy}
+use Rattle.station_schema.proofs.Common.{Changes, Command, Commit, CommitsBy, CommitsShowing, Edits, Err, Error, Executes, IsInside, IsPlain, IsStation, List, Ok, Release, Result, Row, State, Survives, Tables, command_of, never_commits, station_schema, subst, survives_weaker, sym, understood, ℕ, ◌≡◌, ◌≢◌}
 use Rattle.station_schema.proofs.Inside.{commits_nothing, execute_stops, keeps}
 
 module _ (sql : List ℕ) (params : Row) (old new : State) where

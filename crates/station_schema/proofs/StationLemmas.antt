@@ -1,7 +1,5 @@
 -- What the statement on `station` does.
-use Rattle.std.proofs.Common.{ℕ, List, [], ◌∷◌, pos, Ok, refl}
-use Rattle.station_schema.proofs.Common.{Text, Row, value_rows, State, Executes, Survives, insert_by, IsKeyedBy-insert_by, station_schema, station, tables_of, typed_stations, station_row, station_id, IsInside, Edits, new_station, with_station}
-use Rattle.sqlite.specs.State.{CommitsBy}
+use Rattle.station_schema.proofs.Common.{CommitsBy, Edits, Executes, IsInside, IsKeyedBy-insert_by, List, Ok, Row, State, Survives, Text, [], insert_by, new_station, pos, refl, station, station_id, station_row, station_schema, tables_of, typed_stations, value_rows, with_station, ℕ, ◌∷◌}
 use Rattle.station_schema.proofs.Shared.{cast_int, cast_null}
 use Rattle.station_schema.proofs.Keyed.{puts}
 use Rattle.station_schema.proofs.Ran.{IsPlaced, insert_ran}

@@ -1,6 +1,5 @@
 -- From the rows of a tree to a table, and back.
-use Rattle.std.proofs.Common.{◌≡◌, ◌≢◌, ◌==◌, ℕ, ℤ, List, [], ◌∷◌, map, true, false, cond, refl, sym, ap, subst, ◌∙◌, arith}
-use Rattle.station_schema.proofs.Common.{if◌then◌else◌, Bool, AllByRecursion, FinMap, Row, Trees, Table, Database, State, Shows, IsKeyedBy, map_back, station_schema, IsInside, Edits, AreEntries, AreListed, Tables, rows_in, tables_in, tables_of, IsTyped, IsStation}
+use Rattle.station_schema.proofs.Common.{AllByRecursion, AreEntries, AreListed, Bool, Database, Edits, FinMap, IsInside, IsKeyedBy, IsStation, IsTyped, List, Row, Shows, State, Table, Tables, Trees, [], ap, arith, cond, false, if◌then◌else◌, map, map_back, refl, rows_in, station_schema, subst, sym, tables_in, tables_of, true, ℕ, ℤ, ◌==◌, ◌∙◌, ◌∷◌, ◌≡◌, ◌≢◌}
 use Rattle.std.specs.declared.cmp.Ordering.{Ordering}
 use Rattle.station_schema.specs.Tables as table
 use Rattle.station_schema.proofs.ColumnKeys.{IsMap, reads_back, entries_by}

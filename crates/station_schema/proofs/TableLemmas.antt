@@ -1,6 +1,5 @@
 -- A table is what its fields are, and a list what its items are.
-use Rattle.std.proofs.Common.{◌≡◌, ◌<◌, ◌+◌, ℕ, zero, suc, List, [], ◌∷◌, map, length, refl, sym, ap, ap₂, ◌∙◌, subst, slice_index_or, arith}
-use Rattle.station_schema.proofs.Common.{drop}
+use Rattle.station_schema.proofs.Common.{List, [], ap, ap₂, arith, drop, length, map, refl, slice_index_or, subst, suc, sym, zero, ℕ, ◌+◌, ◌<◌, ◌∙◌, ◌∷◌, ◌≡◌}
 
 pub no_items : {X : Type 0} (xs : List X) → length xs ≡ 0 → xs ≡ []
 no_items [] h = refl

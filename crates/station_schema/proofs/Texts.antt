@@ -1,10 +1,8 @@
 -- What the texts that make the tables mean, each under the schema that the ones before it make. Each is computed.
-use Rattle.std.proofs.Common.{ℕ, pos, List, [], ◌∷◌, codes, refl, take}
-use Rattle.station_schema.proofs.Common.{Null, Int, Schema, Term, lit, col, Values, Insert, station_schema, station, waybill, waybill2, stock, flight, moves, expected, part, trail, outbox, kept_key, kept_text, counts, build, moves_index}
+use Rattle.station_schema.proofs.Common.{BUILD, COUNTS, EXPECTED, FLIGHT, Insert, Int, KEPT_KEY, KEPT_TEXT, List, MOVES, MOVES_AWB, Null, OUTBOX, PART, STATION, STOCK, Schema, TRAIL, Term, Values, WAYBILL, WAYBILL2, [], build, codes, col, counts, expected, flight, kept_key, kept_text, lit, moves, moves_index, outbox, part, pos, refl, station, station_schema, stock, take, trail, waybill, waybill2, ℕ, ◌∷◌}
 use Rattle.sqlite_tied.specs.Compute.{everything}
 use Rattle.sqlite.specs.Listing.{understood}
 use Rattle.station_schema.proofs.AnyTexts.{IsCreate, IsIndex, Means}
-use Rattle.station_schema.specs.declared.declarations.TheConstants.{STATION, WAYBILL, STOCK, FLIGHT, MOVES, MOVES_AWB, EXPECTED, PART, TRAIL, OUTBOX, KEPT_KEY, KEPT_TEXT, COUNTS, BUILD, WAYBILL2}
 
 -- the schema of the first tables and indexes of a station
 abbrev pub made : ℕ → ℕ → Schema

@@ -1,8 +1,6 @@
 -- BEGIN, COMMIT and ROLLBACK.
-use Rattle.std.proofs.Common.{◌≡◌, ◌≢◌, inl, inr, ℕ, ◌≤◌, List, [], length, Bool, true, false, None, Ok, Err, IsTrue, Result, refl, sym, ap, subst, ◌∙◌, arith}
-use Rattle.station_schema.proofs.Common.{Row, Trees, Schema, Command, Rollback, Release, Compiled, Error, State, Survives, store_error, IsUnchanged, IsRolledBack, Executes, IsNoStatement, IsMisplaced, MayChange, MayWrite, RunsCommand, RunsAlone, shows_rows, MatchBool, IsSome, survives_weaker, IsPlain, command_of, runs_as, Commits, Stops, IsUndone}
+use Rattle.station_schema.proofs.Common.{Bool, Command, Commits, CompileError, Compiled, Err, Error, Executes, IsMisplaced, IsNoStatement, IsPlain, IsRolledBack, IsSome, IsTrue, IsUnchanged, IsUndone, List, MatchBool, MayChange, MayWrite, None, Ok, Release, Result, Rollback, Row, RunsAlone, RunsCommand, Schema, State, Stops, Survives, Trees, [], ap, arith, command_of, false, inl, inr, length, refl, runs_as, shows_rows, store_error, subst, survives_weaker, sym, true, ℕ, ◌∙◌, ◌≡◌, ◌≢◌, ◌≤◌}
 use Rattle.sqlite.specs.Command.TheVariants.{Begin as Starts, Commit as Ends}
-use Rattle.sqlite_resolve.specs.declared.error.CompileError.{CompileError}
 use Rattle.sqlite_tied.specs.Compute.{everything}
 use Rattle.sqlite.specs.Listing.{understood}
 use Rattle.sqlite_trees.specs.declared.error.StoreError.{StoreError}

@@ -1,10 +1,7 @@
 -- The rows of a STRICT table that obeys its rules are typed, and its keys come once, whatever the table.
-use Rattle.std.proofs.Common.{◌≡◌, cond, ◌<◌, ◌<ℤ◌, length, ℕ, zero, suc, ◌+◌, ℤ, List, [], ◌∷◌, map, Bool, true, false, not, Some, None, Option, IsTrue, Ordering, refl, sym, ap, ap₂, subst, ◌∙◌, arith, int_eq, drop-drop}
-use Rattle.station_schema.proofs.Common.{◌&&◌, ◌||◌, drop, AllByRecursion, IsTotalOrder, eq_by_cmp, ints, Null, Int, Text, Real, Blob, Row, column, value_cmp, rowid, IsTable, IsAscending, Table, Integer, Any, is_of, are_typed, are_present, has_computed, agree, differ, clashes, Ne, IsShaped, IsKeyedBy, lt_from_Less, ascending_from_map, ascending_weaker, all_weaker, all_both, all_unmap, none_from_any, at_ints, value_cmp-Int, plain, numbered, numbered_in, AreEntries, AreListed, column_of}
+use Rattle.station_schema.proofs.Common.{AllByRecursion, Any, AreEntries, AreListed, Blob, Bool, Int, Integer, IsAscending, IsKeyedBy, IsShaped, IsTable, IsTotalOrder, IsTrue, List, Ne, None, Null, Option, Ordering, Real, Row, Some, Table, Text, Value, [], agree, all_both, all_unmap, all_weaker, ap, ap₂, are_present, are_typed, arith, ascending_from_map, ascending_weaker, at_ints, clashes, column, column_of, cond, differ, drop, drop-drop, eq_by_cmp, false, has_computed, int_eq, ints, is_null, is_of, length, lt_from_Less, map, none_from_any, not, numbered, numbered_in, plain, refl, rowid, subst, suc, sym, true, value_cmp, value_cmp-Int, zero, ℕ, ℤ, ◌&&◌, ◌+◌, ◌<ℤ◌, ◌<◌, ◌||◌, ◌∙◌, ◌∷◌, ◌≡◌}
 use Rattle.std.proofs.lemmas.Bool.Decides.{nat_tests}
-use Rattle.sqlite.specs.declared.types.Value.{Value}
 use Rattle.sqlite.specs.View.{is_int}
-use Rattle.sqlite.specs.Ops.{is_null}
 use Rattle.sqlite.specs.Kind.{Kind}
 use Rattle.sqlite.specs.Kind.TheVariants.{Text as Words, Real as Reals, Blob as Blobs}
 use Rattle.sqlite_schema.specs.declared.schema.Column.{Column}

@@ -1,7 +1,9 @@
 -- The names that proofs of this crate cite, passed on from one place. Declares nothing.
+pub use Rattle.agent_stock.proofs.Serials.{find_here, find_next, given_as}
 pub use Rattle.agent_stock.specs.Runs.{AreRuns, AreStockRuns, IsRunRow, StandFrom, end_of, holders_by}
 pub use Rattle.agent_stock.specs.Stock.{Holders, assigned, covers, is_among, is_run, passes, refused_by}
 pub use Rattle.agent_stock.specs.declared.runs.StockRun.{StockRun}
+pub use Rattle.agent_stock.specs.declared.stock.Holder.TheVariants.{Agent, Desk, Used, Void}
 pub use Rattle.agent_stock.specs.declared.stock.Holder.{Holder}
 pub use Rattle.agent_stock.specs.declared.stock.Run.{Run}
 pub use Rattle.awb_number.specs.Number.{IsNumber, prefix_of, serial_of}
@@ -11,10 +13,12 @@ pub use Rattle.station_rows.specs.Meant.{is_between, is_up_to, last_rows_up_to, 
 pub use Rattle.station_rows.specs.declared.stock.StockRow.{StockRow}
 pub use Rattle.station_schema.specs.Store.{Displays, IsShowing, Seen, Survives, View, at_rest, inside}
 pub use Rattle.station_schema.specs.Tables.{Stock, StockKey, Tables, stock_cmp}
-pub use Rattle.std.proofs.lemmas.Bool.{and_from, and_parts, cases_lt, eq-eqb, eqb-true, le-leb, leb-true, lt-ltb, ltb-true, or_left, or_right}
+pub use Rattle.std.proofs.Common.{Bool, Equal, Greater, IfSome, Less, List, None, Option, Ordering, Some, T, [], ap, ap₂, arith, cond, drop, false, filter, get_or, inl, inr, is_eq, is_lt, length, map, negsuc, not, of_z, option_map, pos, refl, rules, subst, suc, sym, take, to_z, true, w64, zero, ℕ, ℤ, ◌%◌, ◌*◌, ◌++◌, ◌+ℤ◌, ◌-ℤ◌, ◌-◌, ◌/◌, ◌<◌, ◌∙◌, ◌∷◌, ◌≡◌, ◌≢◌, ◌⊎◌}
 pub use Rattle.std.proofs.lemmas.Bool.Decides.{nat_tests}
+pub use Rattle.std.proofs.lemmas.Bool.{and_from, and_parts, cases_lt, eq-eqb, eqb-true, le-leb, leb-true, lt-ltb, ltb-true, or_left, or_right}
 pub use Rattle.std.proofs.lemmas.Int.{ints}
 pub use Rattle.std.proofs.lemmas.List.{drop-map, drop_all, drop_more, length-drop, length-map, take-append-drop}
+pub use Rattle.std.specs.FinMap.Entries.{below_all}
 pub use Rattle.std.specs.FinMap.{FinMap, entries, entries-from_sorted, from_sorted, get, get-entries, get-from_sorted, get-insert, get-remove, insert, is_sorted, remove, same_map}
 pub use Rattle.std.specs.List.{AllByRecursion, find, last_or, list_all, range_with_len}
 pub use Rattle.std.specs.Option.{option_and_then}

@@ -1,7 +1,5 @@
 -- Orders by their parts, and a number that is used up.
-use Rattle.std.proofs.Common.{◌≡◌, ℕ, ◌+◌, cond, Option, Some, ap, ◌∙◌, arith}
-use Rattle.stock_tables.proofs.Common.{◌&&◌, ◌==◌, nat_le, nat_lt, nat_tests, assigned, Run, Holder, View, Tables, holders_in, Restocked, using_up}
-use Rattle.agent_stock.specs.declared.stock.Holder.TheVariants.{Used}
+use Rattle.stock_tables.proofs.Common.{Holder, Option, Restocked, Run, Some, Tables, Used, View, ap, arith, assigned, cond, holders_in, nat_le, nat_lt, nat_tests, using_up, ℕ, ◌&&◌, ◌+◌, ◌==◌, ◌∙◌, ◌≡◌}
 
 -- a run of one number
 one_of : (w q : ℕ) (x y : Option Holder) → cond (nat_le w q && nat_lt q (w + 1)) x y ≡ cond (q == w) x y

@@ -1,8 +1,6 @@
 -- The lowest number that fails, row after row.
-use Rattle.std.proofs.Common.{◌≡◌, ℕ, zero, suc, ◌+◌, ◌-◌, ◌<◌, ◌≤◌, ◌⊎◌, inl, inr, true, false, not, Bool, Option, Some, None, List, [], ◌∷◌, length, get_or, drop, refl, sym, ap, ◌∙◌, arith}
-use Rattle.stock_tables.proofs.Common.{IsTrue, find, range_with_len, cases_lt, drop_more, Holders, passes, covers, Holder, Run, StockRun, holders_by, end_of, StandFrom}
+use Rattle.stock_tables.proofs.Common.{Bool, Holder, Holders, IsTrue, List, None, Option, Run, Some, StandFrom, StockRun, [], ap, arith, cases_lt, covers, drop, drop_more, end_of, false, find, find_here, find_next, get_or, holders_by, inl, inr, length, not, passes, range_with_len, refl, suc, sym, true, zero, ℕ, ◌+◌, ◌-◌, ◌<◌, ◌∙◌, ◌∷◌, ◌≡◌, ◌≤◌, ◌⊎◌}
 use Rattle.agent_stock.specs.declared.stock.Test.{Test}
-use Rattle.agent_stock.proofs.Serials.{find_next, find_here}
 use Rattle.stock_tables.proofs.Standing.{inside, here, passed, ahead, none_below, stand_lower}
 
 abbrev pub fails_at : Holders → Test → ℕ → Bool

@@ -1,6 +1,5 @@
 -- Rows that are lawful and apart are runs in order.
-use Rattle.std.proofs.Common.{◌≡◌, ℕ, ℤ, pos, negsuc, ◌+◌, ◌-◌, ◌*◌, ◌/◌, ◌%◌, ◌≤◌, ◌<◌, ◌⊎◌, inl, inr, Bool, true, false, cond, Option, Some, None, List, [], ◌∷◌, map, refl, sym, ◌∙◌, arith}
-use Rattle.stock_tables.proofs.Common.{int_le, int_lt, ◌&&◌, ◌||◌, nat_le, nat_lt, is_some, option_and_then, int_eq, list_all, find, AllByRecursion, FinMap, entries, ints, nat_tests, and_parts, is_among, Holder, Stock, StockKey, stock_cmp, natural, is_within, holder_by, holders_in, stands_for, is_stock_row, is_behind, are_apart, run_in, named, holders_by, end_of, IsRunRow, StandFrom, AreRuns}
+use Rattle.stock_tables.proofs.Common.{AllByRecursion, AreRuns, Bool, FinMap, Holder, IsRunRow, List, None, Option, Some, StandFrom, Stock, StockKey, [], and_parts, are_apart, arith, cond, end_of, entries, false, find, holder_by, holders_by, holders_in, inl, inr, int_eq, int_le, int_lt, ints, is_among, is_behind, is_some, is_stock_row, is_within, list_all, map, named, nat_le, nat_lt, nat_tests, natural, negsuc, option_and_then, pos, refl, run_in, stands_for, stock_cmp, sym, true, ℕ, ℤ, ◌%◌, ◌&&◌, ◌*◌, ◌+◌, ◌-◌, ◌/◌, ◌<◌, ◌||◌, ◌∙◌, ◌∷◌, ◌≡◌, ◌≤◌, ◌⊎◌}
 
 abbrev pub fits : ℤ → ℤ → ℤ → Bool
 fits p low high = is_within 0 999 p && is_within 0 9_999_999 low && int_le low high && int_le high (pos 9_999_999)

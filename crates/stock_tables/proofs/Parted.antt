@@ -1,6 +1,5 @@
 -- Rows in ascending order, as those before a run, those that it touches, and those behind it.
-use Rattle.std.proofs.Common.{◌≡◌, ℕ, ◌+◌, ◌/◌, ◌%◌, ◌<◌, ◌≤◌, true, false, not, Bool, None, List, [], ◌∷◌, ◌++◌, filter, refl, sym, ap, ◌∙◌, arith, cond, ◌&&◌, nat_eq, nat_le, nat_lt}
-use Rattle.stock_tables.proofs.Common.{AllByRecursion, nat_tests, prefix_of, serial_of, Run, StockRun, Touches, AreNear, AreAround, touches, lies_ahead, lies_behind, rows_near, rows_ahead, rows_behind, holders_by, end_of, IsRunRow, StandFrom, AreRuns}
+use Rattle.stock_tables.proofs.Common.{AllByRecursion, AreAround, AreNear, AreRuns, Bool, IsRunRow, List, None, Run, StandFrom, StockRun, Touches, [], ap, arith, cond, end_of, false, filter, holders_by, lies_ahead, lies_behind, nat_eq, nat_le, nat_lt, nat_tests, not, prefix_of, refl, rows_ahead, rows_behind, rows_near, serial_of, sym, touches, true, ℕ, ◌%◌, ◌&&◌, ◌++◌, ◌+◌, ◌/◌, ◌<◌, ◌∙◌, ◌∷◌, ◌≡◌, ◌≤◌}
 use Rattle.stock_tables.proofs.Standing.{by_first, by_second, ahead}
 use Rattle.stock_tables.proofs.Places.{none_all}
 

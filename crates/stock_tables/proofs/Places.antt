@@ -1,6 +1,5 @@
 -- What stands in place of the rows that a run touches.
-use Rattle.std.proofs.Common.{◌≡◌, ◌≢◌, ℕ, ◌+◌, ◌-◌, ◌*◌, ◌/◌, ◌%◌, ◌<◌, ◌≤◌, ◌⊎◌, inl, inr, true, Option, Some, None, IfSome, List, [], ◌∷◌, ◌++◌, refl, sym, ap, ◌∙◌, subst, arith, cond, ◌&&◌, nat_le, nat_lt}
-use Rattle.stock_tables.proofs.Common.{AllByRecursion, cases_lt, and_parts, ltb-true, leb-true, prefix_of, serial_of, assigned, Holder, Run, StockRun, Touches, AreNear, AreAround, listed, cut_before, cut_from, Before, BehindBy, Behind, IsJoined, holders_by, end_of, IsRunRow, StandFrom, AreRuns}
+use Rattle.stock_tables.proofs.Common.{AllByRecursion, AreAround, AreNear, AreRuns, Before, Behind, BehindBy, Holder, IfSome, IsJoined, IsRunRow, List, None, Option, Run, Some, StandFrom, StockRun, Touches, [], and_parts, ap, arith, assigned, cases_lt, cond, cut_before, cut_from, end_of, holders_by, inl, inr, leb-true, listed, ltb-true, nat_le, nat_lt, prefix_of, refl, serial_of, subst, sym, true, ℕ, ◌%◌, ◌&&◌, ◌*◌, ◌++◌, ◌+◌, ◌-◌, ◌/◌, ◌<◌, ◌∙◌, ◌∷◌, ◌≡◌, ◌≢◌, ◌≤◌, ◌⊎◌}
 use Rattle.stock_tables.proofs.Standing.{last_end, inside, before_it, behind_it, here, passed, ahead, none_below, by_second, alike_between, some_between, stand_split, stand_join, last_end_join, stand_lower, each_split, each_join}
 
 pub behind_last : (end : ℕ) (to : Holder) (rest : List StockRun) (row : StockRun) (high : ℕ) (right : Option StockRun) → BehindBy end to row high right → Behind end to (rest ++ row ∷ []) high right

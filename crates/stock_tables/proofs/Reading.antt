@@ -1,6 +1,5 @@
 -- The rows that a run touches, and the holder of a number, by the last row below a number.
-use Rattle.std.proofs.Common.{◌≡◌, ℕ, ℤ, pos, negsuc, ◌+ℤ◌, ◌+◌, ◌*◌, ◌/◌, ◌%◌, ◌≤◌, ◌<◌, ◌⊎◌, inl, inr, Bool, true, false, cond, Option, Some, None, List, [], ◌∷◌, ◌++◌, ◌-◌, length, take, drop, map, filter, option_map, refl, sym, ap, subst, ◌∙◌, arith}
-use Rattle.stock_tables.proofs.Common.{◌&&◌, ◌||◌, int_le, nat_eq, nat_le, nat_lt, AllByRecursion, last_or, list_all, option_and_then, int_eq, ints, and_parts, leb-true, ltb-true, eqb-true, nat_tests, length-drop, length-map, drop-map, take-append-drop, prefix_of, serial_of, is_among, Run, StockRun, Stock, StockKey, natural, is_stock_row, run_in, touches, rows_near, holders_by, end_of, IsRunRow, StandFrom, is_between, is_up_to, last_up_to, last_rows_up_to, is_below, last_below, is_from, reaches, reaching, last_to_end, begins_before, are_enough, holder_at}
+use Rattle.stock_tables.proofs.Common.{AllByRecursion, Bool, IsRunRow, List, None, Option, Run, Some, StandFrom, Stock, StockKey, StockRun, [], and_parts, ap, are_enough, arith, begins_before, cond, drop, drop-map, end_of, eqb-true, false, filter, holder_at, holders_by, inl, inr, int_eq, int_le, ints, is_among, is_below, is_between, is_from, is_stock_row, is_up_to, last_below, last_or, last_rows_up_to, last_to_end, last_up_to, leb-true, length, length-drop, length-map, list_all, ltb-true, map, nat_eq, nat_le, nat_lt, nat_tests, natural, negsuc, option_and_then, option_map, pos, prefix_of, reaches, reaching, refl, rows_near, run_in, serial_of, subst, sym, take, take-append-drop, touches, true, ℕ, ℤ, ◌%◌, ◌&&◌, ◌*◌, ◌++◌, ◌+ℤ◌, ◌+◌, ◌-◌, ◌/◌, ◌<◌, ◌||◌, ◌∙◌, ◌∷◌, ◌≡◌, ◌≤◌, ◌⊎◌}
 use Rattle.std.proofs.lemmas.List.Elements.{filter-append, filter_agree}
 use Rattle.stock_tables.proofs.Standing.{last_end, ends_up, stand_split, stand_lower}
 use Rattle.stock_tables.proofs.Meant.{low_fits, natural_is, row_fits}

@@ -1,6 +1,5 @@
 -- The stock after a run is given, by the rows that the run touches.
-use Rattle.std.proofs.Common.{◌≡◌, ℕ, true, List, [], ◌∷◌, ◌++◌, map, refl, sym, ap, subst, ◌∙◌, arith}
-use Rattle.stock_tables.proofs.Common.{nat_eq, is_some, IsTrue, ◌≤◌, ◌+◌, AllByRecursion, FinMap, entries, get, and_parts, or_left, or_right, leb-true, ltb-true, eq-eqb, serial_of, is_run, covers, assigned, Holder, Run, StockRun, View, Displays, inside, Tables, Stock, stock_cmp, holders_in, run_in, AreAround, AreNear, Touches, rows_ahead, rows_near, rows_behind, holders_by, StandFrom, AreRuns, end_of, key_of, IsWritable, begins, cleared, put_in, Stocked, Restocked, restocked, AreThere, IsCut}
+use Rattle.stock_tables.proofs.Common.{AllByRecursion, AreAround, AreNear, AreRuns, AreThere, Displays, FinMap, Holder, IsCut, IsTrue, IsWritable, List, Restocked, Run, StandFrom, Stock, StockRun, Stocked, Tables, Touches, View, [], and_parts, ap, arith, assigned, begins, cleared, covers, end_of, entries, eq-eqb, get, holders_by, holders_in, inside, is_run, is_some, key_of, leb-true, ltb-true, map, nat_eq, or_left, or_right, put_in, refl, restocked, rows_ahead, rows_behind, rows_near, run_in, serial_of, stock_cmp, subst, sym, true, ℕ, ◌++◌, ◌+◌, ◌∙◌, ◌∷◌, ◌≡◌, ◌≤◌}
 use Rattle.stock_tables.proofs.Places.{run_parts}
 use Rattle.stock_tables.proofs.Parted.{parted, around, near_holders, touched}
 use Rattle.stock_tables.proofs.Standing.{stand_split, stand_lower, last_end, each_split, each_join}

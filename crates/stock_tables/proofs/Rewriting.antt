@@ -1,8 +1,6 @@
 -- The table after the rows that a run touches are cleared and the new rows put in.
-use Rattle.std.proofs.Common.{◌≡◌, ℕ, ◌/◌, ◌%◌, pos, Bool, true, false, cond, T, Option, Some, None, List, [], ◌∷◌, ◌++◌, map, is_lt, is_eq, refl, sym, ap, ap₂, subst, ◌∙◌, arith, Ordering, Less, Equal, Greater}
-use Rattle.stock_tables.proofs.Common.{◌&&◌, ◌||◌, nat_eq, is_some, AllByRecursion, list_all, int_eq, int_cmp, eq_by_cmp, FinMap, entries, is_sorted, get, insert, remove, from_sorted, get-insert, get-remove, get-entries, get-from_sorted, entries-from_sorted, same_map, ints, and_parts, and_from, eqb-true, nat_tests, prefix_of, serial_of, StockRun, Stock, StockKey, stock_cmp, holders_in, is_stock_row, are_apart, AreStockRows, run_in, holders_by, IsRunRow, AreRuns, key_of, row_in, entry_of, IsWritable, begins, without, cleared, put_in}
+use Rattle.stock_tables.proofs.Common.{AllByRecursion, AreRuns, AreStockRows, Bool, Equal, FinMap, Greater, IsRunRow, IsWritable, Less, List, None, Option, Ordering, Some, Stock, StockKey, StockRun, T, [], and_from, and_parts, ap, ap₂, are_apart, arith, begins, below_all, cleared, cond, entries, entries-from_sorted, entry_of, eq_by_cmp, eqb-true, false, from_sorted, get, get-entries, get-from_sorted, get-insert, get-remove, holders_by, holders_in, insert, int_cmp, int_eq, ints, is_eq, is_lt, is_some, is_sorted, is_stock_row, key_of, list_all, map, nat_eq, nat_tests, pos, prefix_of, put_in, refl, remove, row_in, run_in, same_map, serial_of, stock_cmp, subst, sym, true, without, ℕ, ◌%◌, ◌&&◌, ◌++◌, ◌/◌, ◌||◌, ◌∙◌, ◌∷◌, ◌≡◌}
 use Rattle.std.specs.FinMap.{find}
-use Rattle.std.specs.FinMap.Entries.{below_all}
 use Rattle.station_schema.proofs.OneRow.{pair_eq, int_tied}
 use Rattle.station_schema.proofs.Keys.{stock_total, stock_same}
 use Rattle.stock_tables.proofs.Standing.{each_split, each_join}

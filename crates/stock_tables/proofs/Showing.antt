@@ -1,6 +1,5 @@
 -- What a store shows after a call, from what it showed before.
-use Rattle.std.proofs.Common.{sym, ◌∙◌}
-use Rattle.stock_tables.proofs.Common.{IfOk, OnOk, Result, Ok, Err, View, Seen, IsShowing, Survives, Tables}
+use Rattle.stock_tables.proofs.Common.{Err, IfOk, IsShowing, Ok, OnOk, Result, Seen, Survives, Tables, View, sym, ◌∙◌}
 use Rattle.station_rows.specs.Clauses.{Reads, RestsIfSound}
 
 pub survives_itself : (a : View) → Survives a a

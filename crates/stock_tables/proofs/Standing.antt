@@ -1,6 +1,5 @@
 -- Rows that rise: who has a number below them, above them and among them.
-use Rattle.std.proofs.Common.{◌≡◌, ℕ, ◌+◌, ◌<◌, ◌≤◌, true, false, Bool, Option, Some, None, List, [], ◌∷◌, ◌++◌, refl, sym, ap, ◌∙◌, arith, cond, ◌&&◌, nat_le, nat_lt}
-use Rattle.stock_tables.proofs.Common.{AllByRecursion, and_from, le-leb, lt-ltb, nat_tests, is_among, Holder, StockRun, holders_by, end_of, StandFrom}
+use Rattle.stock_tables.proofs.Common.{AllByRecursion, Bool, Holder, List, None, Option, Some, StandFrom, StockRun, [], and_from, ap, arith, cond, end_of, false, holders_by, is_among, le-leb, lt-ltb, nat_le, nat_lt, nat_tests, refl, sym, true, ℕ, ◌&&◌, ◌++◌, ◌+◌, ◌<◌, ◌∙◌, ◌∷◌, ◌≡◌, ◌≤◌}
 
 -- the number behind the last row, or the one that they stand from
 abbrev pub last_end : ℕ → List StockRun → ℕ

@@ -1,6 +1,5 @@
 -- The sums on a flight are those of the waybills that are built on it.
-use Rattle.std.proofs.Common.{◌≡◌, ℕ, ◌<◌, ◌==◌, arith, ℤ, pos, negsuc, Bool, true, false, cond, ◌&&◌, ◌||◌, nat_lt, List, [], ◌∷◌, map, length, Option, Some, None, is_some, option_map, refl, sym, ap, ap₂, subst, ◌∙◌, true≢false, nat_cmp, int_cmp, int_eq, Less, slice_get}
-use Rattle.table_audits.proofs.Common.{AllByRecursion, ordering_then, tied_itself, nat_cmp_total, is_at, lookup, keys_of, nat_tests, ints, FlightDate, Move, Built, built, waybills_on, Build, running, unless_nothing, natural, none_is, int_pos, Tally, BuildPlace, BookSums, build_row, build_due, build_place_cmp, AreSums, is_left, on_flight, running_on}
+use Rattle.table_audits.proofs.Common.{AllByRecursion, AreSums, BookSums, Bool, Build, BuildPlace, Built, FlightDate, Less, List, Move, None, Option, Some, Tally, [], ap, ap₂, arith, build_due, build_place_cmp, build_row, built, cond, false, int_cmp, int_eq, int_pos, ints, is_at, is_left, is_some, keys_of, length, lookup, map, nat_cmp, nat_cmp_total, nat_lt, nat_tests, natural, negsuc, none_is, on_flight, option_map, ordering_then, pos, refl, running, running_on, slice_get, subst, sym, tied_itself, true, true≢false, unless_nothing, waybills_on, ℕ, ℤ, ◌&&◌, ◌<◌, ◌==◌, ◌||◌, ◌∙◌, ◌∷◌, ◌≡◌}
 use Rattle.std.specs.List.Sorted.{IsStrictlySortedBy}
 use Rattle.shipment_machine.specs.Numbers.{IsAscending as Rising, is_in}
 use Rattle.shipment_machine.proofs.Rising.{same_rising}

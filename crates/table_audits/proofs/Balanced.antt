@@ -1,13 +1,9 @@
 -- The balances of a station are lawful exactly where each sum is, and no flight has more than 500
 -- of them.
-use Rattle.std.proofs.Common.{◌≡◌, ◌≢◌, ◌⊎◌, inl, inr, ℕ, zero, suc, ◌≤◌, arith, ℤ, pos, negsuc, Bool, true, false, ◌&&◌, ◌||◌, cond, nat_lt, List, [], ◌∷◌, map, length, Option, Some, None, option_map, refl, sym, ap, ap₂, subst, ◌∙◌, true≢false, nat_cmp, int_cmp, is_eq, slice_get, Ordering}
-use Rattle.table_audits.proofs.Common.{int_lt, not, int_eq, AllByRecursion, list_all, eq_by_cmp, IsTotalOrder, on_total, then_total, int_cmp_total, entries, get, get-entries, IsAntisymmetric, nat_cmp-IsAntisymmetric, int_cmp-IsAntisymmetric, is_at, lookup, keys_of, and_parts, and_from, all_from_test, test_from_all, bytes_cmp, FlightDate, Move, Place, Hand, Surplus, Free, Built, Departed, Delivered, Missing, Transferred, built, taken_and_found, waybills_on, is_outside, IsStocked, IsCovered, same-is, pair_total, pair_same, texts_total, Tables, Count, Build, Flight, FlightKey, flight_cmp, running, unless_nothing, is_designator, flight_key, flights_in, outbound_by, book_in, place_code, plain_place, is_set, same_key, is_built, count_in, count_here, some_is, none_is, is_false, Tally, CountPlace, BuildPlace, BookSums, count_row, build_row, build_due, count_place_cmp, build_place_cmp, AreSums, AreFlightsOf, AreBalances, is_covered, is_left, drawn_by, drawn_at, is_lawful_count, is_open, is_lawful_build, on_flight, running_in}
-use Rattle.std.specs.List.Sorted.{IsStrictlySortedBy}
+use Rattle.table_audits.proofs.Common.{AllByRecursion, AreBalances, AreFlightsOf, AreSums, BookSums, Bool, Build, BuildPlace, Built, Count, CountPlace, Delivered, Departed, Flight, FlightDate, FlightKey, Free, Hand, IsAntisymmetric, IsCovered, IsStocked, IsStrictlySortedBy, IsTotalOrder, List, Missing, Move, None, Option, Ordering, Place, Some, Surplus, Tables, Tally, Transferred, [], all_from_test, and_from, and_parts, ap, ap₂, arith, book_in, build_due, build_place_cmp, build_row, built, bytes_cmp, cond, count_here, count_in, count_place_cmp, count_row, drawn_at, drawn_by, each_entry, entries, eq_by_cmp, false, flight_cmp, flight_key, flights_in, get, get-entries, inl, inr, int_cmp, int_cmp-IsAntisymmetric, int_cmp_total, int_eq, int_lt, is_at, is_built, is_closed, is_covered, is_designator, is_eq, is_false, is_lawful_build, is_lawful_count, is_left, is_open, is_outside, is_set, is_tied, keys_of, length, list_all, lookup, map, nat_cmp, nat_cmp-IsAntisymmetric, nat_lt, negsuc, none_is, not, on_flight, on_total, option_map, outbound_by, pair_same, pair_total, place_code, plain_place, pos, refl, running, running_in, same-is, same_key, slice_get, some_is, subst, suc, sym, taken_and_found, test_from_all, texts_total, then_total, true, true≢false, unless_nothing, waybills_on, zero, ℕ, ℤ, ◌&&◌, ◌||◌, ◌∙◌, ◌∷◌, ◌≡◌, ◌≢◌, ◌≤◌, ◌⊎◌}
 use Rattle.std.specs.FinMap.{find}
 use Rattle.shipment_machine.specs.Amount.{plus, fits}
-use Rattle.shipment_machine.specs.Effect.{is_closed}
 use Rattle.row_codec.proofs.Codes as codes
-use Rattle.row_codec.proofs.MapLaws.{each_entry, is_tied}
 use Rattle.table_audits.specs.Balances.{is_within}
 use Rattle.table_audits.proofs.Sorted.{each_looked_up}
 use Rattle.table_audits.proofs.Mapped.{got_map, index_of, listed}

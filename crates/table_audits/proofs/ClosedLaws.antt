@@ -1,7 +1,5 @@
 -- Flights are closed exactly where they departed, row by row.
-use Rattle.std.proofs.Common.{◌≡◌, ◌↔◌, Bool, true, false, cond, ◌||◌, is_some, Option, Some, None, option_map, List, [], ◌∷◌, map, length, refl, sym, ap, ap₂, subst, ◌∙◌, true≢false}
-use Rattle.table_audits.proofs.Common.{IsSome, IsTrue, AllByRecursion, list_all, entries, get, and_parts, cond-true, length-map, all_from_test, map-map, FlightEntry, flight_entry, same_place, FlightDate, Move, Outbound, Place, Built, Departed, departs_with, IsNoted, IsLawfulMove, same-is, Tables, Flight, FlightKey, flight_cmp, flight_total, flight_same, is_set, is_designator, flight_key, flights_in, outbound_by, is_flight_row, book_in, at_key, each_entry, same_bool, is_false, AreDistinct, flight_in, AreDepartures, departs_in, IsDeparted, cargo_in, listed_in}
-use Rattle.shipment_machine.specs.Effect.{is_closed}
+use Rattle.table_audits.proofs.Common.{AllByRecursion, AreDepartures, AreDistinct, Bool, Built, Departed, Flight, FlightDate, FlightEntry, FlightKey, IsDeparted, IsLawfulMove, IsNoted, IsSome, IsTrue, List, Move, None, Option, Outbound, Place, Some, Tables, [], all_from_test, and_parts, ap, ap₂, at_key, book_in, cargo_in, cond, cond-true, departs_in, departs_with, each_entry, entries, false, flight_cmp, flight_entry, flight_in, flight_key, flight_same, flight_total, flights_in, get, is_closed, is_designator, is_false, is_flight_row, is_set, is_some, length, length-map, list_all, listed_in, map, map-map, option_map, outbound_by, refl, same-is, same_bool, same_place, subst, sym, true, true≢false, ◌||◌, ◌↔◌, ◌∙◌, ◌∷◌, ◌≡◌}
 use Rattle.table_audits.proofs.Made.{distinct}
 use Rattle.table_audits.proofs.Listed.{IsNamed, named, named_by, flights_are}
 

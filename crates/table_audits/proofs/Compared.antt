@@ -1,6 +1,5 @@
 -- Rows that are compared with the sums one by one.
-use Rattle.std.proofs.Common.{◌≡◌, Bool, cond, ◌↔◌, T, IsTrue, List, [], ◌∷◌, map, Some, option_map, refl, sym, ap, subst, ◌∙◌, int_cmp, is_eq, is_lt, Less}
-use Rattle.table_audits.proofs.Common.{AllByRecursion, is_sorted, entries, get-entries, int_cmp-IsAntisymmetric, below_all, is_at, lookup, keys_of, FlightDate, Move, pair_same, Tables, Count, CountKey, count_cmp, running, AreCounts, counts_total, Tally, CountPlace, BookSums, count_row, count_entry, count_place_cmp, AreSums, count_in}
+use Rattle.table_audits.proofs.Common.{AllByRecursion, AreCounts, AreSums, BookSums, Bool, Count, CountKey, CountPlace, FlightDate, IsTrue, Less, List, Move, Some, T, Tables, Tally, [], ap, below_all, cond, count_cmp, count_entry, count_in, count_place_cmp, count_row, counts_total, entries, get-entries, int_cmp, int_cmp-IsAntisymmetric, is_at, is_eq, is_lt, is_sorted, keys_of, lookup, map, option_map, pair_same, refl, running, subst, sym, ◌↔◌, ◌∙◌, ◌∷◌, ◌≡◌}
 use Rattle.std.specs.List.Sorted.{IsStrictlySortedBy}
 use Rattle.std.specs.FinMap.{find}
 use Rattle.table_audits.proofs.Posted.{mapped}

@@ -1,15 +1,11 @@
 -- In a database with the tables that a station declares, those that are held are the typed ones.
-use Rattle.std.proofs.Common.{◌≡◌, ◌∙◌, ℕ, ℤ, pos, Bool, true, false, List, [], ◌∷◌, map, refl, sym, ap, arith}
-use Rattle.table_audits.proofs.Common.{ints, if◌then◌else◌, ◌&&◌, int_eq, is_utf8, entries, same_entries_map, Trees, Database, Tables, Station, station_id, station_row, station_in, typed_stations, IsStation, tables_of, IsOldStation, old_tables_of, undated, raised, upgraded, station_name, station_columns, station_found, station_of, found_in_rows, damaged, other_version, one_row, version_number, row_of_version, TableName, IsLawfulTable, First, Second, Reading, read_as, IsStationOf}
+use Rattle.table_audits.proofs.Common.{Bool, Database, FileVersion, First, IsLawfulTable, IsOldStation, IsStation, IsStationOf, List, Reading, Second, Station, TableName, Tables, Trees, [], ap, arith, build_old, build_typed, counts_old, counts_typed, damaged, entries, expected_old, expected_typed, false, flight_old, flight_typed, found_in_rows, if◌then◌else◌, int_eq, ints, is_utf8, kept_key_old, kept_key_typed, kept_text_old, kept_text_typed, map, moves_old, moves_typed, old_tables_of, old_waybill_old, old_waybill_typed, one_row, other_version, outbox_old, outbox_typed, part_old, part_typed, pos, raised, read_as, refl, row_of_version, same_entries_map, station_columns, station_found, station_id, station_in, station_name, station_of, station_row, station_shown, stock_old, stock_typed, sym, tables_of, trail_old, trail_typed, true, typed_stations, undated, upgraded, version_number, waybill_typed, ℕ, ℤ, ◌&&◌, ◌∙◌, ◌∷◌, ◌≡◌}
 use Rattle.sqlite.specs.Order.{column}
 use Rattle.sqlite.specs.Table.{Table}
 use Rattle.sqlite_tied.specs.Compute.{everything}
 use Rattle.station_schema.specs.Schema.{schema_with, waybill2}
 use Rattle.table_load.specs.Raw.{found, rows_of}
-use Rattle.station_rows.specs.Shown.{station_shown}
-use Rattle.table_load.proofs.Declared.{old_waybill_typed, waybill_typed, stock_typed, flight_typed, moves_typed, expected_typed, part_typed, trail_typed, outbox_typed, kept_key_typed, kept_text_typed, counts_typed, build_typed, old_waybill_old, stock_old, flight_old, moves_old, expected_old, part_old, trail_old, outbox_old, kept_key_old, kept_text_old, counts_old, build_old}
 use Rattle.station_schema.specs.ColumnKeys.{AreListed}
-use Rattle.table_load.specs.declared.station.FileVersion.{FileVersion}
 use Rattle.table_audits.proofs.Judged.{same_mark, same_words, through}
 
 -- ---- lawful table by table, so lawful

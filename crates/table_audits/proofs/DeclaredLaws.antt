@@ -1,6 +1,5 @@
 -- A waybill is declared exactly where there is a row of it.
-use Rattle.std.proofs.Common.{◌≡◌, ℕ, pos, true, Option, Some, None, option_map, is_some, List, refl}
-use Rattle.table_audits.proofs.Common.{IsSome, get_by, Waybill, waybill_id, declared_by, declared_in, has_waybill}
+use Rattle.table_audits.proofs.Common.{IsSome, List, None, Option, Some, Waybill, declared_by, declared_in, get_by, has_waybill, is_some, option_map, pos, refl, true, waybill_id, ℕ, ◌≡◌}
 
 pub some_from : {X Y : Type 0} (f : X → Y) (o : Option X) → is_some o ≡ true → IsSome (option_map f o)
 some_from f (Some x) h = refl

@@ -1,8 +1,6 @@
 -- Flights that have departed, marked move by move.
 use Rattle.std.proofs.Common.{◌≡◌, ◌≢◌, ℕ, zero, suc, ℤ, pos, Bool, true, false, cond, ◌&&◌, ◌||◌, Some, unwrap_or, List, [], ◌∷◌, ◌++◌, map, length, slice_get, replicate, refl, sym, ap, ap₂, ◌∙◌, true≢false, arith, int_eq}
-use Rattle.table_audits.proofs.Common.{slice_set, list_any, same_place, same_flight_date, FlightDate, Move, Place, Hand, Built, Departed, departs_with, builds_on, StaysDeparted, same-is, same-refl, place_code, is_built, some_is, none_is, is_false, Posting, AreDistinct, IsSpot, IsPosting, departs_in, marks_of, is_marked, marked, and_no}
-use Rattle.table_audits.specs.declared.sums.Spot.{Spot}
-use Rattle.table_audits.specs.declared.sums.Spot.TheVariants.{Plain, OnFlight}
+use Rattle.table_audits.proofs.Common.{AreDistinct, Built, Departed, FlightDate, Hand, IsPosting, IsSpot, Move, OnFlight, Place, Plain, Posting, Spot, StaysDeparted, and_no, builds_on, departs_in, departs_with, is_built, is_false, is_marked, list_any, marked, marks_of, none_is, place_code, same-is, same-refl, same_flight_date, same_place, slice_set, some_is}
 use Rattle.table_audits.proofs.Lists.{or_no, or_yes, any_push, any_within, got_map}
 
 -- ---- one move more

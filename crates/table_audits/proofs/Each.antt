@@ -1,6 +1,5 @@
 -- What holds of each row of a table holds of what is found in it, and the other way round.
-use Rattle.std.proofs.Common.{◌≡◌, ℕ, ℤ, pos, negsuc, ◌≤◌, Bool, true, false, cond, ◌&&◌, Some, List, [], ◌∷◌, refl, ap, subst, ◌∙◌, int_cmp, int_eq, Less, arith}
-use Rattle.table_audits.proofs.Common.{find, int_le, AllByRecursion, list_all, and_parts, ints, IsAscending, get_by, all_weaker, all_both, all_from_test, test_from_all, IsLawfulAmount, natural, is_within}
+use Rattle.table_audits.proofs.Common.{AllByRecursion, Bool, IsAscending, IsLawfulAmount, Less, List, Some, [], all_both, all_from_test, all_weaker, and_parts, ap, arith, cond, false, find, get_by, int_cmp, int_eq, int_le, ints, is_within, list_all, natural, negsuc, pos, refl, subst, test_from_all, true, ℕ, ℤ, ◌&&◌, ◌∙◌, ◌∷◌, ◌≡◌, ◌≤◌}
 
 -- ---- tests of lists
 

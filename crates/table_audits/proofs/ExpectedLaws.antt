@@ -1,6 +1,5 @@
 -- The rows of `expected` are lawful exactly where the table is.
-use Rattle.std.proofs.Common.{◌≡◌, ℕ, pos, Bool, true, false, cond, ◌&&◌, Option, Some, None, option_map, refl, sym, ap, ap₂, subst, ◌∙◌}
-use Rattle.table_audits.proofs.Common.{int_le, IsSome, IfSome, list_all, entries, get, and_parts, and_from, cond-true, all_from_test, test_from_all, IsLawfulAmount, FlightDate, Tables, Expected, ExpectedKey, expected_cmp, expected_total, expected_same, natural, is_within, is_number, is_day, is_designator, is_flight_text, expected_key, expected_by, expected_in, is_expected_row, at_key, each_entry, AreExpected, cargo_in, has_waybill, is_lawful_expected}
+use Rattle.table_audits.proofs.Common.{AreExpected, Bool, Expected, ExpectedKey, FlightDate, IfSome, IsLawfulAmount, IsSome, None, Option, Some, Tables, all_from_test, and_from, and_parts, ap, ap₂, at_key, cargo_in, cond, cond-true, each_entry, entries, expected_by, expected_cmp, expected_in, expected_key, expected_same, expected_total, false, get, has_waybill, int_le, is_day, is_designator, is_expected_row, is_flight_text, is_lawful_expected, is_number, is_within, list_all, natural, option_map, pos, refl, subst, sym, test_from_all, true, ℕ, ◌&&◌, ◌∙◌, ◌≡◌}
 use Rattle.shipment_machine.specs.declared.moves.Expected as cargo
 use Rattle.table_audits.proofs.Each.{both_lists, natural_again, amount_of, amount_back}
 use Rattle.table_audits.proofs.FlightRows.{flight_at}

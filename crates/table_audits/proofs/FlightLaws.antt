@@ -1,6 +1,5 @@
 -- The rows of `flight` are lawful exactly where the table is.
-use Rattle.std.proofs.Common.{◌≡◌, ℕ, Bool, true, false, cond, not, Option, Some, None, option_map, List, refl, sym, ap, ap₂, subst, ◌∙◌}
-use Rattle.table_audits.proofs.Common.{IfSome, list_all, bytes_eq, entries, get, and_parts, and_from, cond-true, all_from_test, test_from_all, FlightDate, Outbound, Tables, Flight, FlightKey, flight_cmp, flight_total, flight_same, is_designator, flight_key, outbound_by, flights_in, is_flight_row, airport_in, at_key, each_entry, AreFlights, cargo_in, is_lawful_flight}
+use Rattle.table_audits.proofs.Common.{AreFlights, Bool, Flight, FlightDate, FlightKey, IfSome, List, None, Option, Outbound, Some, Tables, airport_in, all_from_test, and_from, and_parts, ap, ap₂, at_key, bytes_eq, cargo_in, cond, cond-true, each_entry, entries, false, flight_cmp, flight_key, flight_same, flight_total, flights_in, get, is_designator, is_flight_row, is_lawful_flight, list_all, not, option_map, outbound_by, refl, subst, sym, test_from_all, true, ℕ, ◌∙◌, ◌≡◌}
 use Rattle.table_audits.proofs.Each.{both_lists}
 use Rattle.table_audits.proofs.FlightRows.{flight_at}
 

@@ -1,7 +1,5 @@
 -- A flight's text in range is that of a designator, and its row stands under the key of a flight.
-use Rattle.std.proofs.Common.{true≢false, ◌≡◌, ℕ, suc, ◌^◌, ◌≤◌, ◌<◌, ℤ, pos, Bool, true, false, ◌&&◌, Option, Some, None, List, [], ◌∷◌, take, drop, length, refl, sym, subst, arith}
-use Rattle.table_audits.proofs.Common.{take_while, IsTrue, IfSome, nat_le, list_all, and_parts, leb-true, drop_while, Designator, is_carrier, suffix_of, flight_of, flight_text, FlightDate, natural, is_day, is_designator, is_written, is_flight_text, designator_test}
-use Rattle.awb_number.specs.Digits.{is_digit, is_letter, decimal_value}
+use Rattle.table_audits.proofs.Common.{Bool, Designator, FlightDate, IfSome, IsTrue, List, None, Option, Some, [], and_parts, arith, decimal_value, designator_test, drop, drop_while, false, flight_of, flight_text, is_carrier, is_day, is_designator, is_digit, is_flight_text, is_letter, is_written, leb-true, length, list_all, nat_le, natural, pos, refl, subst, suc, suffix_of, sym, take, take_while, true, true≢false, ℕ, ℤ, ◌&&◌, ◌<◌, ◌^◌, ◌∷◌, ◌≡◌, ◌≤◌}
 use Rattle.awb_number.proofs.Padded.{decimal_value_bound}
 use Rattle.station_days.specs.Steps.{◌>>=◌, where_true}
 use Rattle.imp_fields.specs.Amount.{count_of}

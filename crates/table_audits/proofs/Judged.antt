@@ -1,12 +1,10 @@
 -- The audit of one table after another, the row of `station`, and why a station's database is fit.
-use Rattle.std.proofs.Common.{◌≡◌, ◌∙◌, ◌≤◌, ◌-◌, ℕ, length, arith, Option, Some, None, ℤ, false, true, List, [], ◌∷◌, sym, subst, ap, ap₂, inl, inr, Result, Ok, Err}
-use Rattle.table_audits.proofs.Common.{IsErr, IsTrue, MatchOption, Held, state, Error, Tables, airport_in, confirmed_in, natural, Reading, station_read, read_as, no_station, damaged, other_version, one_row, new_row, Known, TableName, IsLawfulTable, HoldsStation, before, AreGood, IsStationOf, IsFirstBad, HasBefore, Knows, HasJudged, AreJudged, JudgesOn}
+use Rattle.table_audits.proofs.Common.{AreGood, AreJudged, Err, Error, HasBefore, HasJudged, Held, HoldsStation, IsErr, IsFirstBad, IsLawfulTable, IsStationOf, IsTrue, JudgesOn, Known, Knows, List, MatchOption, None, Ok, Option, Reading, Result, Some, TableName, Tables, [], airport_in, ap, ap₂, arith, before, confirmed_in, damaged, false, inl, inr, length, natural, new_row, no_station, one_row, opening, other_version, read_as, state, station_read, subst, sym, true, ℕ, ℤ, ◌-◌, ◌∙◌, ◌∷◌, ◌≡◌, ◌≤◌}
 use Rattle.sqlite.specs.State.{State, HasCleanDisk, IsUnchanged, Survives}
 use Rattle.sqlite_trees.specs.declared.store.Store.{Ghosts}
 use Rattle.sqlite.proofs.Callers.{unchanged_then}
 use Rattle.sqlite.proofs.StreamLemmas.{rolled_back_since}
 use Rattle.station_schema.specs.Effects.{Reads, Stops}
-use Rattle.station_schema.specs.Connection.{opening}
 use Rattle.table_audits.specs.declared.name.TableName.TheVariants as table
 use Rattle.table_audits.specs.declared.unfit.Unfit.{Unfit}
 use Rattle.table_audits.specs.declared.unfit.Unfit.TheVariants as unfit

@@ -1,8 +1,6 @@
 -- Rows of `kept_key` that are taken one by one.
-use Rattle.std.proofs.Common.{◌≡◌, ◌↔◌, ℕ, Bool, true, false, List, [], ◌∷◌, ◌++◌, map, sym, subst, ◌∙◌, true≢false}
-use Rattle.table_audits.proofs.Common.{IsTrue, AllByRecursion, entries, map-append, all_weaker, all_both, all_from_test, test_from_all, Kept, kept_cmp, Tables, kept_total, kept_same, kept_key_entry, AreRequests, is_kept_row, at_key, each_entry, AreKeptKeys, IsLawfulKept}
+use Rattle.table_audits.proofs.Common.{AllByRecursion, AreKeptKeys, AreRequests, Bool, IsLawfulKept, IsTrue, Kept, KeptKeyEntry, List, Tables, [], all_both, all_from_test, all_weaker, at_key, each_entry, entries, false, is_kept_row, kept_cmp, kept_key_entry, kept_same, kept_total, map, map-append, subst, sym, test_from_all, true, true≢false, ℕ, ◌++◌, ◌↔◌, ◌∙◌, ◌∷◌, ◌≡◌}
 use Rattle.station_core.specs.Told.{IsRequest}
-use Rattle.table_load.specs.declared.kept_key.KeptKeyEntry.{KeptKeyEntry}
 use Rattle.table_audits.proofs.Lists.{all_push, all_pop}
 
 abbrev pub Asks : List ℕ × Kept → Type 0

@@ -1,6 +1,5 @@
 -- The texts of parts are kept exactly where the table says so.
-use Rattle.std.proofs.Common.{◌≡◌, ℕ, Bool, true, false, cond, Option, Some, None, List, refl, ap, ap₂, subst, ◌∙◌}
-use Rattle.table_audits.proofs.Common.{IsSome, IfSome, list_all, entries, get, and_parts, cond-true, all_from_test, test_from_all, Tables, PartKey, part_cmp, part_total, part_same, natural, is_designator, part_key, parts_in, is_part_row, is_kept_text_row, meaning_of, at_key, each_entry, AreParts, AreKeptTexts, has_text}
+use Rattle.table_audits.proofs.Common.{AreKeptTexts, AreParts, Bool, IfSome, IsSome, List, None, Option, PartKey, Some, Tables, all_from_test, and_parts, ap, ap₂, at_key, cond, cond-true, each_entry, entries, false, get, has_text, is_designator, is_kept_text_row, is_part_row, list_all, meaning_of, natural, part_cmp, part_key, part_same, part_total, parts_in, refl, subst, test_from_all, true, ℕ, ◌∙◌, ◌≡◌}
 use Rattle.shipment_machine.specs.declared.moves.Part.{Part}
 use Rattle.table_audits.proofs.Each.{natural_again}
 use Rattle.table_audits.proofs.FlightRows.{flight_at}

@@ -1,5 +1,5 @@
 -- Tables that are lawful one by one are those that mean a lawful state.
-use Rattle.table_audits.proofs.Common.{◌↔◌, Tables, meaning_of, IsReadable, TableName, IsLawfulTable}
+use Rattle.table_audits.proofs.Common.{IsLawfulTable, IsReadable, TableName, Tables, meaning_of, ◌↔◌}
 use Rattle.station_core.specs.Step.{IsLawfulState}
 use Rattle.table_audits.specs.declared.name.TableName.TheVariants as table
 

@@ -1,8 +1,6 @@
 -- The flights that rows of `flight` name.
-use Rattle.std.proofs.Common.{◌≡◌, ℕ, true, Option, Some, None, option_map, List, [], ◌∷◌, map, slice_get, refl, sym, ap, ap₂, subst, ◌∙◌, Less}
-use Rattle.table_audits.proofs.Common.{IsSome, AllByRecursion, list_all, FinMap, entries, get, and_parts, cond-true, IsAscending, ascending-map, ascending_from_map, entries_rise, FlightDate, Outbound, Flight, FlightKey, flight_cmp, flight_total, is_designator, flight_key, flight_date_of, flights_in, outbound_by, is_flight_row, each_entry, AreFlightsOf, nowhere, flight_in, flights_of}
+use Rattle.table_audits.proofs.Common.{AllByRecursion, AreFlightsOf, FinMap, Flight, FlightDate, FlightKey, IsAscending, IsSome, Less, List, None, Option, Outbound, Some, [], and_parts, ap, ap₂, ascending-map, ascending_from_map, columns_again, cond-true, each_entry, entries, entries_rise, flight_cmp, flight_date_of, flight_in, flight_key, flight_total, flights_in, flights_of, get, is_designator, is_flight_row, list_all, map, nowhere, option_map, outbound_by, refl, slice_get, subst, sym, true, ℕ, ◌∙◌, ◌∷◌, ◌≡◌}
 use Rattle.std.specs.Option.{unwrap_or}
-use Rattle.row_codec.proofs.MoveRows.{columns_again}
 use Rattle.table_audits.proofs.FlightRows.{flight_at}
 use Rattle.table_audits.proofs.Lists.{all_got, got_of}
 

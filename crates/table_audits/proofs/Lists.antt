@@ -1,6 +1,5 @@
 -- Lists, index by index and one element more.
-use Rattle.std.proofs.Common.{◌≡◌, ℕ, zero, suc, ◌<◌, Bool, true, false, ◌||◌, Some, List, [], ◌∷◌, ◌++◌, map, length, get_or, slice_get, refl, sym, ap, subst, ◌∙◌, true≢false, arith}
-use Rattle.table_audits.proofs.Common.{AllByRecursion, list_any, list_any-append, some_is, none_is}
+use Rattle.table_audits.proofs.Common.{AllByRecursion, Bool, List, Some, [], ap, arith, false, get_or, length, list_any, list_any-append, map, none_is, refl, slice_get, some_is, subst, suc, sym, true, true≢false, zero, ℕ, ◌++◌, ◌<◌, ◌||◌, ◌∙◌, ◌∷◌, ◌≡◌}
 
 pub or_no : (b : Bool) → (b || false) ≡ b
 or_no true = refl

@@ -1,8 +1,6 @@
 -- The rows of `build` that the sums make, in the order of their keys.
-use Rattle.std.proofs.Common.{◌≡◌, ℕ, zero, suc, ◌<◌, arith, ℤ, pos, negsuc, Bool, ◌↔◌, T, IsTrue, List, [], ◌∷◌, map, Option, Some, None, option_map, refl, sym, ap, subst, ◌∙◌, true≢false, nat_cmp, int_cmp, is_lt, slice_get, Ordering, Less, Equal, Greater}
-use Rattle.table_audits.proofs.Common.{AllByRecursion, ordering_then, IsTotalOrder, ranked, on_total, then_total, tied_itself, nat_cmp_total, int_cmp_total, is_sorted, entries, get-entries, nat_cmp-IsAntisymmetric, int_cmp-IsAntisymmetric, below_all, keys_of, IsAscending, map-map, bytes_cmp, flight_text, FlightDate, Move, pair_total, pair_same, texts_total, texts_same, Tables, Build, BuildKey, build_cmp, Flight, FlightKey, flight_cmp, running, AreBuilds, flight_key, none_is, some_is, builds_total, Tally, BuildPlace, BookSums, build_row, build_due, build_entry, build_place_cmp, AreDistinct, AreSums, AreFlightsOf}
+use Rattle.table_audits.proofs.Common.{AllByRecursion, AreBuilds, AreDistinct, AreFlightsOf, AreSums, BookSums, Bool, Build, BuildKey, BuildPlace, Equal, Flight, FlightDate, FlightKey, Greater, IsAscending, IsTotalOrder, IsTrue, Less, List, Move, None, Option, Ordering, Some, T, Tables, Tally, [], ap, arith, below_all, build_cmp, build_due, build_entry, build_place_cmp, build_row, builds_total, bytes_cmp, entries, flight_cmp, flight_key, flight_text, get-entries, int_cmp, int_cmp-IsAntisymmetric, int_cmp_total, is_lt, is_sorted, keys_of, map, map-map, nat_cmp, nat_cmp-IsAntisymmetric, nat_cmp_total, negsuc, none_is, on_total, option_map, ordering_then, pair_cmp, pair_same, pair_total, pos, ranked, refl, running, slice_get, some_is, subst, suc, sym, texts_same, texts_total, then_total, tied_itself, true≢false, zero, ℕ, ℤ, ◌<◌, ◌↔◌, ◌∙◌, ◌∷◌, ◌≡◌}
 use Rattle.std.specs.List.Sorted.{IsStrictlySortedBy}
-use Rattle.sqlite_keyed.proofs.SortLemmas.{pair_cmp}
 use Rattle.table_audits.proofs.Sorted.{both, each_looked_up, entries_are}
 use Rattle.table_audits.proofs.Mapped.{entry, entry_is, told_builds}
 

@@ -1,8 +1,6 @@
 -- Rows of `build` that are compared with the sums one by one.
-use Rattle.std.proofs.Common.{◌≡◌, ◌≢◌, ◌⊎◌, inl, inr, ℕ, zero, suc, ℤ, pos, negsuc, ◌==◌, Bool, true, false, cond, ◌&&◌, List, [], ◌∷◌, map, Option, Some, None, option_map, refl, sym, ap, ◌∙◌, true≢false, int_eq, slice_get}
-use Rattle.table_audits.proofs.Common.{eq-eqb, and_from, AllByRecursion, eq_by_cmp, is_at, lookup, bytes_cmp, Designator, flight_text, same_flight_date, FlightDate, Move, same-is, same-refl, first_true, second_true, Build, BuildKey, build_cmp, Flight, FlightKey, running, build_row, written_flight, is_designator, flight_key, same_bool, is_false, some_is, none_is, is_int, int_itself, is_nat, Tally, BuildPlace, BookSums, build_due, build_entry, build_place_cmp, AreDistinct, AreSums, AreFlightsOf, build_in, build_here}
+use Rattle.table_audits.proofs.Common.{AllByRecursion, AreDistinct, AreFlightsOf, AreSums, BookSums, Bool, Build, BuildKey, BuildPlace, Designator, Flight, FlightDate, FlightKey, List, Move, None, Option, Some, Tally, [], and_from, ap, build_cmp, build_due, build_entry, build_eq, build_here, build_in, build_place_cmp, build_row, bytes_cmp, cond, eq-eqb, eq_by_cmp, false, first_true, flight_key, flight_text, inl, inr, int_eq, int_itself, is_at, is_designator, is_false, is_int, is_nat, is_text, lookup, map, negsuc, none_is, option_map, pos, refl, running, same-is, same-refl, same_bool, same_flight_date, second_true, slice_get, some_is, suc, sym, text_itself, true, true≢false, written_again, written_flight, written_so, zero, ℕ, ℤ, ◌&&◌, ◌==◌, ◌∙◌, ◌∷◌, ◌≡◌, ◌≢◌, ◌⊎◌}
 use Rattle.std.specs.FinMap.{find}
-use Rattle.row_codec.proofs.TotalsWritten.{written_again, written_so, is_text, text_itself, build_eq}
 use Rattle.table_audits.proofs.Posted.{key_eq}
 
 -- ---- lists

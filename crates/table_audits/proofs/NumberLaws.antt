@@ -1,6 +1,5 @@
 -- Rows that are numbered from 1, one row more.
-use Rattle.std.proofs.Common.{◌≡◌, ℕ, suc, ◌+◌, ℤ, pos, List, [], ◌∷◌, ◌++◌, map, length, refl, ap, ap₂, ◌∙◌, arith}
-use Rattle.table_audits.proofs.Common.{range_with_len, AreNumbered}
+use Rattle.table_audits.proofs.Common.{AreNumbered, List, [], ap, ap₂, arith, length, map, pos, range_with_len, refl, suc, ℕ, ℤ, ◌++◌, ◌+◌, ◌∙◌, ◌∷◌, ◌≡◌}
 
 head_is : (x y : ℤ) (xs ys : List ℤ) → ◌≡◌ {A = List ℤ} (x ∷ xs) (y ∷ ys) → x ≡ y
 head_is x y xs ys e = cc

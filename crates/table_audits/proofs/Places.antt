@@ -1,6 +1,6 @@
 -- A place of a row names the row's flight where it is built.
 use Rattle.std.proofs.Common.{◌≡◌, ℤ, pos, Bool, true, false, cond, is_some, Option, Some, None, option_map, unwrap_or, refl, sym, ap, ◌∙◌, true≢false, int_eq}
-use Rattle.table_audits.proofs.Common.{FlightDate, Place, Hand, Built, NamesFlight, place_code, plain_place, place_of, none_is}
+use Rattle.table_audits.proofs.Common.{Built, FlightDate, Hand, NamesFlight, Place, none_is, place_code, place_of, plain_place}
 use Rattle.row_codec.proofs.Codes.{plain_code}
 
 built_names : (flight : Option FlightDate) (p : Place) → option_map Built flight ≡ Some p → NamesFlight p flight

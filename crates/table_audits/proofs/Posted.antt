@@ -1,11 +1,8 @@
 -- What an amount that is posted makes of the sums.
-use Rattle.std.proofs.Common.{◌≡◌, ◌≢◌, ℕ, ℤ, pos, negsuc, ◌==◌, Bool, true, false, cond, ◌&&◌, List, [], ◌∷◌, ◌++◌, Option, Some, None, option_map, refl, sym, ap, ap₂, subst, ◌∙◌, arith, int_eq, int_cmp, nat_cmp, slice_get}
-use Rattle.table_audits.proofs.Common.{nat_tests, eq_by_cmp, eq_by_cmp_equiv, same_place, same_flight_date, FlightDate, Move, Place, Built, same-is, same-refl, pair_eq, int_tied, first_true, second_true, Count, CountKey, count_cmp, Build, Tally, running, unless_nothing, running_in, running_on, count_row, build_row, place_code, plain_place, Sums, plus, posting, come, gone, negated, is_built, count_in, count_here, same_bool, is_false, and_no, some_is, none_is, int_pos, is_nat, counts_total, CountPlace, BuildPlace, BookSums, Posting, come_to, count_place_cmp, build_place_cmp, count_told, build_told, build_due, AreDistinct, AreSums, IsPosting}
+use Rattle.table_audits.proofs.Common.{AreDistinct, AreSums, BookSums, Bool, Build, BuildPlace, Built, Count, CountKey, CountPlace, FlightDate, IsPosting, List, Move, None, Option, Place, Posting, Some, Sums, Tally, [], and_no, ap, ap₂, arith, build_due, build_place_cmp, build_row, build_told, come, come_to, comes_to_sum, cond, count_cmp, count_here, count_in, count_place_cmp, count_row, count_told, counts_total, eq_by_cmp, eq_by_cmp_equiv, false, first_true, gone, int_cmp, int_eq, int_pos, int_tied, is_built, is_false, is_nat, nat_cmp, nat_tests, negated, negsuc, none_is, off, option_map, pair_eq, place_code, plain_place, plus, pos, posting, refl, running, running_in, running_on, same-is, same-refl, same_bool, same_flight_date, same_place, second_true, slice_get, some_is, subst, sym, true, unless_nothing, ℕ, ℤ, ◌&&◌, ◌++◌, ◌==◌, ◌∙◌, ◌∷◌, ◌≡◌, ◌≢◌}
 use Rattle.std.specs.BTreeMap.{get}
-use Rattle.row_codec.proofs.Storing.{comes_to_sum}
 use Rattle.row_codec.proofs.Codes as codes
 use Rattle.row_codec.proofs.Moved.{sums_then}
-use Rattle.row_codec.proofs.TotalsWritten.{off}
 
 -- ---- no moves
 

@@ -1,13 +1,9 @@
 -- A row of `moves` as it is posted.
-use Rattle.std.proofs.Common.{◌≡◌, ◌==◌, ℕ, ◌<◌, ◌≤◌, ℤ, pos, negsuc, Bool, true, false, cond, ◌&&◌, ◌||◌, Option, Some, None, option_map, List, [], ◌∷◌, map, length, get_or, slice_get, refl, sym, ap, ap₂, subst, ◌∙◌, true≢false, arith, int_eq, Equal}
-use Rattle.table_audits.proofs.Common.{IsSome, entries, get, and_parts, and_from, nat_tests, ints, FlightEntry, flight_entry, FlightDate, Move, Outbound, Place, Built, is_pair, IsNoted, NamesFlight, IsLawfulMove, Flight, FlightKey, Waybill, flight_cmp, flight_same, natural, is_within, is_day, is_flight_text, is_designator, flight_key, flight_date_of, outbound_by, place_code, move_by, is_move_row, are_flight_columns, cargo_in, has_waybill, is_built, some_is, none_is, IsPosting, flight_in, is_fit_move, AreBeside, listed_in, posting_in, IsSpotOf, IsGoodRow, IsPosted}
+use Rattle.table_audits.proofs.Common.{AreBeside, Bool, Built, Equal, Flight, FlightDate, FlightEntry, FlightKey, IsGoodRow, IsLawfulMove, IsNoted, IsPosted, IsPosting, IsSome, IsSpotOf, List, Move, NamesFlight, None, OnFlight, Option, Outbound, Place, Plain, Some, Spot, Waybill, [], and_from, and_parts, ap, ap₂, are_flight_columns, arith, cargo_in, columns_again, columns_of, cond, entries, false, flight_cmp, flight_date_of, flight_entry, flight_in, flight_key, flight_same, get, get_or, has_waybill, int_eq, ints, is_built, is_day, is_designator, is_fit_move, is_flight_text, is_move_row, is_pair, is_within, length, listed_in, map, move_by, nat_tests, natural, negsuc, none_is, option_map, outbound_by, place_code, pos, posting_in, refl, slice_get, some_is, subst, sym, true, true≢false, ℕ, ℤ, ◌&&◌, ◌<◌, ◌==◌, ◌||◌, ◌∙◌, ◌∷◌, ◌≡◌, ◌≤◌}
 use Rattle.shipment_machine.specs.Cargo.{Cargo}
 use Rattle.station_schema.specs.Tables as table
-use Rattle.row_codec.proofs.MoveRows.{columns_again, columns_of}
 use Rattle.table_audits.proofs.DeclaredLaws.{declared_from, declared_back}
 use Rattle.table_audits.proofs.FlightRows.{flight_at}
-use Rattle.table_audits.specs.declared.sums.Spot.{Spot}
-use Rattle.table_audits.specs.declared.sums.Spot.TheVariants.{Plain, OnFlight}
 use Rattle.table_audits.proofs.Lists.{element, got_map}
 use Rattle.table_audits.proofs.Listed.{IsNamed, row_named, noted_row}
 use Rattle.table_audits.proofs.Places.{read_names}

@@ -1,6 +1,5 @@
 -- A row that was read is lawful exactly where its value is.
-use Rattle.std.proofs.Common.{◌≡◌, ℕ, ℤ, pos, negsuc, Bool, true, false, ◌&&◌, Option, Some, None, option_map, List, sym, ap, ◌∙◌, refl, arith}
-use Rattle.table_audits.proofs.Common.{int_le, nat_le, ints, FlightDate, Expected, ExpectedKey, Flight, FlightKey, natural, is_within, flight_date_of, noted_by, outbound_by, expectation_by, expected_by, is_expected_row}
+use Rattle.table_audits.proofs.Common.{Bool, Expected, ExpectedKey, Flight, FlightDate, FlightKey, List, None, Option, Some, ap, arith, expectation_by, expected_by, false, flight_date_of, int_le, ints, is_expected_row, is_within, nat_le, natural, negsuc, noted_by, option_map, outbound_by, pos, refl, sym, true, ℕ, ℤ, ◌&&◌, ◌∙◌, ◌≡◌}
 use Rattle.shipment_machine.specs.declared.moves.Expected as cargo
 use Rattle.station_core.specs.declared.rows.Expectation.{Expectation}
 use Rattle.station_core.specs.declared.rows.NotedFlight.{NotedFlight}

@@ -1,6 +1,5 @@
 -- The rows of `moves` are lawful exactly where each is good.
-use Rattle.std.proofs.Common.{◌≡◌, true}
-use Rattle.table_audits.proofs.Common.{AllByRecursion, all_from_test, test_from_all, all_map, all_unmap, all_both, all_weaker, IsLawfulMove, move_id, AreNumbered, move_by, is_move_row, cargo_in, AreMoveRows, IsGoodRow}
+use Rattle.table_audits.proofs.Common.{AllByRecursion, AreMoveRows, AreNumbered, IsGoodRow, IsLawfulMove, all_both, all_from_test, all_map, all_unmap, all_weaker, cargo_in, is_move_row, move_by, move_id, test_from_all, true, ◌≡◌}
 use Rattle.station_schema.specs.Tables as table
 
 module _ (t : table.Tables) where

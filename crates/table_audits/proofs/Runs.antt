@@ -1,6 +1,5 @@
 -- Sums of one flight stand next to one another, so that they are counted in one pass.
-use Rattle.std.proofs.Common.{◌≡◌, ◌≢◌, ℕ, ◌+◌, ◌<◌, ◌≤◌, ◌==◌, arith, Bool, true, false, cond, ◌&&◌, ◌↔◌, IsTrue, List, [], ◌∷◌, length, refl, sym, ap, subst, ◌∙◌, true≢false, nat_cmp, int_cmp, Ordering, Less, Equal, Greater}
-use Rattle.table_audits.proofs.Common.{nat_le, ordering_then, AllByRecursion, ranked, nat_cmp-IsAntisymmetric, keys_of, and_parts, and_from, leb-true, le-leb, nat_tests, IsAscending, all_weaker, Tally, BuildPlace, build_place_cmp, on_flight}
+use Rattle.table_audits.proofs.Common.{AllByRecursion, Bool, BuildPlace, Equal, Greater, IsAscending, IsTrue, Less, List, Ordering, Tally, [], all_weaker, and_from, and_parts, ap, arith, build_place_cmp, cond, false, int_cmp, keys_of, le-leb, leb-true, length, nat_cmp, nat_cmp-IsAntisymmetric, nat_le, nat_tests, on_flight, ordering_then, ranked, refl, subst, sym, true, true≢false, ℕ, ◌&&◌, ◌+◌, ◌<◌, ◌==◌, ◌↔◌, ◌∙◌, ◌∷◌, ◌≡◌, ◌≢◌, ◌≤◌}
 use Rattle.std.specs.List.Sorted.{IsStrictlySortedBy}
 
 -- the length of a run of sums of one flight, one sum on

@@ -1,11 +1,7 @@
 -- What a binary search finds among rows in the order of their keys, each key once.
-use Rattle.std.proofs.Common.{◌≡◌, ℕ, zero, suc, ◌<◌, ◌≤◌, ℤ, Bool, true, false, cond, ◌||◌, List, [], ◌∷◌, map, length, slice_index_or, is_some, Option, Some, None, Result, Ok, Err, refl, sym, ap, ap₂, ◌∙◌, subst, int_cmp, int_eq, is_eq, Ordering, Less, Equal, arith}
-use Rattle.table_audits.proofs.Common.{find, list_any, AllByRecursion, IsBinarySearchResult, IsSearchInRange, IsTotalOrder, on_total, int_cmp_total, eq_by_cmp, cases_Bool, nat_tests, FinMap, IsAntisymmetric, entries, get, contains_key, get-entries, eq_by_cmp_equiv, entries_rise, each_entry, IsAscending, has_key, int_tied, waybill_id, WaybillRow, waybill_meant, RisesByNumber}
+use Rattle.table_audits.proofs.Common.{AllByRecursion, Bool, Equal, Err, FinMap, IsAntisymmetric, IsAscending, IsBinarySearchResult, IsSearchInRange, IsTotalOrder, Less, List, None, Ok, Option, Ordering, Result, RisesByNumber, Some, WaybillRow, [], ap, ap₂, arith, ascending_sorted, cases_Bool, cond, contains_key, each_entry, entries, entries_rise, eq_by_cmp, eq_by_cmp_equiv, false, find, get, get-entries, has_key, inl, inr, int_cmp, int_cmp_total, int_eq, int_tied, is_eq, is_some, length, list_any, map, nat_lt, nat_tests, on_total, refl, searchable_from_sorted, slice_index_or, subst, suc, sym, true, waybill_id, waybill_meant, zero, ℕ, ℤ, ◌<◌, ◌||◌, ◌∙◌, ◌∷◌, ◌≡◌, ◌≤◌}
 use Rattle.std.specs.Result.{is_ok}
-use Rattle.std.proofs.lemmas.List.Sorted.{searchable_from_sorted}
-use Rattle.std.proofs.Common.{nat_lt, inl, inr}
 use Rattle.std.specs.FinMap.{find as find_entry}
-use Rattle.table_load.proofs.TableLemmas.{ascending_sorted}
 use Rattle.table_audits.proofs.Lists.{all_at, or_yes}
 
 -- ---- lists

@@ -1,9 +1,7 @@
 -- Entries in the order of their keys: those of a map, and those of another that is made of them.
-use Rattle.std.proofs.Common.{◌≡◌, Bool, true, false, cond, ◌&&◌, T, List, [], ◌∷◌, Some, refl, sym, ap, subst, ◌∙◌, is_eq, is_lt, Ordering, Less}
-use Rattle.table_audits.proofs.Common.{AllByRecursion, IsTotalOrder, FinMap, is_sorted, entries, get, from_sorted, get-from_sorted, entries-from_sorted, same_map, IsAntisymmetric, below_all, is_at, lookup, keys_of}
+use Rattle.table_audits.proofs.Common.{AllByRecursion, Bool, FinMap, IsAntisymmetric, IsTotalOrder, Less, List, Ordering, Some, T, [], ap, below_all, cond, each_entry, entries, entries-from_sorted, false, from_sorted, get, get-from_sorted, is_at, is_eq, is_lt, is_sorted, keys_of, lookup, refl, same_map, subst, sym, true, ◌&&◌, ◌∙◌, ◌∷◌, ◌≡◌}
 use Rattle.std.specs.List.Sorted.{IsStrictlySortedBy}
 use Rattle.std.specs.FinMap.{find}
-use Rattle.row_codec.proofs.MapLaws.{each_entry}
 
 pub both : (a b : Bool) → T a → T b → T (a && b)
 both true b p q = q

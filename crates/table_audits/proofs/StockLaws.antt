@@ -1,8 +1,5 @@
 -- The rows of `stock` are lawful exactly where the table is.
-use Rattle.std.proofs.Common.{◌≡◌, ℕ, pos, Bool, true, false, cond, ◌==◌, Option, Some, None, is_some, List, [], ◌∷◌, length, refl, sym, ap, subst, ◌∙◌, int_eq, true≢false, arith}
-use Rattle.table_audits.proofs.Common.{find, IsSome, AllByRecursion, entries, ints, all_weaker, all_both, all_from_test, test_from_all, Tables, Stock, StockKey, holder_by, stands_for, holders_in, is_stock_row, are_apart, AreStocks, cargo_in, has_waybill, IsLawfulStock}
-use Rattle.std.specs.Option.{option_and_then}
-use Rattle.agent_stock.specs.Code.{is_agent_code}
+use Rattle.table_audits.proofs.Common.{AllByRecursion, AreStocks, Bool, IsLawfulStock, IsSome, List, None, Option, Some, Stock, StockKey, Tables, [], all_both, all_from_test, all_weaker, ap, are_apart, arith, cargo_in, cond, entries, false, find, has_waybill, holder_by, holders_in, int_eq, ints, is_agent_code, is_some, is_stock_row, length, option_and_then, pos, refl, stands_for, subst, sym, test_from_all, true, true≢false, ℕ, ◌==◌, ◌∙◌, ◌∷◌, ◌≡◌}
 use Rattle.agent_stock.specs.declared.stock.Holder.{Holder}
 use Rattle.agent_stock.specs.declared.stock.Holder.TheVariants as holder
 use Rattle.table_audits.proofs.Each.{found_test}

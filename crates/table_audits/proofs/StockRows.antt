@@ -1,6 +1,5 @@
 -- The numbers of a row of `stock`, and rows that are apart.
-use Rattle.std.proofs.Common.{◌≡◌, ℕ, zero, suc, ◌+◌, ◌*◌, ◌/◌, ◌%◌, ◌≤◌, ◌<◌, ℤ, pos, negsuc, Bool, true, false, cond, ◌&&◌, ◌||◌, Some, is_some, List, [], ◌∷◌, map, length, slice_index_or, refl, sym, ap, subst, ◌∙◌, int_eq, true≢false, arith}
-use Rattle.table_audits.proofs.Common.{find, int_le, int_lt, IsTrue, ◌↔◌, MatchBool, AllByRecursion, AllWithin, HoldsAt, AllAdjacentBelow, IsAllAdjacentAnswer, list_all, and_parts, and_from, Decides-int_eq, ints, all_weaker, all_both, Stock, StockKey, is_within, holder_by, stands_for, is_stock_row, is_behind, are_apart, number_at}
+use Rattle.table_audits.proofs.Common.{AllAdjacentBelow, AllByRecursion, AllWithin, Bool, Decides-int_eq, HoldsAt, IsAllAdjacentAnswer, IsTrue, List, MatchBool, Some, Stock, StockKey, [], all_both, all_weaker, and_from, and_parts, ap, are_apart, arith, cond, false, find, holder_by, int_eq, int_le, int_lt, ints, is_behind, is_some, is_stock_row, is_within, length, list_all, map, negsuc, number_at, pos, refl, slice_index_or, stands_for, subst, suc, sym, true, true≢false, zero, ℕ, ℤ, ◌%◌, ◌&&◌, ◌*◌, ◌+◌, ◌/◌, ◌<◌, ◌||◌, ◌↔◌, ◌∙◌, ◌∷◌, ◌≡◌, ◌≤◌}
 use Rattle.awb_number.specs.Number.{prefix_of, serial_of}
 
 -- ---- the numbers of a row

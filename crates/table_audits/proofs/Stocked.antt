@@ -1,9 +1,6 @@
 -- What a sum at a place says of the place.
-use Rattle.std.proofs.Common.{◌≡◌, ◌≢◌, ℕ, zero, suc, ◌+◌, ◌-◌, ◌<◌, ◌≤◌, ◌==◌, arith, ℤ, pos, negsuc, ◌-ℤ◌, neg_ℤ, Bool, true, false, cond, ◌&&◌, nat_lt, List, Option, Some, None, option_map, refl, sym, ap, ap₂, ◌∙◌, true≢false, int_eq}
-use Rattle.table_audits.proofs.Common.{int_le, nat_le, and_parts, and_from, nat_tests, ints, FlightDate, Move, Place, Hand, Built, pieces_of, tenths_of, same_place, moved_in, moved_out, built, drawn, IsStocked, IsCovered, Tally, running, is_nothing, unless_nothing, natural, some_is, is_int, BookSums, is_covered, is_left, drawn_by, drawn_at}
-use Rattle.shipment_machine.specs.Amount.{amount}
+use Rattle.table_audits.proofs.Common.{BookSums, Bool, Built, FlightDate, Hand, IsCovered, IsStocked, List, Move, None, Option, Place, Some, Tally, amount, and_from, and_parts, ap, ap₂, arith, built, cond, drawn, drawn_at, drawn_by, false, int_eq, int_le, ints, is_covered, is_int, is_left, is_nothing, moved_in, moved_out, nat_le, nat_lt, nat_tests, natural, neg_ℤ, negsuc, option_map, pieces_of, pos, refl, rows_again, running, same_place, some_is, suc, sym, tenths_of, true, true≢false, unless_nothing, zero, ℕ, ℤ, ◌&&◌, ◌+◌, ◌-ℤ◌, ◌-◌, ◌<◌, ◌==◌, ◌∙◌, ◌≡◌, ◌≢◌, ◌≤◌}
 use Rattle.table_audits.specs.Balances.{is_within}
-use Rattle.row_codec.proofs.Storing.{rows_again}
 
 -- ---- rows and what they mean
 

@@ -1,14 +1,9 @@
 -- Each table of a database: its rows occur once, and they can be put into tables that are good before it.
-use Rattle.std.proofs.Common.{◌≡◌, ◌∙◌, ℕ, ℤ, Bool, true, false, List, [], ◌∷◌, map, refl, sym, ap, subst, Less, Ordering}
-use Rattle.table_audits.proofs.Common.{IsTotalOrder, on_total, eq_by_cmp, ◌↔◌, IsTrue, FinMap, entries, from_entries, AllByRecursion, list_all, list_all-map, IsPermutation, IsAscending, Database, all_weaker, ascending-map, ascending_weaker, entries_of, entries_rise, Place, IsNoted, IsLawfulMove, Tables, OldWaybill, old_waybill_id, undated, Waybill, waybill_id, Stock, StockKey, stock_cmp, stock_row, Flight, FlightKey, flight_cmp, flight_row, move_id, Expected, ExpectedKey, expected_cmp, expected_row, PartKey, part_cmp, part_row, TrailLine, trail_id, Message, message_id, Kept, kept_cmp, kept_row, kept_text_cmp, kept_text_row, Count, CountKey, count_cmp, Build, BuildKey, build_cmp, stock_total, flight_total, expected_total, part_total, kept_total, kept_text_total, count_total, build_total, by_key, by_number, old_waybill_name, old_waybill_columns, old_waybill_shown, old_waybill_back, HasOldWaybillTexts, HoldsOldWaybill, waybill_name, waybill_columns, HasWaybillTexts, HoldsStock, stock_name, stock_columns, HasStockTexts, HoldsFlight, flight_name, flight_columns, HasFlightTexts, flight_back, HoldsMoves, moves_name, moves_columns, HasMovesTexts, HoldsExpected, expected_name, expected_columns, HasExpectedTexts, expected_back, HoldsPart, part_name, part_columns, HasPartTexts, part_back, HoldsTrail, trail_name, trail_columns, HasTrailTexts, HoldsOutbox, outbox_name, outbox_columns, HasOutboxTexts, HoldsKeptKey, kept_key_name, kept_key_columns, HasKeptKeyTexts, kept_key_back, HoldsKeptText, kept_text_name, kept_text_columns, HasKeptTextTexts, kept_text_back, HoldsCounts, counts_name, counts_columns, HasCountsTexts, HoldsBuild, build_name, build_columns, HasBuildTexts, First, Second, Reading, HoldsOldWaybills, HoldsWaybills, TableName, cargo_in, IsLawfulTable, RisesByNumber, before, AreGood, IsGood, IsHeld, IsFirstBad, HasBefore, IsJudged}
-use Rattle.sqlite_keyed.proofs.SortLemmas.{sorted_unique}
+use Rattle.table_audits.proofs.Common.{AllByRecursion, AreGood, Bool, Build, BuildKey, Count, CountKey, Database, Expected, ExpectedKey, FileVersion, FinMap, First, Flight, FlightKey, HasBefore, HasBuildTexts, HasCountsTexts, HasExpectedTexts, HasFlightTexts, HasKeptKeyTexts, HasKeptTextTexts, HasMovesTexts, HasOldWaybillTexts, HasOutboxTexts, HasPartTexts, HasStockTexts, HasTrailTexts, HasWaybillTexts, HoldsBuild, HoldsCounts, HoldsExpected, HoldsFlight, HoldsKeptKey, HoldsKeptText, HoldsMoves, HoldsOldWaybill, HoldsOldWaybills, HoldsOutbox, HoldsPart, HoldsStock, HoldsTrail, HoldsWaybills, IsAscending, IsFirstBad, IsGood, IsHeld, IsJudged, IsLawfulMove, IsLawfulTable, IsNoted, IsPermutation, IsTotalOrder, IsTrue, Kept, Less, List, Message, OldWaybill, Ordering, PartKey, Place, Reading, RisesByNumber, Second, Stock, StockKey, TableName, Tables, TrailLine, Waybill, [], all_weaker, ap, ascending-map, ascending_sorted, ascending_weaker, before, build_cmp, build_columns, build_name, build_read, build_total, by_key, by_number, cargo_in, count_cmp, count_read, count_total, counts_columns, counts_name, entries, entries_of, entries_rise, eq_by_cmp, expected_back, expected_cmp, expected_columns, expected_name, expected_row, expected_total, false, flight_back, flight_cmp, flight_columns, flight_name, flight_row, flight_total, from_entries, held_once, kept_cmp, kept_key_back, kept_key_columns, kept_key_name, kept_row, kept_text_back, kept_text_cmp, kept_text_columns, kept_text_name, kept_text_row, kept_text_total, kept_total, list_all, list_all-map, map, message_id, message_read, message_shown, move_id, move_read, move_shown, moves_columns, moves_name, old_waybill_back, old_waybill_columns, old_waybill_id, old_waybill_name, old_waybill_shown, on_total, outbox_columns, outbox_name, part_back, part_cmp, part_columns, part_name, part_row, part_total, refl, sorted_unique, stock_cmp, stock_columns, stock_name, stock_read, stock_row, stock_total, subst, sym, trail_columns, trail_id, trail_name, trail_read, trail_shown, true, undated, waybill_columns, waybill_id, waybill_name, waybill_read, waybill_shown, ℕ, ℤ, ◌↔◌, ◌∙◌, ◌∷◌, ◌≡◌}
 use Rattle.shipment_machine.specs.declared.moves.Move as cargo
 use Rattle.shipment_machine.specs.declared.moves.Place.TheVariants as place
 use Rattle.station_schema.specs.Tables.{Move, count_row, build_row}
-use Rattle.station_rows.specs.Shown.{waybill_shown, waybill_read, move_shown, move_read, count_read, build_read, trail_shown, trail_read, message_shown, message_read, stock_read}
-use Rattle.table_load.specs.declared.station.FileVersion.{FileVersion}
 use Rattle.table_load.proofs.Orders.{old_waybill_agrees, waybill_agrees, stock_agrees, flight_agrees, moves_agrees, expected_agrees, part_agrees, trail_agrees, outbox_agrees, kept_key_agrees, kept_text_agrees, counts_agrees, build_agrees}
-use Rattle.table_load.proofs.TableLemmas.{ascending_sorted, held_once}
 use Rattle.table_audits.specs.declared.name.TableName.TheVariants as table
 
 -- ---- a good table stays so where others change

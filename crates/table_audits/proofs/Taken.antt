@@ -1,8 +1,5 @@
 -- Rows that are taken one after another.
-use Rattle.std.proofs.Common.{◌≡◌, ◌↔◌, ℕ, ◌+◌, ◌≤◌, ℤ, pos, Bool, true, false, cond, ◌&&◌, Option, Some, None, List, [], ◌∷◌, ◌++◌, map, length, refl, sym, ap, ap₂, subst, ◌∙◌, true≢false, arith, length-append, Result, Ok, Err}
-use Rattle.table_audits.proofs.Common.{nat_le, IsSome, IfSome, OnOk, list_all, range_with_len, and_parts, nat_tests, length-map, map-append, list_all-append, list_all-map, Error, map-map, list_all_push, trail_meant, message_meant, Tables, Message, Waybill, message_id, trail_id, is_message_row, confirmed_in, AreNumbered, AreMessages, cargo_in, RisesByNumber, is_lawful_line, AreSound, AreSoundOr, AreCounted, AreLinesTaken, AreMessagesTaken, if_confirmed}
-use Rattle.station_rows.specs.declared.outbox.MessageRow.{MessageRow}
-use Rattle.station_rows.specs.declared.trail.TrailRow.{TrailRow}
+use Rattle.table_audits.proofs.Common.{AreCounted, AreLinesTaken, AreMessages, AreMessagesTaken, AreNumbered, AreSound, AreSoundOr, Bool, Err, Error, IfSome, IsSome, List, Message, MessageRow, None, Ok, OnOk, Option, Result, RisesByNumber, Some, Tables, TrailRow, Waybill, [], and_parts, ap, ap₂, arith, cargo_in, cond, confirmed_in, false, if_confirmed, is_lawful_line, is_message_row, length, length-append, length-map, list_all, list_all-append, list_all-map, list_all_push, map, map-append, map-map, message_id, message_meant, nat_le, nat_tests, pos, range_with_len, refl, subst, sym, trail_id, trail_meant, true, true≢false, ℕ, ℤ, ◌&&◌, ◌++◌, ◌+◌, ◌↔◌, ◌∙◌, ◌∷◌, ◌≡◌, ◌≤◌}
 use Rattle.table_audits.specs.declared.numbers.NumberedRows.{NumberedRows}
 use Rattle.table_audits.proofs.NumberLaws.{numbered_push, numbered_pop}
 use Rattle.table_audits.proofs.Texts.{messages_are}

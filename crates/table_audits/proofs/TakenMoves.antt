@@ -1,10 +1,7 @@
 -- Moves that are taken one after another.
-use Rattle.std.proofs.Common.{◌≡◌, ℕ, ◌+◌, pos, Bool, true, false, List, [], ◌∷◌, ◌++◌, map, length, replicate, refl, sym, ap, subst, ◌∙◌, true≢false, length-append, Result, Ok, Err}
-use Rattle.table_audits.proofs.Common.{OnOk, AllByRecursion, map-append, Error, move_meant, waybill_meant, WaybillRow, IsLawfulMove, StaysDeparted, Tables, move_id, running, book_in, move_by, flight_entry, FlightEntry, AreDepartures, AreBalances, is_marked, marked, marks_of, IsDeparted, AreMoves, cargo_in, AreBeside, IsGoodRow, IsPosted, listed_in, AreDistinct, AreSums, IsPosting, AreGoodMoves, AreMovesTaken, AreRead, IsBookOf, IsBookAs, Posting}
-use Rattle.station_rows.specs.declared.moves.MoveRow.{MoveRow}
+use Rattle.table_audits.proofs.Common.{AllByRecursion, AreBalances, AreBeside, AreDepartures, AreDistinct, AreGoodMoves, AreMoves, AreMovesTaken, AreRead, AreSums, BookAudit, Bool, Err, Error, FlightEntry, IsBookAs, IsBookOf, IsDeparted, IsGoodRow, IsLawfulMove, IsPosted, IsPosting, List, MoveRow, Ok, OnOk, Posting, Result, StaysDeparted, Tables, WaybillRow, [], ap, book_in, cargo_in, false, flight_entry, is_marked, length, length-append, listed_in, map, map-append, marked, marks_of, move_by, move_id, move_meant, pos, refl, replicate, running, subst, sym, true, true≢false, waybill_meant, ℕ, ◌++◌, ◌+◌, ◌∙◌, ◌∷◌, ◌≡◌}
 use Rattle.shipment_machine.specs.declared.moves.Move as cargo
 use Rattle.station_schema.specs.Tables.{Move}
-use Rattle.table_audits.specs.declared.book.BookAudit.{BookAudit}
 use Rattle.table_audits.specs.declared.book.BookBeside.{BookBeside}
 use Rattle.table_audits.proofs.DepartedLaws.{broken, marked_then, may_build, may_not_build, no_marks, stays_pop, stays_push}
 use Rattle.table_audits.proofs.Lists.{all_pop, all_push}

@@ -1,12 +1,8 @@
 -- What a row holds as a text is one.
-use Rattle.std.proofs.Common.{◌≡◌, ◌&&◌, Bool, true, false, List, [], ◌∷◌, map, refl, ap, ◌∙◌, string_bytes}
-use Rattle.table_audits.proofs.Common.{is_utf8, list_all, and_from, is_utf8-from_IsUtf8, IsUtf8-string_bytes, is_airport, message_meant, part_entry, kept_key_entry, kept_text_entry, is_count, is_day, is_within, is_flight_text, is_part_row, is_message_row, is_kept_row, is_kept_text_row}
+use Rattle.table_audits.proofs.Common.{Bool, IsUtf8-string_bytes, KeptKeyEntry, List, MessageRow, [], and_from, ap, false, is_airport, is_count, is_day, is_flight_text, is_kept_row, is_kept_text_row, is_key, is_message_row, is_part_row, is_utf8, is_utf8-from_IsUtf8, is_within, kept_key_entry, kept_text_entry, list_all, map, message_meant, part_entry, refl, string_bytes, true, ◌&&◌, ◌∙◌, ◌∷◌, ◌≡◌}
 use Rattle.std.specs.declared.alloc.Global.{Global}
 use Rattle.std.specs.declared.string.String.{String}
-use Rattle.station_core.specs.Key.{is_key}
-use Rattle.station_rows.specs.declared.outbox.MessageRow.{MessageRow}
 use Rattle.table_load.specs.declared.part.PartEntry.{PartEntry}
-use Rattle.table_load.specs.declared.kept_key.KeptKeyEntry.{KeptKeyEntry}
 use Rattle.table_load.specs.declared.kept_text.KeptTextEntry.{KeptTextEntry}
 
 is_text : (text : String Global) → is_utf8 (string_bytes text) ≡ true

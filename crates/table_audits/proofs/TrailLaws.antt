@@ -1,7 +1,5 @@
 -- The rows of `trail` are lawful exactly where the table is.
-use Rattle.std.proofs.Common.{◌≡◌, ◌↔◌, ℕ, Bool, true, Option, Some, None, List, map, refl, sym, ap, ap₂, subst, ◌∙◌, true≢false}
-use Rattle.table_audits.proofs.Common.{IsTrue, IsSome, list_all, and_parts, and_from, all_map, all_unmap, all_weaker, all_both, all_from_test, test_from_all, is_line, trail_meant, Tables, TrailLine, Waybill, trail_id, natural, is_number, AreNumbered, line_by, is_trail_row, AreTrailLines, cargo_in, has_waybill, is_lawful_line, AreSoundOr}
-use Rattle.station_rows.specs.declared.trail.TrailRow.{TrailRow}
+use Rattle.table_audits.proofs.Common.{AreNumbered, AreSoundOr, AreTrailLines, Bool, IsSome, IsTrue, List, None, Option, Some, Tables, TrailLine, TrailRow, Waybill, all_both, all_from_test, all_map, all_unmap, all_weaker, and_from, and_parts, ap, ap₂, cargo_in, has_waybill, is_lawful_line, is_line, is_number, is_trail_row, line_by, list_all, map, natural, refl, subst, sym, test_from_all, trail_id, trail_meant, true, true≢false, ℕ, ◌↔◌, ◌∙◌, ◌≡◌}
 use Rattle.table_audits.proofs.Taken.{sound_rows, rows_sound}
 use Rattle.table_audits.proofs.Each.{both_lists, natural_again}
 use Rattle.table_audits.proofs.DeclaredLaws.{declared_from, declared_back}

@@ -1,8 +1,5 @@
 -- In a database with the tables that a station declares, typed tables that are lawful are held.
-use Rattle.std.proofs.Common.{◌≡◌, ℕ, ℤ, pos, Bool, true, List, [], ◌∷◌, sym, subst}
-use Rattle.table_audits.proofs.Common.{list_all, AllByRecursion, and_parts, is_utf8-from_IsUtf8, IsUtf8-from_ascii, Database, Station, IsStation, tables_of, is_station, book_in, HasOldWaybillTexts, HasCountsTexts, new_row, TableName, IsLawfulTable, is_airport, Second, read_as, HoldsStation, IsHeld, IsGood, IsStationOf}
-use Rattle.desk_commands.proofs.Ascii.{IsAscii-airport}
-use Rattle.table_load.proofs.Declared.{station_typed, old_waybill_typed, waybill_typed, stock_typed, flight_typed, moves_typed, expected_typed, part_typed, trail_typed, outbox_typed, kept_key_typed, kept_text_typed, counts_typed, build_typed}
+use Rattle.table_audits.proofs.Common.{AllByRecursion, Bool, Database, HasCountsTexts, HasOldWaybillTexts, HoldsStation, IsAscii-airport, IsGood, IsHeld, IsLawfulTable, IsStation, IsStationOf, IsUtf8-from_ascii, List, Second, Station, TableName, [], and_parts, book_in, build_typed, counts_typed, expected_typed, flight_typed, is_airport, is_station, is_utf8-from_IsUtf8, kept_key_typed, kept_text_typed, list_all, moves_typed, new_row, old_waybill_typed, outbox_typed, part_typed, pos, read_as, station_typed, stock_typed, subst, sym, tables_of, trail_typed, true, waybill_typed, ℕ, ℤ, ◌∷◌, ◌≡◌}
 use Rattle.table_audits.specs.declared.name.TableName.TheVariants as table
 use Rattle.table_audits.proofs.Declared.{is_it}
 use Rattle.table_audits.proofs.RowTexts.{waybill_texts, stock_texts, flight_texts, moves_texts, expected_texts, part_texts, trail_texts, outbox_texts, kept_key_texts, kept_text_texts, build_texts}

@@ -1,6 +1,5 @@
 -- The waybills of a file of version 1, with no day, are those that it is to have.
-use Rattle.std.proofs.Common.{◌≡◌, ◌∙◌, List, map, sym, ap}
-use Rattle.table_audits.proofs.Common.{Database, map-map, OldWaybill, Waybill, undated, WaybillRow, waybill_meant, First, old_waybill_entry, HoldsOldWaybill, undated_row, HoldsWaybills}
+use Rattle.table_audits.proofs.Common.{Database, First, HoldsOldWaybill, HoldsWaybills, List, OldWaybill, Waybill, WaybillRow, ap, map, map-map, old_waybill_entry, sym, undated, undated_row, waybill_meant, ◌∙◌, ◌≡◌}
 use Rattle.table_load.specs.declared.old_waybill.OldWaybillEntry.{OldWaybillEntry}
 
 same_rows : (olds : List OldWaybillEntry) → map waybill_meant (map undated_row olds) ≡ map undated (map old_waybill_entry olds)

@@ -1,6 +1,5 @@
 -- Two lists that are compared row by row.
-use Rattle.std.proofs.Common.{◌≡◌, ◌≢◌, ℕ, ◌+◌, ◌<◌, ◌≤◌, ◌↔◌, List, [], ◌∷◌, map, length, drop, get_or, sym, ap, ◌∙◌}
-use Rattle.table_audits.proofs.Common.{drop_more, drop_all}
+use Rattle.table_audits.proofs.Common.{List, [], ap, drop, drop_all, drop_more, get_or, length, map, sym, ℕ, ◌+◌, ◌<◌, ◌↔◌, ◌∙◌, ◌∷◌, ◌≡◌, ◌≢◌, ◌≤◌}
 
 module _ {X Y Z : Type 0} (f : X → Z) (g : Y → Z) (xs : List X) (ys : List Y) where
   -- two lists are the same where what is ahead of them is

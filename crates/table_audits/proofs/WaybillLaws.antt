@@ -1,6 +1,5 @@
 -- The rows of `waybill2` are lawful exactly where the table is.
-use Rattle.std.proofs.Common.{◌≡◌, ℕ, pos, true, Option, Some, None, option_map, refl, ap, subst, ◌∙◌}
-use Rattle.table_audits.proofs.Common.{int_le, IfSome, list_all, and_parts, and_from, get_by, all_both, all_from_test, test_from_all, IsLawfulAmount, Tables, Waybill, waybill_id, natural, is_within, is_number, declared_by, is_waybill_row, AreWaybills, cargo_in, RisesByNumber, is_lawful_waybill}
+use Rattle.table_audits.proofs.Common.{AreWaybills, IfSome, IsLawfulAmount, None, Option, RisesByNumber, Some, Tables, Waybill, all_both, all_from_test, and_from, and_parts, ap, cargo_in, declared_by, get_by, int_le, is_lawful_waybill, is_number, is_waybill_row, is_within, list_all, natural, option_map, pos, refl, subst, test_from_all, true, waybill_id, ℕ, ◌∙◌, ◌≡◌}
 use Rattle.table_audits.proofs.Each.{found_passes, both_lists, each_by_number, natural_again, amount_of, amount_back}
 
 -- its number, its pieces and its weight

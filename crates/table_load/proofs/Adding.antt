@@ -1,6 +1,5 @@
 -- CREATE TABLE beside the tables of a file of version 1.
-use Rattle.std.proofs.Common.{◌≡◌, ◌++◌, ℕ, List, [], ◌∷◌, Ok, Err, None, Result, refl, sym, ap, subst}
-use Rattle.table_load.proofs.Common.{AllByRecursion, Table, Trees, CreateTable, Error, State, Executes, Writes, Survives, CommitsBy, survives_weaker, runs_as, AreListed, execute_stops, keeps, commits_nothing, transaction_stays, old_schema, station_schema, waybill2, rows_in, tables_in, waybill_id, waybill_row, waybill_in, Adds, IsInsideOld}
+use Rattle.table_load.proofs.Common.{Adds, AllByRecursion, AreListed, CommitsBy, CreateTable, Err, Error, Executes, IsInsideOld, List, None, Ok, Result, State, Survives, Table, Trees, Writes, [], ap, commits_nothing, execute_stops, keeps, old_schema, refl, rows_in, runs_as, station_schema, subst, survives_weaker, sym, tables_in, transaction_stays, waybill2, waybill_id, waybill_in, waybill_row, ℕ, ◌++◌, ◌∷◌, ◌≡◌}
 use Rattle.sqlite.specs.Change.{KeepsRows}
 use Rattle.station_schema.proofs.Making.{creates}
 use Rattle.station_schema.specs.Tables.{IsTyped}

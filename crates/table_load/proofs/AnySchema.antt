@@ -1,17 +1,10 @@
 -- A query for columns of one table, under any schema that has the table.
-use Rattle.std.proofs.Common.{◌≡◌, ℕ, suc, ◌-◌, ◌+◌, ◌<◌, List, [], ◌∷◌, ◌++◌, map, length, Bool, true, false, None, Some, Option, Ok, Err, refl, sym, ap, ◌∙◌, slice_get, arith}
-use Rattle.table_load.proofs.Common.{nat_lt, ◌&&◌, AllByRecursion, position_from, Table, Schema, Checked, and_then, AreShown, AreSorts, IsPlainSource, IsPlainCore, IsPlainSelect, IsSelect, Compiled, reads_listing, misses_table, fresh, max_budget}
+use Rattle.table_load.proofs.Common.{AllByRecursion, AreShown, AreSorts, Binary, Bool, Checked, Compiled, Core, Err, Expr, Expr-F, IsPlainCore, IsPlainSelect, IsPlainSource, IsSelect, List, Mismatch, None, Ok, Option, Parsed, Query, Schema, Shown-F, Some, Sort, Source, Table, [], and_then, ap, arith, column_named, end, false, fresh, if◌then◌else◌, inner, length, length-map, map, max_budget, misses_table, nat_lt, negsuc, out-Core, out-Expr, out-Sort, place_of, pos, position_from, reads_listing, refl, slice_get, suc, sym, table_named, true, ℕ, ◌&&◌, ◌++◌, ◌+◌, ◌-◌, ◌<◌, ◌∙◌, ◌∷◌, ◌≡◌}
 use Rattle.std.proofs.lemmas.Bool.Decides.{nat_tests}
-use Rattle.std.proofs.lemmas.List.{length-map}
 use Rattle.sqlite_schema.specs.declared.schema.Column.{Column as Column'}
-use Rattle.sqlite_schema.specs.Names.{table_named, column_named, place_of}
 use Rattle.sqlite_sql.specs.Term.{Term, col}
 use Rattle.sqlite_value.specs.declared.keys.Key.{Key}
-use Rattle.sqlite_value.specs.declared.keys.Collation.TheVariants.{Binary}
-use Rattle.sqlite_ast.specs.declared.Expr.{Expr, out-Expr}
-use Rattle.sqlite_ast.specs.declared.Expr.TheOpen.{Expr-F, Shown-F}
 use Rattle.sqlite_ast.specs.declared.Shown.{Shown, out-Shown}
-use Rattle.sqlite_ast.specs.declared.Sort.{Sort, out-Sort}
 use Rattle.sqlite_resolve.specs.declared.scope.Bound.{Bound}
 use Rattle.sqlite_resolve.specs.declared.scope.Output.{Output}
 use Rattle.sqlite_resolve.specs.declared.scope.Found.TheVariants.{Column}
@@ -21,22 +14,16 @@ use Rattle.sqlite_resolve.specs.Scope.{Context, column_in, find, in_level, only,
 use Rattle.sqlite_resolve.specs.Expr.{lower_to, lower, node, opened, passes}
 use Rattle.sqlite_resolve.specs.Body.{outputs_from, shown, heading, is_column}
 use Rattle.sqlite_resolve.specs.Order.{sorts_from, sorts, sort, key, keys, alias_in, peeled, is_numeral, collation_of, written_on, placed}
-use Rattle.std.proofs.Common.{pos, negsuc, if◌then◌else◌}
 use Rattle.sqlite_value.specs.declared.value.Value.TheVariants.{Int}
 use Rattle.sqlite_sql.specs.Term.{lit}
-use Rattle.sqlite_sql.specs.Query.{Query, inner, end}
 use Rattle.sqlite_schema.specs.declared.program.Program.{Program}
 use Rattle.sqlite_schema.specs.declared.command.Command.{Command}
 use Rattle.sqlite_schema.specs.declared.command.Command.TheVariants as command'
 use Rattle.sqlite_typing.specs.Types.{accepts_program}
-use Rattle.sqlite_resolve.specs.declared.error.CompileError.TheVariants.{Mismatch}
 use Rattle.sqlite_resolve.specs.Program.{query, query_to, level, with, whole, alone as alone', single, sources, source, viewing, program}
 use Rattle.sqlite_resolve.specs.Compile.{read, command, meaning, planned, compiled, first, timed, returning}
 use Rattle.sqlite_resolve.specs.Select.{constant_or}
-use Rattle.sqlite_syntax.specs.declared.statement.Parsed.{Parsed}
 use Rattle.sqlite.specs.Listing.{understood}
-use Rattle.sqlite_ast.specs.declared.Source.{Source}
-use Rattle.sqlite_ast.specs.declared.Core.{Core, out-Core}
 use Rattle.sqlite_ast.specs.declared.Select.{Select, out-Select}
 use Rattle.sqlite_draft.specs.declared.join.Step.TheVariants.{Inner}
 use Rattle.sqlite_draft.specs.declared.query.Draft.{Draft}

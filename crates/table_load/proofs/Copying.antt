@@ -1,20 +1,14 @@
 -- What the statements on a station of version 2 do.
 use Rattle.std.proofs.Common.{◌≡◌, ℕ, ℤ, pos, List, [], ◌∷◌, Ok, true, false, map, filter, fold, refl, sym, ap, ◌∙◌, map-id, int_eq, IsPermutation}
-use Rattle.table_load.proofs.Common.{list_all, Null, Int, Text, Row, State, Executes, Survives, CommitsBy, map-map, map_same, one_table, seen, any_rows, removed_any, puts_all, IsInside, Edits, station_schema, station, waybill, waybill2, undated, Station, station_id, station_row, station_in, OldWaybill, old_waybill_id, old_waybill_row, waybill_id, waybill_row, tables_of, typed_stations, typed_old_waybills, typed_waybills, execute_survives, copying, clearing, raising}
-use Rattle.sqlite.specs.Program.{overlay}
+use Rattle.table_load.proofs.Common.{CommitsBy, Edits, Eq, Executes, Int, IsInside, IsKeyedBy, Null, OldWaybill, Row, State, Station, Survives, Text, any_rows, asks, at_ints, clearing, copying, execute_survives, insert_by, last_key, last_term, list_all, map-map, map_same, old_waybill_id, old_waybill_row, one_table, overlay, puts_all, raising, removed_any, seen, station, station_id, station_in, station_row, station_schema, tables_of, typed_old_waybills, typed_stations, typed_waybills, undated, value_cmp-Int, waybill, waybill2, waybill_id, waybill_row}
 use Rattle.sqlite.specs.Term.{col, holds}
 use Rattle.sqlite.specs.Cast.{cast_row}
-use Rattle.sqlite_value.proofs.OrderLemmas.{value_cmp-Int}
-use Rattle.sqlite_sql.specs.declared.ops.CompareOp.TheVariants.{Eq}
-use Rattle.sqlite_keyed.specs.Keyed.{IsKeyedBy, insert_by}
 use Rattle.sqlite_keyed.specs.Lists.{update_where, delete_where}
 use Rattle.sqlite_keyed.proofs.KeyedLemmas.{IsKeyedBy-insert_by}
 use Rattle.sqlite_typed.proofs.AnswerLemmas.{answer_by_keys}
-use Rattle.sqlite_typed.proofs.TestLemmas.{at_ints, last_term, last_key}
 use Rattle.station_schema.proofs.Listed.{changed_at}
 use Rattle.station_schema.proofs.Ran.{IsPlaced, select_ran, update_ran, delete_ran}
 use Rattle.station_schema.proofs.Shared.{cast_int, cast_null}
-use Rattle.station_schema.proofs.AnyTexts.{asks}
 use Rattle.station_schema.proofs.StationLemmas.{station_placed}
 use Rattle.station_schema.proofs.Stored.{edits_stations, edits_old_waybills, edits_waybills}
 use Rattle.table_load.proofs.UpgradeTexts.{copy_text, copy_terms, copy_query, copy_is, clear_text, clear_is, raise_text, raise_terms, raise_is, station_is}

@@ -1,17 +1,10 @@
 -- In the tables that a station declares, in a file of either version, what is held under the names
 -- is what the typed tables are.
-use Rattle.std.proofs.Common.{◌≡◌, ◌∙◌, ℕ, ℤ, List, [], ◌∷◌, map, refl, ap}
-use Rattle.std.specs.FinMap.{entries}
+use Rattle.table_load.proofs.Common.{AreEntries, AreListed, Database, FileVersion, First, HasBuildTexts, HasCountsTexts, HasExpectedTexts, HasFlightTexts, HasKeptKeyTexts, HasKeptTextTexts, HasMovesTexts, HasOldWaybillTexts, HasOutboxTexts, HasPartTexts, HasStockTexts, HasTrailTexts, HasWaybillTexts, HoldsBuild, HoldsCounts, HoldsExpected, HoldsFlight, HoldsKeptKey, HoldsKeptText, HoldsMoves, HoldsOld, HoldsOldWaybill, HoldsOutbox, HoldsPart, HoldsStock, HoldsTrail, HoldsTyped, HoldsWaybill, IsHeldBy, IsOldStation, IsStation, List, Second, Station, Table, Trees, [], ap, build_cmp, build_in, build_read, build_row, count_cmp, count_in, count_read, count_row, entries, expected_back, expected_cmp, expected_in, expected_row, flight_back, flight_cmp, flight_in, flight_row, found, is_utf8, kept_cmp, kept_in, kept_key_back, kept_row, kept_text_back, kept_text_cmp, kept_text_in, kept_text_row, map, message_id, message_in, message_read, message_row, move_id, move_in, move_read, move_row, old_tables_of, old_waybill_back, old_waybill_id, old_waybill_in, old_waybill_row, one_row, part_back, part_cmp, part_in, part_row, refl, row_of_version, rows_of, schema_with, station_columns, station_found, station_id, station_in, station_name, station_of, station_row, station_schema, station_shown, stock_cmp, stock_in, stock_read, stock_row, tables_of, trail_id, trail_in, trail_read, trail_row, true, typed_builds, typed_counts, typed_expected, typed_flights, typed_kept, typed_kept_texts, typed_moves, typed_old_waybills, typed_outbox, typed_parts, typed_stations, typed_stock, typed_trail, typed_waybills, waybill2, waybill_id, waybill_in, waybill_read, waybill_row, ℕ, ℤ, ◌∙◌, ◌∷◌, ◌≡◌}
 use Rattle.sqlite.specs.Order.{column}
-use Rattle.table_load.proofs.Common.{Table, Trees, Database, schema_with, station_schema, waybill2, IsStation, IsOldStation, tables_of, old_tables_of, old_waybill_id, old_waybill_row, old_waybill_in, typed_old_waybills, waybill_id, typed_waybills, waybill_in, waybill_row, stock_cmp, stock_row, typed_stock, stock_in, flight_cmp, flight_row, typed_flights, flight_in, move_id, typed_moves, move_in, move_row, expected_cmp, expected_row, typed_expected, expected_in, part_cmp, part_row, typed_parts, part_in, trail_id, typed_trail, trail_in, trail_row, message_id, typed_outbox, message_in, message_row, kept_cmp, kept_row, typed_kept, kept_in, kept_text_cmp, kept_text_row, typed_kept_texts, kept_text_in, count_cmp, count_row, typed_counts, count_in, build_cmp, build_row, typed_builds, build_in, Station, station_id, station_row, station_in, typed_stations, found, rows_of, HoldsOldWaybill, HasOldWaybillTexts, old_waybill_back, HoldsWaybill, HasWaybillTexts, HoldsStock, HasStockTexts, HoldsFlight, flight_back, HasFlightTexts, HoldsMoves, HasMovesTexts, HoldsExpected, expected_back, HasExpectedTexts, HoldsPart, part_back, HasPartTexts, HoldsTrail, HasTrailTexts, HoldsOutbox, HasOutboxTexts, HoldsKeptKey, kept_key_back, HasKeptKeyTexts, HoldsKeptText, kept_text_back, HasKeptTextTexts, HoldsCounts, HasCountsTexts, HoldsBuild, HasBuildTexts, AreEntries, AreListed, is_utf8, station_name, station_columns, station_found, station_of, one_row, row_of_version}
 use Rattle.sqlite_tied.specs.Compute.{everything}
 use Rattle.table_load.proofs.TypedLemmas.{keyed_held, numbered_held}
-use Rattle.station_rows.specs.Shown.{waybill_read, move_read, count_read, build_read, trail_read, message_read, stock_read, station_shown}
 use Rattle.station_schema.proofs.Keys.{stock_total, flight_total, expected_total, part_total, kept_total, kept_text_total, count_total, build_total}
-use Rattle.table_load.specs.Typed.{IsHeldBy, HoldsTyped, HoldsOld}
-use Rattle.std.proofs.Common.{true}
-use Rattle.table_load.specs.declared.station.FileVersion.{FileVersion}
-use Rattle.table_load.specs.declared.station.FileVersion.TheVariants.{First, Second}
 use Rattle.table_load.proofs.StationLemmas.{is_of_version}
 
 -- ---- waybill, which is empty in files of version 2

@@ -1,8 +1,5 @@
 -- SQL orders the rows of each table by its key columns as the keys are ordered.
-use Rattle.table_load.proofs.Common.{ℕ, ℤ, List, Agrees, by_key, by_number, old_waybill_shown, OldWaybill, old_waybill_id, Waybill, waybill_id, Stock, StockKey, stock_cmp, stock_row, Flight, FlightKey, flight_cmp, flight_row, Move, move_id, Expected, ExpectedKey, expected_cmp, expected_row, PartKey, part_cmp, part_row, TrailLine, trail_id, Message, message_id, Kept, kept_cmp, kept_row, kept_text_cmp, kept_text_row, Count, CountKey, count_cmp, count_row, Build, BuildKey, build_cmp, build_row}
-use Rattle.sqlite_value.proofs.OrderLemmas.{value_cmp-Int, value_cmp-Text}
-use Rattle.sqlite_typed.proofs.TestLemmas.{then_key, last_key}
-use Rattle.station_rows.specs.Shown.{waybill_shown, move_shown, trail_shown, message_shown}
+use Rattle.table_load.proofs.Common.{Agrees, Build, BuildKey, Count, CountKey, Expected, ExpectedKey, Flight, FlightKey, Kept, List, Message, Move, OldWaybill, PartKey, Stock, StockKey, TrailLine, Waybill, build_cmp, build_row, by_key, by_number, count_cmp, count_row, expected_cmp, expected_row, flight_cmp, flight_row, kept_cmp, kept_row, kept_text_cmp, kept_text_row, last_key, message_id, message_shown, move_id, move_shown, old_waybill_id, old_waybill_shown, part_cmp, part_row, stock_cmp, stock_row, then_key, trail_id, trail_shown, value_cmp-Int, value_cmp-Text, waybill_id, waybill_shown, ℕ, ℤ}
 
 pub old_waybill_agrees : Agrees {E = OldWaybill} 1 old_waybill_shown (by_number old_waybill_id)
 old_waybill_agrees a b = last_key (value_cmp-Int (old_waybill_id a) (old_waybill_id b))

@@ -1,24 +1,14 @@
 -- What a query for columns of one table returns, under any schema that has the table.
-use Rattle.std.proofs.Common.{◌≡◌, inl, inr, ℕ, zero, suc, ◌+◌, List, [], ◌∷◌, map, length, take, Bool, true, false, None, Some, Option, Ok, Err, refl, sym, ap, ap₂, subst, subst₂, ◌∙◌, slice_get, arith, unwrap_or, ◌≤◌}
-use Rattle.table_load.proofs.Common.{option_map, option_and_then, if◌then◌else◌, ◌==◌, flat_map, AllByRecursion, IsPermutation, IsSorted, is_lt, IsPermutation-map, map-map, map_same, Null, nothing, Row, Trees, Table, Schema, Database, Answers, rows_of, table_by_name, place_by_name, places_by_name, found, found_at, found_in, rising_keys, AreInOrder, Select, State, Survives, IsUnchanged, Error, survives_weaker, IsPlain, command_of, reads_as, never_commits, Compiled, Checked, Stops, not_run, query_stops, query_keeps, no_overlay, IsSelect, IsReadOnly}
+use Rattle.table_load.proofs.Common.{AllByRecursion, Answers, AreInOrder, Binary, Bool, Checked, Compiled, Database, Err, Error, IsPermutation, IsPermutation-map, IsPlain, IsReadOnly, IsSelect, IsSorted, IsUnchanged, List, Mismatch, NoCase, None, Null, Ok, Option, Output, RTrim, Row, Schema, Select, Some, State, Stops, Survives, Table, Trees, [], ap, ap₂, arith, column_named, command_of, declared, end, eval_all, false, flat_map, found, found_at, found_in, if◌then◌else◌, inl, inner, inr, is_key, is_lt, key_cmp, length, length-map, map, map-map, map_same, matches_as, never_commits, no_overlay, not_run, nothing, option_and_then, option_map, output, output_cmp, overlay, place_by_name, place_of, places_by_name, query_keeps, query_stops, reads_as, refl, rising_keys, rows_of, slice_get, subst, subst₂, suc, survives_weaker, sym, table_by_name, table_named, take, true, understood, unwrap_or, zero, ℕ, ◌+◌, ◌==◌, ◌∙◌, ◌∷◌, ◌≡◌, ◌≤◌}
 use Rattle.std.specs.declared.cmp.Ordering.{Ordering}
 use Rattle.sqlite_trees.proofs.ListLemmas.{all-permutation}
 use Rattle.sqlite.specs.declared.types.Value.{Value}
-use Rattle.std.proofs.lemmas.List.{length-map}
 use Rattle.std.proofs.Math.ListN.{get_or-map}
 use Rattle.sqlite.specs.Order.{column}
-use Rattle.sqlite.specs.Program.{overlay}
-use Rattle.sqlite_sql.specs.Term.{eval_all}
-use Rattle.sqlite_sql.specs.Query.{Output, output, output_cmp, key_cmp, matches_as, inner, end}
 use Rattle.sqlite_value.specs.Keys.{collation_code}
 use Rattle.sqlite_value.specs.declared.keys.Collation.{Collation}
-use Rattle.sqlite_value.specs.declared.keys.Collation.TheVariants.{Binary, NoCase, RTrim}
-use Rattle.sqlite_schema.specs.Names.{table_named, column_named, place_of, is_key}
 use Rattle.sqlite_resolve.specs.Lowering.{alone}
-use Rattle.sqlite_resolve.specs.Scope.{declared}
 use Rattle.sqlite.specs.State.{FailsToQuery, Shown, CommitsShowing}
-use Rattle.sqlite.specs.Listing.{understood}
-use Rattle.sqlite_resolve.specs.declared.error.CompileError.TheVariants.{Mismatch}
 use Rattle.table_load.proofs.AnySchema.{InTable, Means, means, names_of, term_in, by_in, asks_of, program_of}
 
 -- ---- options

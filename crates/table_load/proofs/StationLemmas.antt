@@ -1,12 +1,8 @@
 -- From the rows of `station` to what the table says.
-use Rattle.std.proofs.Common.{◌≡◌, inl, ℤ, pos, ℕ, List, [], ◌∷◌, length, true, Some, Ok, Err, Result, refl, sym, ap, ◌∙◌, arith}
-use Rattle.table_load.proofs.Common.{Vec, IfOk, IsPermutation, int_eq, is_utf8, length_permutation, Int, Text, Error, Row, Database, State, IsUnchanged, one_permutation, Reads, found, ShowsWhole, station_name, station_columns, one_row, version_number, found_in_row, found_in_rows, station_found, station_of, found_meant}
-use Rattle.std.specs.declared.alloc.Global.{Global}
+use Rattle.table_load.proofs.Common.{Database, Err, Error, FileVersion, First, Global, IfOk, Int, IsPermutation, IsUnchanged, List, Ok, Reads, Result, Row, Second, ShowsWhole, Some, State, Text, Vec, [], ap, arith, found, found_in_row, found_in_rows, found_meant, inl, int_eq, is_utf8, length, length_permutation, one_permutation, one_row, pos, refl, station_columns, station_found, station_name, station_of, sym, true, version_number, ℕ, ℤ, ◌∙◌, ◌∷◌, ◌≡◌}
 use Rattle.sqlite.specs.Order.{column}
 use Rattle.table_load.proofs.TableLemmas.{all_columns}
 use Rattle.table_load.specs.declared.station.StationFound.{StationFound}
-use Rattle.table_load.specs.declared.station.FileVersion.{FileVersion}
-use Rattle.table_load.specs.declared.station.FileVersion.TheVariants.{First, Second}
 
 -- each version's own number is the one that is asked for
 pub is_of_version : (v : FileVersion) → int_eq (version_number v) (version_number v) ≡ true

@@ -1,10 +1,8 @@
 -- From the rows of a query to the entries of a table, whatever the entries are.
 use Rattle.std.proofs.Common.{◌≡◌, inl, ℕ, zero, suc, ◌+◌, List, [], ◌∷◌, ◌++◌, map, length, true, false, None, Some, Option, Ok, Err, Result, refl, sym, ap, subst, ◌∙◌, slice_index_or, arith, take, Less, Equal, Greater, Ordering, is_lt}
-use Rattle.table_load.proofs.Common.{IsErr, IfOk, AllByRecursion, IsPermutation, IsSorted, IsPermutation-trans, IsPermutation-sym, Row, IsAscending, Database, State, IsUnchanged, Error, map_back, ascending-map, ascending_weaker, Reads, Stops, found, rows_of, rising_keys, key_order, AreInOrder, AreLawful, AreRowsOf, HoldsTable, Agrees, TellsFold, TellsRows}
-use Rattle.std.specs.Cmp.{IsTotalOrder, on_total}
+use Rattle.table_load.proofs.Common.{Agrees, AllByRecursion, AreInOrder, AreLawful, AreRowsOf, Database, Error, HoldsTable, IfOk, IsAscending, IsErr, IsPermutation, IsPermutation-sym, IsPermutation-trans, IsSorted, IsTotalOrder, IsUnchanged, Reads, Row, State, Stops, TellsFold, TellsRows, ascending-map, ascending_weaker, found, key_order, map_back, on_total, rising_keys, rows_of, sorted_unique}
 use Rattle.sqlite.specs.Order.{column}
 use Rattle.sqlite_sql.proofs.QueryLemmas.{key_cmp_total}
-use Rattle.sqlite_keyed.proofs.SortLemmas.{sorted_unique}
 
 -- ---- the values of a row, column by column
 

@@ -1,19 +1,11 @@
 -- What the texts are that read a table whole, under any schema.
-use Rattle.std.proofs.Common.{◌≡◌, ◌<◌, ℕ, List, [], ◌∷◌, map, length, codes, Bool, false, Option, Some, None, Ok, Err, refl, ap, arith}
+use Rattle.table_load.proofs.Common.{AreShown, AreSorts, Bool, Checked, Err, Expr, Expr-F, IsPlainSelect, IsPlainSource, IsSelect, List, None, Ok, Option, Parsed, Shown-F, Some, Sort, Source, [], ap, arith, build_columns, build_name, codes, counts_columns, counts_name, expected_columns, expected_name, false, first, flight_columns, flight_name, kept_key_columns, kept_key_name, kept_text_columns, kept_text_name, length, map, moves_columns, moves_name, old_waybill_columns, old_waybill_name, out-Core, out-Expr, out-Sort, out-Source, outbox_columns, outbox_name, part_columns, part_name, refl, station_columns, station_name, stock_columns, stock_name, trail_columns, trail_name, waybill_columns, waybill_name, ℕ, ◌<◌, ◌∷◌, ◌≡◌}
 use Rattle.sqlite_tied.specs.Compute.{everything}
 use Rattle.sqlite_ast.specs.Layer.{Layer, ShownLayer}
-use Rattle.sqlite_ast.specs.declared.Expr.{Expr, out-Expr}
-use Rattle.sqlite_ast.specs.declared.Expr.TheOpen.{Expr-F, Shown-F}
 use Rattle.sqlite_ast.specs.declared.Shown.{Shown, out-Shown}
-use Rattle.sqlite_ast.specs.declared.Sort.{Sort, out-Sort}
-use Rattle.sqlite_ast.specs.declared.Source.{Source, out-Source}
-use Rattle.sqlite_ast.specs.declared.Core.{out-Core}
 use Rattle.sqlite_ast.specs.declared.Select.{Select, out-Select}
 use Rattle.sqlite_ast.specs.declared.Origin.TheVariants as origin
 use Rattle.sqlite_ast.specs.declared.Statement.TheVariants as written
-use Rattle.sqlite_syntax.specs.declared.statement.Parsed.{Parsed}
-use Rattle.sqlite_resolve.specs.Compile.{first}
-use Rattle.table_load.proofs.Common.{Checked, AreShown, AreSorts, IsPlainSource, IsPlainSelect, IsSelect, old_waybill_name, old_waybill_columns, waybill_name, waybill_columns, stock_name, stock_columns, flight_name, flight_columns, moves_name, moves_columns, expected_name, expected_columns, part_name, part_columns, trail_name, trail_columns, outbox_name, outbox_columns, kept_key_name, kept_key_columns, kept_text_name, kept_text_columns, counts_name, counts_columns, build_name, build_columns, station_name, station_columns}
 use Rattle.sqlite_ast.specs.declared.Statement.{Statement}
 
 -- the column that an expression is, or that is shown without AS

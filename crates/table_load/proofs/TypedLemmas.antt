@@ -1,13 +1,8 @@
 -- The entries that are held under the names, and those of a typed table, whatever the table.
 use Rattle.std.proofs.Common.{◌≡◌, ◌∙◌, ◌<ℤ◌, ℕ, ℤ, List, ◌∷◌, map, sym, ap, subst, subst₂, arith, int_cmp, Ordering, Less, false}
-use Rattle.std.specs.Cmp.{IsTotalOrder, int_cmp_total, on_total}
-use Rattle.table_load.proofs.Common.{eq_by_cmp, IsPermutation, IsPermutation-map, IsPermutation-refl, IsPermutation-sym, IsPermutation-trans, Int, Row, IsAscending, map-map, map_back, map_same, ascending-map, ascending_weaker, AreEntries, AreListed, numbered, numbered_in, Database, Schema, found, rows_of, AreLawful, HoldsTable, by_key, by_number}
-use Rattle.std.specs.FinMap.{FinMap, entries, from_entries}
-use Rattle.std.proofs.lemmas.Int.{ints}
+use Rattle.table_load.proofs.Common.{AreEntries, AreLawful, AreListed, Database, FinMap, HoldsTable, Int, IsAscending, IsHeldBy, IsPermutation, IsPermutation-map, IsPermutation-refl, IsPermutation-sym, IsPermutation-trans, IsTotalOrder, Row, Schema, ascending-map, ascending_weaker, by_key, by_number, entries, eq_by_cmp, found, from_entries, int_cmp_total, ints, map-map, map_back, map_same, numbered, numbered_in, on_total, rows_of, sorted_unique}
 use Rattle.sqlite.specs.Order.{column}
-use Rattle.sqlite_keyed.proofs.SortLemmas.{sorted_unique}
 use Rattle.station_schema.proofs.Maps.{entries_of, entries_rise}
-use Rattle.table_load.specs.Typed.{IsHeldBy}
 use Rattle.table_load.proofs.TableLemmas.{ascending_sorted}
 
 rows_same : {a b : List Row} → rows_of a ≡ rows_of b → a ≡ b

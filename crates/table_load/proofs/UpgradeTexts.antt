@@ -1,15 +1,12 @@
 -- What the texts mean under the schema of a station of version 2. Each is computed.
-use Rattle.std.proofs.Common.{ℕ, pos, List, [], ◌∷◌, codes, refl}
-use Rattle.table_load.proofs.Common.{Null, Int, Insert, Update, Delete, one_table, station_schema}
+use Rattle.table_load.proofs.Common.{Delete, Eq, Insert, Int, List, Means, Null, Update, [], asks, by_column, codes, one_table, pos, refl, station_schema, ℕ, ◌∷◌}
 use Rattle.sqlite.specs.Collation.TheVariants.{Binary}
 use Rattle.sqlite_sql.specs.declared.ops.BinaryOp.TheVariants.{Compare}
-use Rattle.sqlite_sql.specs.declared.ops.CompareOp.TheVariants.{Eq}
 use Rattle.sqlite.specs.Term.{Term, lit, col, op2}
 use Rattle.sqlite.specs.Query.{Query}
 use Rattle.sqlite.specs.Source.TheVariants as source
 use Rattle.sqlite_tied.specs.Compute.{everything}
 use Rattle.sqlite.specs.Listing.{understood}
-use Rattle.station_schema.proofs.AnyTexts.{asks, by_column, Means}
 
 abbrev pub copy_text : List ℕ
 copy_text = codes "INSERT INTO waybill2 (awb, origin, destination, pieces, tenths, goods, notified, since) SELECT awb, origin, destination, pieces, tenths, goods, notified, 0 FROM waybill ORDER BY awb"

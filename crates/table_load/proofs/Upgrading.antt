@@ -1,7 +1,5 @@
 -- One statement after another.
-use Rattle.std.proofs.Common.{◌≡◌, ◌<ℤ◌, ℤ, List, [], ◌∷◌, true, fold, map, refl, sym, ap, subst, ◌∙◌}
-use Rattle.table_load.proofs.Common.{Database, State, Shows, Trees, ascending-map, puts_past, IsInside, Edits, undated, raised, upgraded, Tables, old_waybill_id, waybill_id, old_tables_of, IsOldStation, filling, IsInsideOld, IsMoved, MeansUpgraded}
-use Rattle.sqlite_keyed.specs.Keyed.{IsKeyedBy, insert_by}
+use Rattle.table_load.proofs.Common.{Database, Edits, IsInside, IsInsideOld, IsKeyedBy, IsMoved, IsOldStation, List, MeansUpgraded, Shows, State, Tables, Trees, [], ap, ascending-map, filling, fold, insert_by, map, old_tables_of, old_waybill_id, puts_past, raised, refl, subst, sym, true, undated, upgraded, waybill_id, ℤ, ◌<ℤ◌, ◌∙◌, ◌∷◌, ◌≡◌}
 
 -- rows that come in the order of their keys
 in_order : {X : Type 0} (key : X → ℤ) (xs : List X) → IsKeyedBy key xs → fold (insert_by key) [] xs ≡ xs

@@ -1,7 +1,6 @@
 -- What the rows that a query gives, one after another, make of a walk.
 use Rattle.std.proofs.Common.{◌≡◌, ◌≢◌, List, [], ◌∷◌, ◌++◌, append-nil, append_assoc, map, true, false, None, Some, Ok, Err, Result, Option, refl, sym, ap, ap₂, subst, subst₂, ◌∙◌, Less, Ordering, is_lt}
-use Rattle.table_load.proofs.Common.{OnOk, AllByRecursion, Error, Row, IsAscending, AreLawful, AreRowsOf, follows, last_of, IsTyped, AreSoFar, BeginNone, IsWalkedAs, IsWalked, TellsRows}
-use Rattle.table_load.specs.declared.walk.Walk.{Walk}
+use Rattle.table_load.proofs.Common.{AllByRecursion, AreLawful, AreRowsOf, AreSoFar, BeginNone, Error, IsAscending, IsTyped, IsWalked, IsWalkedAs, OnOk, Row, TellsRows, Walk, follows, last_of}
 use Rattle.table_load.proofs.TableLemmas.{is_less, push_lawful}
 
 module _ {X E F : Type 0} (Has : F → List X → Type 0) (meant : X → E) (to_row : E → Row) (cmp : E → E → Ordering) (IsLawful : E → Type 0) where

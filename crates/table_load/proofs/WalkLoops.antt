@@ -1,16 +1,13 @@
 -- A query that gives rows one at a time, and the walk that takes them.
-use Rattle.std.proofs.Common.{◌≡◌, inl, inr, ℕ, ◌≤◌, List, [], ◌∷◌, ◌++◌, Some, None, Option, Ok, Err, Result, IsTrue, refl, sym, subst, arith}
-use Rattle.table_load.proofs.Common.{IsErr, true, false, Held, state, Database, reads_listing, IsSourceOf, Row, State, HasCleanDisk, IsStatement, IsUnchanged, ShowsRows, Survives, Error, Compiled, unchanged_then, survives_then, Stops, not_run, query_stops, Agrees, AreLawful, IsTyped, IsWalked, IsReadOnly, Walks}
+use Rattle.table_load.proofs.Common.{Agrees, AreLawful, Compiled, Database, Err, Error, HasCleanDisk, Held, IsErr, IsReadOnly, IsSourceOf, IsStatement, IsTrue, IsTyped, IsUnchanged, IsWalked, List, None, Ok, Option, Result, Row, ShowsRows, Some, State, Stops, Survives, Walk, Walks, [], arith, false, inl, inr, not_run, query_stops, reads_listing, refl, state, subst, survives_then, sym, true, unchanged_then, understood, ℕ, ◌++◌, ◌∷◌, ◌≡◌, ◌≤◌}
 use Rattle.sqlite.specs.Given.{HasGiven, HasBegun, IsPlain, Returns}
 use Rattle.sqlite.specs.Clock.{timed}
-use Rattle.sqlite.specs.Listing.{understood}
 use Rattle.sqlite.specs.State.{FailsToQuery, Shown}
 use Rattle.sqlite_resolve.specs.declared.error.CompileError.{CompileError}
 use Rattle.sqlite_trees.specs.declared.store.Store.{Ghosts}
 use Rattle.std.specs.declared.cmp.Ordering.{Ordering}
 use Rattle.sqlite.proofs.StreamLemmas.{given_plain, rolled_back_since}
 use Rattle.station_schema.specs.Streams.{Moves}
-use Rattle.table_load.specs.declared.walk.Walk.{Walk}
 use Rattle.table_load.proofs.WholeLemmas.{at_rest}
 
 survives_same : (s : State) → Survives s s (λ _. ⊥)

@@ -1,7 +1,5 @@
 -- From the names in a schema to the rows that a query shows.
-use Rattle.std.proofs.Common.{◌≡◌, ◌≢◌, ℕ, List, [], map, Bool, true, false, None, Some, Option, IsTrue, refl, sym, ap, ◌∙◌}
-use Rattle.table_load.proofs.Common.{Schema, Vec, is_some, Text, Row, Trees, Table, State, Survives, IsUnchanged, Error, Stops, IsPermutation, AreInOrder, rows_of, found, found_at, found_in, table_by_name, places_by_name, IsQuery, column_names, IsReadOnly, is_whole, is_whole_in, ShowsWhole}
-use Rattle.std.specs.declared.alloc.Global.{Global}
+use Rattle.table_load.proofs.Common.{AreInOrder, Bool, Error, Global, IsPermutation, IsQuery, IsReadOnly, IsTrue, IsUnchanged, List, None, Option, Row, Schema, ShowsWhole, Some, State, Stops, Survives, Table, Text, Trees, Vec, [], ap, column_names, false, found, found_at, found_in, is_some, is_whole, is_whole_in, map, places_by_name, refl, rows_of, sym, table_by_name, true, ℕ, ◌∙◌, ◌≡◌, ◌≢◌}
 use Rattle.sqlite.specs.Order.{column}
 use Rattle.sqlite.specs.State.{FailsToQuery, Shown, CommitsShowing}
 use Rattle.table_load.specs.declared.query.TableQuery.{TableQuery}

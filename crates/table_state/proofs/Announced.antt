@@ -1,10 +1,7 @@
 -- The rows that announce waybills are of the declared ones of which nothing has come in.
 use Rattle.std.proofs.Common.{◌≡◌, ℕ, ℤ, pos, int_eq, ◌<ℤ◌, Bool, true, false, cond, not, ◌&&◌, ◌||◌, ◌==◌, Option, Some, None, option_map, List, [], ◌∷◌, map, refl, sym, ap, ap₂, subst, ◌∙◌, arith}
-use Rattle.table_state.proofs.Common.{BTreeSet, contains, is_sorted, AllByRecursion, filter, find, list_any, is_lt, nat_cmp, and_from, and_parts, nat_tests, ints, IsKeyedBy, get_by, balances_of, is_in, Move, AreAnnounced, has_come, State, AreAllBalances, AnnouncedRow, WaybillBalances, Tables, Waybill, waybill_id, Means, natural, declared_by, is_waybill_row, declared_told, HaveCome, announced_by, has_come_by}
-use Rattle.std.specs.FinMap.Entries.{below_all}
-use Rattle.shipment_machine.specs.declared.moves.Declared.{Declared}
+use Rattle.table_state.proofs.Common.{AllByRecursion, AnnouncedRow, AreAllBalances, AreAnnounced, BTreeSet, Declared, HaveCome, IsKeyedBy, Means, Move, State, Tables, Waybill, WaybillBalances, and_from, and_parts, announced_by, balances_of, below_all, contains, day_again, declared_by, declared_told, filter, find, get_by, has_come, has_come_by, ints, is_in, is_lt, is_sorted, is_waybill_row, list_any, nat_cmp, nat_tests, natural, waybill_id}
 use Rattle.row_codec.proofs.MapLaws.{each_passes}
-use Rattle.row_codec.proofs.Noted.{day_again}
 use Rattle.table_state.proofs.Balances.{known_from, not_found, numbers}
 
 -- ---- the numbers of the waybills of which pieces have come in

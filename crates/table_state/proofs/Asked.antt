@@ -1,12 +1,6 @@
 -- Which waybills may be asked for when one more move is in the book.
-use Rattle.std.proofs.Common.{◌≡◌, ℕ, ◌+◌, ◌-◌, ◌≤◌, Bool, true, false, not, ◌&&◌, ◌||◌, ◌==◌, nat_lt, List, [], ◌∷◌, ◌++◌, refl, sym, ap, ◌∙◌, arith, true≢false}
+use Rattle.table_state.proofs.Common.{Bool, Built, Delivered, Departed, Equal, Free, Greater, Hand, Irregular, Less, List, Missing, Move, Place, Stored, Surplus, Transferred, WaybillQuery, [], ap, arith, balances_of, brings, delivered, departed, drawn, false, found, held, in_store, insert_key, is_asked_for, is_in, match_ordering, missing, moved_in, moved_out, nat_cmp, nat_lt, nat_tests, not, opens, pieces_of, ranked, refl, same_place, sum_by_push, sym, taken, takes, transferred, true, true≢false, ℕ, ◌&&◌, ◌++◌, ◌+◌, ◌-◌, ◌==◌, ◌||◌, ◌∙◌, ◌∷◌, ◌≡◌, ◌≤◌}
 use Rattle.std.specs.Bool.{if◌then◌else◌}
-use Rattle.table_state.proofs.Common.{nat_cmp, match_ordering, insert_key, nat_tests, balances_of, brings, departed, delivered, drawn, found, held, in_store, missing, moved_in, moved_out, pieces_of, same_place, taken, takes, transferred, is_in, Move, Place, Hand, Surplus, Free, Built, Departed, Delivered, Missing, Transferred, is_asked_for, opens}
-use Rattle.std.specs.declared.cmp.Ordering.TheVariants.{Less, Equal, Greater}
-use Rattle.std.proofs.lemmas.Cmp.{ranked}
-use Rattle.std.proofs.lemmas.List.Sums.{sum_by_push}
-use Rattle.state_store.specs.declared.query.WaybillQuery.{WaybillQuery}
-use Rattle.state_store.specs.declared.query.WaybillQuery.TheVariants.{Irregular, Stored}
 
 -- a place in the store is none beyond it
 beyond : (q : Place) → not (in_store q) ≡ false

@@ -1,22 +1,13 @@
 -- The waybills that are asked for, from all balances in one list or from some of their numbers.
-use Rattle.std.proofs.Common.{append-nil, append_assoc, ◌≡◌, ℕ, ◌+◌, ◌-◌, ◌<◌, Bool, true, false, ◌&&◌, ◌||◌, ◌==◌, Some, List, [], ◌∷◌, ◌++◌, map, refl, sym, ap, ap₂, ◌∙◌, arith, zero-add, true≢false}
-use Rattle.table_state.proofs.Common.{IsTrue, is_sorted, AllByRecursion, filter, find, flat_map, nat_cmp, is_lt, and_parts, false≢true, nat_tests, Move, Place, Hand, Surplus, Free, Departed, Delivered, Missing, Transferred, balances_of, drawn, has_moves, held, moved_in, moved_out, pieces_of, same_place, takes, tenths_of, waybills_of, is_in, WaybillBalances, AreAllBalances, nothing, is_asked_for, with_balances, asked, waybills_for}
+use Rattle.table_state.proofs.Common.{AllByRecursion, AreAllBalances, Bool, Delivered, Departed, Equal, Free, Greater, Hand, Irregular, IsTrue, Less, List, Missing, Move, Place, Rising-filter, Rising-waybills_of, Some, Stored, Surplus, Transferred, WaybillBalances, WaybillQuery, [], and_parts, ap, append-nil, append_assoc, ap₂, arith, asked, balances_of, below_all, below_in, drawn, false, false≢true, filter, find, flat_map, has_moves, held, is_asked_for, is_in, is_in-filter, is_in-waybills_of, is_lt, is_sorted, map, moved_in, moved_out, nat_cmp, nat_tests, none_in, nothing, pieces_of, ranked, refl, same_place, same_rising, sum_by-cons, sym, takes, tenths_of, true, true≢false, waybills_for, waybills_of, with_balances, yes_here, zero-add, ℕ, ◌&&◌, ◌++◌, ◌+◌, ◌-◌, ◌<◌, ◌==◌, ◌||◌, ◌∙◌, ◌∷◌, ◌≡◌}
 use Rattle.std.specs.Bool.{if◌then◌else◌}
 use Rattle.std.specs.declared.cmp.Ordering.{Ordering}
-use Rattle.std.specs.declared.cmp.Ordering.TheVariants.{Less, Equal, Greater}
-use Rattle.std.specs.FinMap.Entries.{below_all}
 use Rattle.std.specs.List.Sorted.{IsStrictlySortedBy}
 use Rattle.std.specs.Option.{option_map, unwrap_or}
-use Rattle.std.proofs.lemmas.Cmp.{ranked}
 use Rattle.std.proofs.lemmas.Map.Keys.{sorted_head, sorted_tail}
-use Rattle.std.proofs.lemmas.List.Sums.{sum_by-cons}
 use Rattle.shipment_machine.specs.Amount.{amount}
 use Rattle.shipment_machine.specs.declared.moves.Balances.{Balances}
 use Rattle.shipment_machine.specs.Numbers.{IsAscending as Rising}
-use Rattle.shipment_machine.proofs.OnFlight.{Rising-waybills_of, is_in-waybills_of, none_in}
-use Rattle.shipment_machine.proofs.Rising.{Rising-filter, is_in-filter, same_rising, below_in, yes_here}
-use Rattle.state_store.specs.declared.query.WaybillQuery.{WaybillQuery}
-use Rattle.state_store.specs.declared.query.WaybillQuery.TheVariants.{Irregular, Stored}
 
 abbrev pub numbers : List WaybillBalances → List ℕ
 numbers rows = map (λ row. row.awb) rows

@@ -1,12 +1,9 @@
 -- What a row that was written makes of the state that is shown.
-use Rattle.std.proofs.Common.{◌≡◌, ℕ, ◌+◌, ◌<◌, ℤ, pos, Bool, true, false, IsTrue, List, [], ◌∷◌, ◌++◌, length, Option, Some, None, Result, Ok, Err, refl, sym, ap, subst, ◌∙◌}
-use Rattle.table_state.proofs.Common.{IfErr, if◌then◌else◌, length-append, is_utf8, FinMap, get_by, flight_text, Holders, is_run, run_of, test_of, refusal_number, lowest_failing, refused_by, order_refusal, after_order, FlightDate, list_all, Move, Part, State, View, IsShowing, Tables, Stock, stock_cmp, Count, count_cmp, Build, build_cmp, waybill_id, move_id, with_flight, with_expected, with_move, with_part, with_trail_line, with_message, with_kept, with_kept_text, confirming, is_count, AreNumbered, book_in, is_move_row, AreCounts, AreBuilds, running, holders_in, waybill_row, is_waybill_row, is_designator, flight_key, outbound_row, is_flight_row, expected_key, expected_row, is_expected_row, part_key, is_part_row, kept_row, meaning_of, IsReadable, Means, book_told, Lines, with_line, at_rest, IsRequest, sizes_of, on_cargo, with_moves, with_messages, with_key, with_text, with_order, Sizes, KnownCounts, AreCovered, Knows, AreBoarded, HasOpen, HaveAsked, IsCounted, Tells, Shows}
+use Rattle.table_state.proofs.Common.{AreBoarded, AreBuilds, AreCounts, AreCovered, AreKnown, AreNumbered, Bool, Build, Count, Declared, Err, FinMap, FlightDate, FlightSpans, HasOpen, HaveAsked, Holders, IfErr, IsCounted, IsReadable, IsRequest, IsShowing, IsTrue, KnownCounts, Knows, Lines, List, Means, Move, None, Ok, OpenLines, Option, Part, Restocked, Result, Shows, Sizes, Some, State, Stock, Stocked, Tables, Tells, View, WereThere, [], after_order, ap, at_rest, book_in, book_told, build_cmp, confirming, count_cmp, count_fits, expected_key, expected_row, false, flight_key, flight_text, get_by, holders_in, if◌then◌else◌, is_count, is_designator, is_expected_row, is_flight_row, is_message_row, is_move_row, is_part_row, is_run, is_trail_row, is_utf8, is_waybill_row, kept_row, length, length-append, line_row, list_all, lowest_failing, meaning_of, message_row, move_id, on_cargo, order_refusal, outbound_row, part_key, pos, put_over, putting_waybill, refl, refusal_number, refused_by, restocked, run_of, running, sizes_of, stock_cmp, subst, sym, test_of, true, using_up, waybill_id, waybill_row, with_expected, with_flight, with_kept, with_kept_text, with_key, with_line, with_message, with_messages, with_move, with_moves, with_order, with_part, with_text, with_trail_line, written, ℕ, ℤ, ◌++◌, ◌+◌, ◌<◌, ◌∙◌, ◌∷◌, ◌≡◌}
 use Rattle.agent_stock.specs.Refusing.{OnRefused, RefusesBy}
 use Rattle.agent_stock.specs.declared.stock.Order.{Order}
 use Rattle.agent_stock.specs.declared.stock.StockFault.{StockFault}
 use Rattle.agent_stock.specs.declared.stock.StockFault.TheVariants as fault
-use Rattle.shipment_machine.specs.Cargo.{written}
-use Rattle.shipment_machine.specs.declared.moves.Declared.{Declared}
 use Rattle.shipment_machine.specs.declared.moves.Outbound.{Outbound}
 use Rattle.shipment_machine.specs.declared.moves.Expected.{Expected}
 use Rattle.shipment_machine.specs.declared.plans.Change.TheVariants.{Declare, UseUp, NoteFlight, Expect, NotePart, Trail, Confirm}
@@ -15,17 +12,9 @@ use Rattle.station_core.specs.Step as step
 use Rattle.station_schema.specs.Store as row
 use Rattle.station_schema.specs.Tables as table
 use Rattle.row_codec.proofs.Moving.{HasMove}
-use Rattle.row_codec.specs.Logs.{line_row, is_trail_row, message_row, is_message_row}
-use Rattle.row_codec.proofs.Fits.{count_fits}
 use Rattle.row_codec.proofs.Written.{waybill_written, waybill_changed, flight_written, expected_written, part_written, key_kept, text_kept, line_written, message_written, mark_written, move_written}
 use Rattle.state_store.specs.Store.{inside}
-use Rattle.row_codec.specs.Known.{AreKnown}
-use Rattle.row_codec.specs.Posted.{WereThere}
-use Rattle.stock_tables.specs.Stocked.{Stocked, restocked, using_up, Restocked}
 use Rattle.table_state.specs.Recorded.{Recorded}
-use Rattle.table_state.specs.Put.{put_over, putting_waybill}
-use Rattle.table_state.specs.declared.open_lines.OpenLines.{OpenLines}
-use Rattle.table_state.specs.declared.flight_spans.FlightSpans.{FlightSpans}
 use Rattle.table_state.proofs.Lifting.{writes_on, reached}
 
 put_means : (t : Tables) (s : State) (text : List ℕ) (w : ℕ) (d : Declared) (new : table.Waybill) → new ≡ waybill_row w d → is_waybill_row (waybill_row w d) ≡ true → Means t (Some s)

@@ -1,6 +1,5 @@
 -- What a failed creation leaves, by the state that it means.
-use Rattle.std.proofs.Common.{◌≡◌, ℕ, true, List, Some, sym, ap, subst, ◌∙◌}
-use Rattle.table_state.proofs.Common.{is_airport, opening, Means}
+use Rattle.table_state.proofs.Common.{List, Means, Some, ap, is_airport, opening, subst, sym, true, ℕ, ◌∙◌, ◌≡◌}
 use Rattle.shipment_machine.proofs.Opening.{opening_lawful}
 use Rattle.sqlite.specs.State.{State, Survives}
 use Rattle.sqlite.specs.Tree.{Trees}

@@ -1,6 +1,6 @@
 -- Whether a waybill has moves, by their rows.
 use Rattle.std.proofs.Common.{rules, ◌≡◌, ◌==◌, ℕ, suc, ℤ, pos, negsuc, Bool, true, false, not, cond, ◌&&◌, ◌||◌, List, [], ◌∷◌, length, filter, refl, sym, ap₂, ◌∙◌, arith}
-use Rattle.table_state.proofs.Common.{nat_lt, Vec, vec_len, int_eq, list_all, ints, has_moves, is_of, natural, is_number, book_in, is_move_row}
+use Rattle.table_state.proofs.Common.{Vec, book_in, has_moves, int_eq, ints, is_move_row, is_number, is_of, list_all, nat_lt, natural, vec_len}
 use Rattle.std.specs.declared.alloc.Global.{Global}
 use Rattle.station_schema.specs.Tables as table
 

@@ -1,17 +1,10 @@
 -- From what the tables of a store show to the state that they mean.
-use Rattle.std.proofs.Common.{◌≡◌, ◌⊎◌, inl, inr, ⊎_elim, ℕ, true, false, List, Option, Some, Result, Ok, Err, refl, sym, subst, ◌∙◌}
-use Rattle.table_state.proofs.Common.{IfOk, OnErr, OnOk, State, Tables, View, Displays, IsShowing, MayCommit, running, Means, Changes, Reads, ReadsAtRest, Seen, Storing, Survives, at_rest, KnownCounts, AreCovered, Stands, Knows, AreBoarded, HasOpen, HaveAsked, IsCounted, Shows, Finds, IfGivenBack, in_tables}
+use Rattle.table_state.proofs.Common.{AreBoarded, AreCovered, AreKnown, Changes, Displays, Err, Finds, FlightSpans, HasOpen, HaveAsked, IfGivenBack, IfOk, IsCounted, IsShowing, KnownCounts, Knows, List, MayCommit, Means, Ok, OnErr, OnOk, OpenLines, Option, Reads, ReadsAtRest, Result, Seen, Shows, ShowsStill, Some, Stands, State, Storing, Survives, TableState, Tables, View, WasOpen, at_rest, false, in_tables, inl, inr, refl, running, same_meaning, subst, sym, true, ℕ, ⊎_elim, ◌∙◌, ◌≡◌, ◌⊎◌}
 use Rattle.station_schema.specs.Store as row
-use Rattle.row_codec.specs.Known.{AreKnown}
 use Rattle.row_codec.specs.declared.known.KnownSums.{KnownSums}
 use Rattle.station_rows.specs.Clauses as rows
-use Rattle.station_rows.specs.Clauses.{ShowsStill, WasOpen}
 use Rattle.state_store.specs.Store.{inside}
 use Rattle.table_state.specs.declared.missed.Missed.{Missed}
-use Rattle.table_state.specs.declared.open_lines.OpenLines.{OpenLines}
-use Rattle.table_state.specs.declared.flight_spans.FlightSpans.{FlightSpans}
-use Rattle.table_state.specs.declared.state.TableState.{TableState}
-use Rattle.table_state.specs.Laws.{same_meaning}
 
 -- what is said of each answer of a call is said of its result
 pub of_answer : {X E : Type 0} (Q : X → Type 0) (r : Result X E) → ((x : X) → r ≡ Ok x → Q x) → IfOk r Q

@@ -1,8 +1,6 @@
 -- What is open after a line is written: it is put in if it wasn't checked in, and taken out if it was.
-use Rattle.std.proofs.Common.{◌≡◌, ℕ, true, false, ◌&&◌, ◌==◌, cond, Option, Some, None, refl, sym, ap}
-use Rattle.table_state.proofs.Common.{same_flight_date, FlightDate, asked_of, expected_for, Lines, with_line}
+use Rattle.table_state.proofs.Common.{FlightDate, Lines, None, Open, Option, Some, ap, asked_of, cond, expected_for, false, refl, same_flight_date, sym, true, with_line, ℕ, ◌&&◌, ◌==◌, ◌≡◌}
 use Rattle.shipment_machine.specs.declared.moves.Expected.{Expected}
-use Rattle.station_core.specs.declared.rows.ExpectedQuery.TheVariants.{Open}
 
 module _ (lines : Lines) (flight : FlightDate) (w : ℕ) (e : Expected) where
   -- a line that is written is open as it is asked for

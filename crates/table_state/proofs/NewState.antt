@@ -1,11 +1,8 @@
 -- The tables of a new station mean a station with nothing in it.
-use Rattle.std.proofs.Common.{◌≡◌, ℕ, ℤ, pos, negsuc, Bool, true, false, List, [], ◌∷◌, length, Ordering, Option, Some, None, refl, sym, ◌∙◌, ap, subst, arith}
-use Rattle.table_state.proofs.Common.{IsTrue, if◌then◌else◌, find, get, empty, entries, get-empty, len-empty, len-entries, IsAscii, is_airport, Designator, FlightDate, Part, Place, State, opening, IsOpening, View, Tables, Stock, StockKey, stock_cmp, Flight, flight_cmp, Expected, expected_cmp, part_cmp, Kept, kept_cmp, kept_text_cmp, Count, CountKey, count_cmp, Build, BuildKey, build_cmp, natural, holder_by, stands_for, is_designator, outbound_by, flight_key, flights_in, plain_place, running, count_in, count_here, build_in, build_here, written_flight, expected_by, expected_key, expected_in, part_key, parts_in, kept_by, meaning_of, IsReadable, Means, at_rest, KnownCounts, Knows, IsCounted, HasThese, Shows}
+use Rattle.table_state.proofs.Common.{Bool, Build, BuildKey, Count, CountKey, Designator, Expected, Flight, FlightDate, HasThese, IsAscii, IsCounted, IsOpening, IsReadable, IsTrue, Kept, KnownCounts, Knows, List, Means, None, Option, Ordering, Part, Place, Shows, Some, State, Stock, StockKey, Tables, View, [], ap, arith, at_rest, build_cmp, build_here, build_in, count_cmp, count_here, count_in, empty, entries, expected_by, expected_cmp, expected_in, expected_key, false, find, flight_cmp, flight_key, flights_in, get, get-empty, holder_by, if◌then◌else◌, is_airport, is_designator, kept_by, kept_cmp, kept_text_cmp, len-empty, len-entries, length, meaning_of, natural, negsuc, opening, opening_cargo, outbound_by, part_cmp, part_key, parts_in, plain_place, pos, refl, running, same_meaning, stands_for, stock_cmp, subst, sym, true, written_flight, ℕ, ℤ, ◌∙◌, ◌∷◌, ◌≡◌}
 use Rattle.std.specs.Option.{option_map, option_and_then}
 use Rattle.desk_commands.proofs.Ascii.{IsAscii-airport}
-use Rattle.shipment_machine.specs.Cargo.{opening_cargo}
 use Rattle.station_core.specs.Step as step
-use Rattle.table_state.specs.Laws.{same_meaning}
 
 none_of : {X : Type 0} (xs : List X) → length xs ≡ 0 → xs ≡ []
 none_of [] e = refl

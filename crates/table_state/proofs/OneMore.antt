@@ -1,10 +1,6 @@
 -- How many waybills are on a flight when one more move is in the book.
-use Rattle.std.proofs.Common.{◌≡◌, ℕ, ◌<◌, ◌≤◌, length, get_or, set, get_or-set_same, get_or-set_other, length-set, below_more, All, suc, ◌+◌, ℤ, pos, neg_ℤ, ◌+ℤ◌, int_lt, nat_lt, ◌==◌, Bool, true, false, cond, ◌&&◌, ◌||◌, Option, Some, List, [], ◌∷◌, ◌++◌, refl, sym, ap, ap₂, subst, ◌∙◌, arith, true≢false}
-use Rattle.table_state.proofs.Common.{ints, nat_tests, pieces_of, balance, moved_in, moved_out, same_place, put_rising, waybills_on, is_in, FlightDate, Move, Place, Built, same_flight_date, IsBoarded, joins}
+use Rattle.table_state.proofs.Common.{All, Bool, Built, FlightDate, IsBoarded, List, Move, Option, Place, Rising-filter, Rising-put_rising, Rising-waybills_of, Some, WereThere, [], ap, ap₂, arith, balance, below_more, cond, false, get_or, get_or-set_other, get_or-set_same, int_lt, ints, is_in, is_in-put_rising, is_in-waybills_on, joins, length, length-set, moved_in, moved_out, nat_lt, nat_tests, neg_ℤ, pieces_of, pos, put_rising, refl, same_flight_date, same_place, same_rising, set, subst, suc, sym, true, true≢false, waybills_on, ℕ, ℤ, ◌&&◌, ◌++◌, ◌+ℤ◌, ◌+◌, ◌<◌, ◌==◌, ◌||◌, ◌∙◌, ◌∷◌, ◌≡◌, ◌≤◌}
 use Rattle.shipment_machine.proofs.FlightKeys.{same-is}
-use Rattle.shipment_machine.proofs.Rising.{Rising-put_rising, is_in-put_rising, Rising-filter, same_rising}
-use Rattle.shipment_machine.proofs.OnFlight.{Rising-waybills_of, is_in-waybills_on}
-use Rattle.row_codec.specs.Posted.{WereThere}
 use Rattle.row_codec.proofs.Tests.{and_no, is_nat}
 use Rattle.row_codec.proofs.Codes.{same_is}
 use Rattle.row_codec.proofs.FlightRows.{positive}

@@ -1,12 +1,7 @@
 -- What rows of tables do to the sink that they are handed on to.
-use Rattle.std.proofs.Common.{◌≡◌, ◌⊎◌, inl, inr, ℕ, zero, suc, Bool, true, false, List, [], ◌∷◌, map, take, length, Some, Result, Ok, Err, refl, sym, ap, subst, subst₂, ◌∙◌}
-use Rattle.table_state.proofs.Common.{IsOk, IsErr, OnOk, take-map, State, View, Tables, Means, HandsOut, at_rest, KnownCounts, Knows, Shows, in_tables}
-use Rattle.std.proofs.Math.Seq.{take-length}
-use Rattle.row_sinks.specs.Handed.{HandedOut, Hands}
+use Rattle.table_state.proofs.Common.{Bool, Err, HandedOut, Hands, HandsIfOpen, HandsOf, HandsOut, IsErr, IsOk, KnownCounts, Knows, List, Means, Ok, OnOk, Result, Shows, Some, State, TableState, Tables, View, [], ap, at_rest, false, in_tables, inl, inr, length, map, refl, subst, subst₂, suc, sym, take, take-length, take-map, true, zero, ℕ, ◌∙◌, ◌∷◌, ◌≡◌, ◌⊎◌}
 use Rattle.station_schema.specs.Store as row
 use Rattle.station_rows.specs.Clauses as rows
-use Rattle.station_rows.specs.Clauses.{HandsIfOpen, HandsOf}
-use Rattle.table_state.specs.declared.state.TableState.{TableState}
 use Rattle.table_state.specs.Shown as shown
 use Rattle.table_state.proofs.Lifting.{rests_on, seen_in, survives_so}
 use Rattle.table_state.specs.Handing.{Tells}

@@ -1,8 +1,6 @@
 -- A row that is written over the one with its key.
-use Rattle.std.proofs.Common.{◌≡◌, Bool, true, false, Option, Some, None, sym, ap, subst, ◌∙◌, Ordering}
-use Rattle.table_state.proofs.Common.{option_map, unwrap_or, is_some, FinMap, get, insert, get_by, View, Displays, IsShowing, inside, Tables, Waybill, waybill_id, Flight, FlightKey, Expected, ExpectedKey, WaybillRow, FlightRow, ExpectedRow, waybill_meant, flight_meant, expected_meant, with_waybill, changing_waybill, with_flight, changing_flight, with_expected, changing_expected}
+use Rattle.table_state.proofs.Common.{Bool, Displays, Expected, ExpectedKey, ExpectedRow, FinMap, Flight, FlightKey, FlightRow, IsShowing, None, Option, Ordering, Some, Tables, View, Waybill, WaybillRow, ap, changing_expected, changing_flight, changing_waybill, expected_meant, false, flight_meant, get, get_by, insert, inside, is_some, option_map, put_over, putting_waybill, subst, sym, true, unwrap_or, waybill_id, waybill_meant, with_expected, with_flight, with_waybill, ◌∙◌, ◌≡◌}
 use Rattle.station_schema.specs.ColumnKeys.{adjust}
-use Rattle.table_state.specs.Put.{put_over, putting_waybill}
 
 adjusts : {K V A : Type 0} {R : K → K → Ordering} (m : FinMap R V) (k : K) (meant : A → V) (found : Option A) (new : V) → is_some found ≡ true → option_map meant found ≡ get m k → adjust m k (λ _. new) ≡ insert m k new
 adjusts m k meant None new some has = absurd (cc)

@@ -1,16 +1,11 @@
 -- What was read of a row is what the state has that is shown.
 use Rattle.std.proofs.Common.{◌≡◌, ℕ, ℤ, pos, Bool, true, List, length, Option, Some, option_map, is_some, map, filter, not, sym, ap, subst, ◌∙◌}
-use Rattle.table_state.proofs.Common.{nat_lt, BTreeSet, contains, entries, get, nat_cmp, length-map, IsKeyedBy, get_by, flight_text, Holders, holders_in, has_moves, AreCounts, AreBuilds, FlightDate, Move, Part, AreAnnounced, AreExpectations, AreNoted, State, AnnouncedRow, Tables, waybill_id, WaybillRow, FlightRow, ExpectedRow, waybill_meant, flight_meant, noted_flight_meant, expected_meant, listed_waybill_meant, move_meant, is_of, kept_meant, natural, declared_by, is_designator, noted_by, outbound_by, expectation_by, expected_by, Means, book_in, kept_by, holders_told, book_told, HaveCome, announced_by}
+use Rattle.table_state.proofs.Common.{AnnouncedRow, AreAnnounced, AreBuilds, AreCounts, AreExpectations, AreNoted, BTreeSet, ExpectedRow, FlightDate, FlightRow, HaveCome, Holders, IsKeyedBy, KeptRow, ListedWaybillRow, Means, Move, NotedFlightRow, Part, State, Stocked, Tables, WaybillRow, announced_by, book_in, book_told, contains, declared_by, entries, expectation_by, expectations_told, expected_by, expected_meant, flight_meant, flight_text, get, get_by, has_moves, holders_in, holders_told, is_designator, is_of, kept_by, kept_meant, length-map, listed_waybill_meant, move_meant, nat_cmp, nat_lt, natural, noted_by, noted_flight_meant, noted_told, outbound_by, waybill_id, waybill_meant}
 use Rattle.sqlite_trees.proofs.ListLemmas.{map-map}
-use Rattle.stock_tables.specs.Stocked.{Stocked}
 use Rattle.station_core.specs.declared.rows.Expectation.{Expectation}
 use Rattle.station_core.specs.declared.rows.NotedFlight.{NotedFlight}
-use Rattle.station_rows.specs.declared.flights.NotedFlightRow.{NotedFlightRow}
-use Rattle.station_rows.specs.declared.expected.ListedWaybillRow.{ListedWaybillRow}
 use Rattle.station_rows.specs.declared.moves.MoveRow.{MoveRow}
-use Rattle.station_rows.specs.declared.kept.KeptRow.{KeptRow}
 use Rattle.row_codec.proofs.Reading.{declared_read, outbound_read, expected_read, part_read, kept_key_read, kept_text_read}
-use Rattle.row_codec.proofs.Noted.{expectations_told, noted_told}
 use Rattle.table_state.proofs.Announced.{announced_told}
 use Rattle.table_state.proofs.HasMoves.{any_move}
 

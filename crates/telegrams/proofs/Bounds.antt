@@ -1,11 +1,8 @@
 -- The line of a fault is one of the lines, or 0.
-use Rattle.std.proofs.Common.{◌≡◌, ℕ, ◌+◌, ◌<◌, ◌≤◌, Bool, true, false, cond, List, [], ◌∷◌, ◌++◌, length, map, take, drop, Option, Some, None, Err, refl, ap, arith}
-use Rattle.telegrams.proofs.Common.{nat_lt, nat_le, position, length-map, fault_in, fault_at, first_fault, fault_of, unless_fault, from_line, is_message_line, line_fault, lines_of, normal_lines, IsFaultBy, IsFaultOf, TextFault, ffm_fault, ffm_line_faults, cargo_faults, has_last_line, fsu_fault, fsu_line_faults}
-use Rattle.std.proofs.lemmas.Bool.{ltb-false}
+use Rattle.telegrams.proofs.Common.{Bool, Err, IsFaultBy, IsFaultOf, List, None, Option, Some, TextFault, [], ap, arith, cargo_faults, cond, drop, false, fault_at, fault_in, fault_of, ffm_fault, ffm_line_faults, first_fault, from_line, fsu_fault, fsu_line_faults, fwb_fault, fwb_line_faults, has_last_line, is_message_line, length, length-map, line_fault, lines_of, ltb-false, map, nat_le, nat_lt, normal_lines, position, refl, take, true, unless_fault, ℕ, ◌++◌, ◌+◌, ◌<◌, ◌∷◌, ◌≡◌, ◌≤◌}
 use Rattle.station_days.specs.Steps.{or_else}
 use Rattle.imp_fields.specs.declared.fault.Why.{Why}
 use Rattle.imp_fields.specs.declared.fault.Why.TheVariants as why
-use Rattle.fwb_text.specs.Fwb.{fwb_fault, fwb_line_faults}
 
 abbrev some : TextFault → Option TextFault
 some told = Some told

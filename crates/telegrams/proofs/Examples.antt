@@ -1,10 +1,8 @@
 -- Worked telegrams, computed.
-use Rattle.std.proofs.Common.{◌≡◌, ℕ, List, [], ◌∷◌, ◌++◌, Option, Some, None, refl}
-use Rattle.telegrams.proofs.Common.{codes, sent_text, normal_text, Notice, cargo_line, IsTelegram, telegram_fault, refusal_of, notice_text}
+use Rattle.telegrams.proofs.Common.{IsTelegram, List, None, Notice, Option, Shipment, Some, [], cargo_line, codes, normal_text, notice_text, refl, refusal_of, sent_text, telegram_fault, ℕ, ◌++◌, ◌∷◌, ◌≡◌}
 use Rattle.std.specs.Option.{option_map}
 use Rattle.std.specs.Fmt.{digits}
 use Rattle.awb_number.specs.Number.{key_of}
-use Rattle.imp_fields.specs.Consignment.{Shipment}
 use Rattle.imp_fields.specs.declared.amount.ShipmentCode.TheVariants.{Total}
 use Rattle.imp_fields.specs.declared.fault.Why.TheVariants as why
 use Rattle.shipment_machine.specs.declared.plans.Refusal.{Refusal}

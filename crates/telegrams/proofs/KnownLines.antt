@@ -1,9 +1,6 @@
 -- The lines of a manifest, each of which is as its types allow.
-use Rattle.std.proofs.Common.{◌≡◌, ℕ, true, List, [], ◌∷◌, map}
-use Rattle.telegrams.proofs.Common.{All, ManifestLine, sent_load}
-use Rattle.std.proofs.lemmas.List.Elements.{All-head, All-tail}
+use Rattle.telegrams.proofs.Common.{All, All-head, All-tail, AreLoads, IsLoad, List, ManifestLine, [], map, sent_load, true, ℕ, ◌∷◌, ◌≡◌}
 use Rattle.imp_fields.specs.Airport.{is_airport}
-use Rattle.ffm_text.specs.Written.{IsLoad, AreLoads}
 
 abbrev pub IsAirport : List ℕ → Type 0
 IsAirport text = is_airport text ≡ true

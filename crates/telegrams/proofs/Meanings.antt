@@ -1,6 +1,5 @@
 -- Bytes mean a telegram exactly where they have no fault, and then one telegram only.
-use Rattle.std.proofs.Common.{◌≡◌, ℕ, List, Option, Some, None, Result, Ok, Err, refl, sym, ap, subst, ◌∙◌}
-use Rattle.telegrams.proofs.Common.{normal_lines, normal_text, first_kind, TextFault, Meant, cargo_line, part_content, status_content, Says, kind_said, IsTelegram, message_fault, fault_by, telegram_fault}
+use Rattle.telegrams.proofs.Common.{Err, IsTelegram, List, Meant, None, Ok, Option, Result, Says, Some, TextFault, ap, cargo_line, fault_by, first_kind, kind_said, message_fault, normal_lines, normal_text, part_content, refl, status_content, subst, sym, telegram_fault, ℕ, ◌∙◌, ◌≡◌}
 use Rattle.imp_fields.specs.declared.line.MessageKind.{MessageKind}
 use Rattle.imp_fields.specs.declared.line.MessageKind.TheVariants as kinds
 use Rattle.fwb_text.proofs.Laws as fwb

@@ -1,6 +1,5 @@
 -- From the fault of a part to the fault of the bytes.
-use Rattle.std.proofs.Common.{◌≡◌, ℕ, List, Option, Some, None, Result, Ok, Err}
-use Rattle.telegrams.proofs.Common.{fault_of, normal_lines, TextFault, fault_by, RefusesAs, RefusesText}
+use Rattle.telegrams.proofs.Common.{Err, List, None, Ok, Option, RefusesAs, RefusesText, Result, Some, TextFault, fault_by, fault_of, normal_lines, ℕ, ◌≡◌}
 use Rattle.telegrams.specs.declared.telegram.TelegramFault.{TelegramFault}
 use Rattle.telegrams.specs.declared.telegram.TelegramFault.TheVariants as fault
 

@@ -1,11 +1,7 @@
-use Rattle.std.proofs.Common.{◌≡◌, ◌<◌, ◌+◌, ◌++◌, [], ◌∷◌, length, take, drop, sym, ap, ◌∙◌, subst, arith}
-use Rattle.agent_stock.proofs.Common.{AllByRecursion, AreStockRuns, IsRunRow, StandFrom, holders_by}
-use Rattle.std.proofs.lemmas.List.{drop_more, take_more, take_all, take-append-drop}
-use Rattle.agent_stock.proofs.OneMore.{each_behind, no_runs, none_yet, one_more}
+use Rattle.agent_stock.proofs.Common.{AllByRecursion, AreStockRuns, IsRunRow, StandFrom, [], ap, arith, drop, holders_by, length, subst, sym, take, ◌++◌, ◌+◌, ◌<◌, ◌∙◌, ◌∷◌, ◌≡◌}
+use Rattle.std.proofs.lemmas.List.{drop_more, take_more, take-append-drop}
+use Rattle.agent_stock.proofs.OneMore.{each_behind, none_yet, one_more}
 use Rattle.agent_stock.proofs.runs.maximal_runs.Goals as goal
-
-pub loop-row-init : goal.loop-row-init
-loop-row-init c = λ are. subst (AreStockRuns (holders_by [])) (sym c.new-runs.ensures.items) no_runs
 
 pub loop-row-preserved : goal.loop-row-preserved
 loop-row-preserved c = λ are.
@@ -20,8 +16,3 @@ loop-row-preserved c = λ are.
     let fits = each_behind IsRunRow (take n rows) row (drop (n + 1) rows) (subst (AllByRecursion IsRunRow) whole are.each) in
     subst (λ h. AreStockRuns h c.put_run.new.runs.items) (one_more row (drop (n + 1) rows) 0 (take n rows) up ∙ ap holders_by (sym next))
     (c.in_ok-put_run.ensures (holders_by (take n rows)) fits (none_yet row (drop (n + 1) rows) 0 (take n rows) up) (c.loop-row.invariant are))
-
-pub returns : goal.returns
-returns c = λ are.
-    let rows = c.args.rows.now in
-    subst (λ l. AreStockRuns (holders_by l) c.loop-row.runs.items) (take_all c.loop-row.row-index rows (omega arith)) (c.loop-row.invariant are)

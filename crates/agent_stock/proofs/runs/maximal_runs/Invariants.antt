@@ -1,5 +1,4 @@
-use Rattle.std.proofs.Common.{take}
-use Rattle.agent_stock.proofs.Common.{AreRuns, AreStockRuns, holders_by}
+use Rattle.agent_stock.proofs.Common.{AreRuns, AreStockRuns, holders_by, take}
 use Rattle.agent_stock.proofs.runs.maximal_runs.Given as goal
 
 -- the runs so far are those of the rows so far

@@ -1,6 +1,5 @@
-use Rattle.std.proofs.Common.{◌≡◌, ◌++◌, ◌+◌, ◌^◌, ◌-◌, ◌≤◌, ◌∷◌, [], min, ℕ, arith, ap, sym, ◌∙◌, subst, true≢false}
+use Rattle.agent_stock.proofs.Common.{AreStockRuns, [], ap, arith, min, subst, sym, true≢false, ℕ, ◌++◌, ◌+◌, ◌-◌, ◌^◌, ◌∙◌, ◌∷◌, ◌≡◌, ◌≤◌}
 use Rattle.std.proofs.Math.Nat.{min-eq_left}
-use Rattle.agent_stock.proofs.Common.{AreStockRuns}
 use Rattle.agent_stock.proofs.JoinedRuns.{run_behind, run_longer, in_prefix}
 use Rattle.agent_stock.proofs.runs.put_run.Goals as goal
 

@@ -1,5 +1,4 @@
-use Rattle.std.proofs.Common.{◌∙◌, refl, sym, ap, subst, ℕ, List, Some, IsTrue}
-use Rattle.serde_json.specs.Data.{string}
+use Rattle.cli_run.proofs.Common.{IsTrue, List, Some, ap, refl, string, subst, sym, ℕ, ◌∙◌}
 use Rattle.station_core.specs.Key.{is_key}
 use Rattle.cli_run.proofs.ActLines.{text_of}
 use Rattle.cli_run.proofs.act_line.frame.Goals as goal

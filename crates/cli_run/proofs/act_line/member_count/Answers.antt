@@ -1,5 +1,4 @@
-use Rattle.std.proofs.Common.{sym}
-use Rattle.serde_json.specs.View.{view}
+use Rattle.cli_run.proofs.Common.{sym, view}
 use Rattle.cli_run.proofs.ActLines.{counted}
 use Rattle.cli_run.proofs.act_line.member_count.Goals as goal
 

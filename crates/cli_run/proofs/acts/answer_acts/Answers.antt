@@ -1,5 +1,4 @@
-use Rattle.std.proofs.Common.{◌∙◌, refl, sym, inr, true, None, []}
-use Rattle.cli_run.proofs.Common.{call, kept_lines}
+use Rattle.cli_run.proofs.Common.{None, [], call, inr, kept_lines, refl, sym, true, ◌∙◌}
 use Rattle.cli_run.proofs.InTurn.{none_first, told_items}
 use Rattle.cli_run.proofs.ToldBy.{told_read, told_whole}
 use Rattle.cli_run.proofs.acts.answer_acts.Goals as goal

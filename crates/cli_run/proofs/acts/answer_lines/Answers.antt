@@ -1,5 +1,4 @@
-use Rattle.std.proofs.Common.{arith, rules, ◌≡◌, ◌+◌, ◌<◌, ap, refl, sym, subst, ℕ, List, [], ◌∷◌, ◌++◌, length, Some, Ok, Err}
-use Rattle.cli_run.proofs.Common.{call, kept_lines}
+use Rattle.cli_run.proofs.Common.{Err, List, Ok, Some, [], ap, arith, call, kept_lines, length, refl, rules, subst, sym, ℕ, ◌++◌, ◌+◌, ◌<◌, ◌∷◌, ◌≡◌}
 use Rattle.cli_run.proofs.InTurn.{answered_more, length_more, passed_items}
 use Rattle.cli_run.proofs.Lines.{known_start, known_more, known_end, known_first, Read}
 use Rattle.cli_run.proofs.acts.answer_lines.Goals as goal

@@ -1,5 +1,4 @@
-use Rattle.std.proofs.Common.{◌≡◌, ◌+◌, List, ℕ, length, IfSome}
-use Rattle.cli_run.proofs.Common.{call, AreAnswered}
+use Rattle.cli_run.proofs.Common.{AreAnswered, IfSome, List, call, length, ℕ, ◌+◌, ◌≡◌}
 use Rattle.cli_run.proofs.Lines.{Known}
 use Rattle.cli_run.proofs.acts.answer_lines.Given as goal
 

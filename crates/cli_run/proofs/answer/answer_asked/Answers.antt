@@ -1,5 +1,4 @@
-use Rattle.std.proofs.Common.{refl, sym, subst, true, [], ◌∷◌, ◌++◌}
-use Rattle.cli_run.proofs.Common.{codes, is_unread, call, Request, numbered, HasAnswered}
+use Rattle.cli_run.proofs.Common.{HasAnswered, Request, [], call, codes, is_unread, numbered, refl, subst, sym, true, ◌++◌, ◌∷◌}
 use Rattle.station_core.specs.Texts.{refusal_text}
 use Rattle.cli_run.specs.declared.request.Request.TheVariants as asked
 use Rattle.cli_run.proofs.Unanswered.{unasked}

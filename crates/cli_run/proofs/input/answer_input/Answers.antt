@@ -1,5 +1,4 @@
-use Rattle.std.proofs.Common.{rules, inl, inr}
-use Rattle.cli_run.proofs.Common.{call}
+use Rattle.cli_run.proofs.Common.{call, inl, inr, rules}
 use Rattle.cli_run.proofs.Ran.{each_heard, not_received, passed_on}
 use Rattle.cli_run.proofs.input.answer_input.Goals as goal
 

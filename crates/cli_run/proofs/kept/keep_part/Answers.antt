@@ -1,6 +1,6 @@
 use Rattle.std.proofs.Common.{◌≡◌, ◌≤◌, ◌<◌, ◌-◌, ◌++◌, List, ℕ, length, take, drop, get_or, get_or-take, sym, ap, subst, ◌∙◌, rules, arith, eq-eqb, eqb-true, true≢false, length-append, length-take-le, take-take}
 use lib.Seq.{take-append_seam}
-use Rattle.cli_run.proofs.Common.{FillKeeps, DropsConsumable, Consumes, Consumes_shown}
+use Rattle.cli_run.proofs.Common.{Consumes, Consumes_shown, DropsConsumable, FillKeeps}
 use Rattle.std.proofs.KnownBytes.{starts_with_rest}
 use Rattle.cli_run.proofs.KeptLines.{no_end_in}
 use Rattle.cli_run.proofs.kept.keep_part.Goals.{then-read-eq0, else-read-eq0}

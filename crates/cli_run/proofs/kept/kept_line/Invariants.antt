@@ -1,5 +1,4 @@
-use Rattle.std.proofs.Common.{◌≢◌, ◌≤◌, ◌+◌, ◌-◌, All, length}
-use Rattle.cli_run.proofs.Common.{Consumes, most_line}
+use Rattle.cli_run.proofs.Common.{All, Consumes, length, most_line, ◌+◌, ◌-◌, ◌≢◌, ◌≤◌}
 use Rattle.cli_run.proofs.kept.kept_line.Given as goal
 
 -- the line so far was read, and has no end

@@ -1,5 +1,4 @@
-use Rattle.std.proofs.Common.{◌≡◌, ◌≤◌, ◌+◌, [], length}
-use Rattle.cli_run.proofs.Common.{most_bytes, HasGrown}
+use Rattle.cli_run.proofs.Common.{HasGrown, [], length, most_bytes, ◌+◌, ◌≡◌, ◌≤◌}
 use Rattle.cli_run.proofs.reading.read_input.Given as goal
 
 abbrev pub invariant-loop-turn : goal.invariant-loop-turn

@@ -1,6 +1,5 @@
-use Rattle.std.proofs.Common.{sym}
+use Rattle.cli_run.proofs.Common.{fields_of, sym}
 use Rattle.cli_run.proofs.RowFields.{there}
-use Rattle.cli_run.proofs.Common.{fields_of}
 use Rattle.cli_run.proofs.row.field.Goals as goal
 
 pub unreachable-requires : goal.unreachable-requires

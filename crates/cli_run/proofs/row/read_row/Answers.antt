@@ -1,5 +1,4 @@
-use Rattle.std.proofs.Common.{◌∙◌, sym}
-use Rattle.cli_run.proofs.Common.{fields_of}
+use Rattle.cli_run.proofs.Common.{fields_of, sym, ◌∙◌}
 use Rattle.cli_run.proofs.RowFields.{six}
 use Rattle.cli_run.proofs.row.read_row.Goals as goal
 

@@ -1,5 +1,4 @@
-use Rattle.std.proofs.Common.{◌∙◌, refl, sym, inr, true, None, []}
-use Rattle.cli_run.proofs.Common.{call, stock_rows}
+use Rattle.cli_run.proofs.Common.{None, [], call, inr, refl, stock_rows, sym, true, ◌∙◌}
 use Rattle.cli_run.proofs.InTurn.{none_first, told_items}
 use Rattle.cli_run.proofs.ToldBy.{told_read, told_whole}
 use Rattle.cli_run.proofs.rows.answer_list.Goals as goal

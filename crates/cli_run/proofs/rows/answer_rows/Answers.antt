@@ -1,5 +1,4 @@
-use Rattle.std.proofs.Common.{rules, arith, ◌≡◌, ◌∙◌, ap, sym, refl, inl, inr, ℕ, ◌+◌, ◌<◌, ◌≤◌, List, [], ◌∷◌, ◌++◌, length, Some, None, Ok, Err, subst, Fits, w64}
-use Rattle.cli_run.proofs.Common.{fields_of, call, IsReadersFault, Row, stock_rows}
+use Rattle.cli_run.proofs.Common.{Err, Fits, IsReadersFault, List, None, Ok, Row, Some, [], ap, arith, call, fields_of, inl, inr, length, refl, rules, stock_rows, subst, sym, w64, ℕ, ◌++◌, ◌+◌, ◌<◌, ◌∙◌, ◌∷◌, ◌≡◌, ◌≤◌}
 use Rattle.cli_run.proofs.InTurn.{answered_more, passed_items}
 use Rattle.cli_run.proofs.MoreRows.{known_start, known_more, known_end, known_first, counted_more, readers_fault}
 use Rattle.cli_run.proofs.rows.answer_rows.Goals as goal

@@ -1,5 +1,4 @@
-use Rattle.std.proofs.Common.{◌≡◌, List, ◌+◌, ◌<◌, ◌≤◌, length, IfSome}
-use Rattle.cli_run.proofs.Common.{Ready, default_config, call, AreAnswered, Row}
+use Rattle.cli_run.proofs.Common.{AreAnswered, IfSome, List, Ready, Row, call, default_config, length, ◌+◌, ◌<◌, ◌≡◌, ◌≤◌}
 use Rattle.csv.specs.declared.reader.Trim.TheVariants as trim
 use Rattle.cli_run.proofs.MoreRows.{Known}
 use Rattle.cli_run.proofs.rows.answer_rows.Given as goal

@@ -1,4 +1,4 @@
-use Rattle.cli_run.proofs.Common.{call, kept_lines, HasAnsweredLine}
+use Rattle.cli_run.proofs.Common.{HasAnsweredLine, call, kept_lines}
 use Rattle.cli_run.proofs.Ran.{line_service, run_serves}
 use Rattle.cli_run.proofs.run.do_acts.Goals as goal
 

@@ -1,4 +1,4 @@
-use Rattle.cli_run.proofs.Common.{call, stock_rows, HasAnsweredRow}
+use Rattle.cli_run.proofs.Common.{HasAnsweredRow, call, stock_rows}
 use Rattle.cli_run.proofs.Ran.{row_service, run_serves}
 use Rattle.cli_run.proofs.run.do_stock.Goals as goal
 

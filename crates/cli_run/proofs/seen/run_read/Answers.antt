@@ -1,5 +1,4 @@
-use Rattle.std.proofs.Common.{rules, subst, ℕ, List}
-use Rattle.cli_run.proofs.Common.{string_bytes, has_reason, IsSeen}
+use Rattle.cli_run.proofs.Common.{IsSeen, List, has_reason, rules, string_bytes, subst, ℕ}
 use Rattle.cli_run.proofs.Looks.{all_seen, part_seen}
 use Rattle.cli_run.proofs.seen.run_read.Goals as goal
 

@@ -1,5 +1,4 @@
-use Rattle.std.proofs.Common.{ap, inl}
-use Rattle.cli_run.proofs.Common.{has_reason}
+use Rattle.cli_run.proofs.Common.{ap, has_reason, inl}
 use Rattle.cli_run.proofs.Looks.{ok_more}
 use Rattle.cli_run.proofs.seen.seen_of.Goals as goal
 

@@ -1,5 +1,4 @@
-use Rattle.std.proofs.Common.{None}
-use Rattle.cli_run.proofs.Common.{call, HasTakenNext}
+use Rattle.cli_run.proofs.Common.{HasTakenNext, None, call}
 use Rattle.cli_run.proofs.InTurn.{made_more, made_until}
 use Rattle.cli_run.proofs.takes.answer_takes.Goals as goal
 

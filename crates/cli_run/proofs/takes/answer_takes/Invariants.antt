@@ -1,5 +1,4 @@
-use Rattle.std.proofs.Common.{None}
-use Rattle.cli_run.proofs.Common.{call, AreMade, HasTakenNext}
+use Rattle.cli_run.proofs.Common.{AreMade, HasTakenNext, None, call}
 use Rattle.cli_run.proofs.takes.answer_takes.Given as goal
 
 -- the inputs so far were taken

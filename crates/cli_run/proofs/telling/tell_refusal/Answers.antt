@@ -1,5 +1,4 @@
-use Rattle.std.proofs.Common.{rules}
-use Rattle.cli_run.proofs.Common.{is_unread, reason_head}
+use Rattle.cli_run.proofs.Common.{is_unread, reason_head, rules}
 use Rattle.cli_run.specs.declared.request.Request.TheVariants as asked
 use Rattle.cli_run.proofs.Reasons.{told_if}
 use Rattle.cli_run.proofs.telling.tell_refusal.Goals as goal

@@ -1,5 +1,4 @@
-use Rattle.std.proofs.Common.{codes}
-use Rattle.cli_run.proofs.Common.{numbered_head}
+use Rattle.cli_run.proofs.Common.{codes, numbered_head}
 use Rattle.cli_run.proofs.telling.tell_unread.Goals as goal
 
 pub returns-in-Some : goal.returns-in-Some

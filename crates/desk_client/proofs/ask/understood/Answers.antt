@@ -1,5 +1,4 @@
-use Rattle.std.proofs.Common.{rules, ◌≤◌, subst, List, ℕ, length}
-use Rattle.desk_client.proofs.Common.{IsFound}
+use Rattle.desk_client.proofs.Common.{IsFound, List, length, rules, subst, ℕ, ◌≤◌}
 use Rattle.desk_client.specs.declared.whole.Found.TheVariants as found
 use Rattle.desk_client.proofs.ask.understood.Goals as goal
 

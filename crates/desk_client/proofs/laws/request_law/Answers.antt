@@ -1,8 +1,7 @@
-use Rattle.desk_client.proofs.Common.{number_text, number_again, report_path, rows_path, history_path, holder_path, waybill_path}
+use Rattle.desk_client.proofs.Common.{got_history, got_holder, got_report, got_waybill, history_path, holder_path, number_again, number_text, report_path, rows_path, waybill_path}
 use Rattle.reports.specs.declared.form.Form.TheVariants.{Text}
 use Rattle.reports.specs.declared.listing.Listing.TheVariants.{All}
 use Rattle.http_desk.specs.Printouts.{as_text, in_form}
-use Rattle.http_desk.specs.Routes.{got_history, got_holder, got_report, got_waybill}
 use Rattle.desk_client.proofs.ReadBack.{command_read, got_read, telegram_read}
 use Rattle.desk_client.proofs.laws.request_law.Goals as goal
 

@@ -1,5 +1,4 @@
-use Rattle.std.proofs.Common.{refl, ◌∙◌}
-use Rattle.desk_client.proofs.Common.{call, most_of, request_of}
+use Rattle.desk_client.proofs.Common.{call, most_of, refl, request_of, ◌∙◌}
 use Rattle.desk_client.proofs.Hearing.{told, unlined}
 use Rattle.desk_client.proofs.line.answer_input.Goals as goal
 

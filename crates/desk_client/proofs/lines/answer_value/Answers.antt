@@ -1,4 +1,4 @@
-use Rattle.desk_client.proofs.Common.{view, call, posted_request, most_of, request_of}
+use Rattle.desk_client.proofs.Common.{call, most_of, posted_request, request_of, view}
 use Rattle.desk_client.proofs.Posts.{heard_line, posted_of}
 use Rattle.desk_client.proofs.lines.answer_value.Goals as goal
 

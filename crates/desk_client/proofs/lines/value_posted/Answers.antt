@@ -1,5 +1,4 @@
-use Rattle.std.proofs.Common.{string_bytes}
-use Rattle.desk_client.proofs.Common.{view, posted_request}
+use Rattle.desk_client.proofs.Common.{posted_request, string_bytes, view}
 use Rattle.desk_client.proofs.Posts.{framed}
 use Rattle.desk_client.proofs.lines.value_posted.Goals as goal
 

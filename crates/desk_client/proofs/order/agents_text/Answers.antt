@@ -1,5 +1,4 @@
-use Rattle.std.proofs.Common.{arith, refl, string_bytes}
-use Rattle.desk_client.proofs.Common.{view, agents_object}
+use Rattle.desk_client.proofs.Common.{agents_object, arith, refl, string_bytes, view}
 use Rattle.desk_client.proofs.OrderTexts.{written}
 use Rattle.desk_client.proofs.order.agents_text.Goals as goal
 

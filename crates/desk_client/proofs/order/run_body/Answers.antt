@@ -1,5 +1,4 @@
-use Rattle.std.proofs.Common.{rules, string_bytes}
-use Rattle.desk_client.proofs.Common.{number_takes}
+use Rattle.desk_client.proofs.Common.{number_takes, rules, string_bytes}
 use Rattle.desk_client.proofs.OrderTexts.{same_text, prefix_digits, serial_digits, run_same}
 use Rattle.desk_client.proofs.order.run_body.Goals as goal
 

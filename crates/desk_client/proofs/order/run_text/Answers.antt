@@ -1,5 +1,4 @@
-use Rattle.std.proofs.Common.{arith, ◌≡◌, refl, rules, string_bytes}
-use Rattle.desk_client.proofs.Common.{view, run_object}
+use Rattle.desk_client.proofs.Common.{arith, refl, rules, run_object, string_bytes, view, ◌≡◌}
 use Rattle.serde_json.specs.declared.value.Value.{the_lemmas}
 use Rattle.serde_json.proofs.OnLiterals.{serde_json_on_literals}
 use Rattle.desk_client.proofs.OrderTexts.{written}

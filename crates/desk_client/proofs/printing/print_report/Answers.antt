@@ -1,5 +1,4 @@
-use Rattle.std.proofs.Common.{arith, ◌+◌, ◌≤◌, inr, refl, Bool}
-use Rattle.desk_client.proofs.Common.{most_reads}
+use Rattle.desk_client.proofs.Common.{Bool, arith, inr, most_reads, refl, ◌+◌, ◌≤◌}
 use Rattle.desk_client.specs.declared.ask.AskFault.TheVariants as fault
 use Rattle.desk_client.proofs.AsItComes.{begun, ended, read_stopped, reads, stopped, turn_ended, turns, unbegun}
 use Rattle.desk_client.proofs.printing.print_report.Goals as goal

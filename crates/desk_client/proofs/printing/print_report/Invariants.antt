@@ -1,5 +1,4 @@
-use Rattle.std.proofs.Common.{◌≡◌, ◌+◌}
-use Rattle.desk_client.proofs.Common.{HasPrintedSome}
+use Rattle.desk_client.proofs.Common.{HasPrintedSome, ◌+◌, ◌≡◌}
 use Rattle.desk_client.proofs.printing.print_report.Given as goal
 
 abbrev pub invariant-loop-turn : goal.invariant-loop-turn

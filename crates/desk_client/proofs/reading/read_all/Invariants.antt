@@ -1,5 +1,4 @@
-use Rattle.std.proofs.Common.{◌≡◌, ◌+◌, []}
-use Rattle.desk_client.proofs.Common.{HasGrown}
+use Rattle.desk_client.proofs.Common.{HasGrown, [], ◌+◌, ◌≡◌}
 use Rattle.desk_client.proofs.reading.read_all.Given as goal
 
 abbrev pub invariant-loop-turn : goal.invariant-loop-turn

@@ -1,5 +1,4 @@
-use Rattle.std.proofs.Common.{subst, sym, ℕ, List}
-use Rattle.desk_client.proofs.Common.{call, IsOrderText}
+use Rattle.desk_client.proofs.Common.{IsOrderText, List, call, subst, sym, ℕ}
 use Rattle.desk_client.proofs.ListRows.{ordered}
 use Rattle.desk_client.proofs.rows.answer_order.Goals as goal
 

@@ -1,6 +1,5 @@
-use Rattle.std.proofs.Common.{subst, sym}
+use Rattle.desk_client.proofs.Common.{call, subst, sym}
 use Rattle.cli_words.specs.declared.line.LineCommand.{LineCommand}
-use Rattle.desk_client.proofs.Common.{call}
 use Rattle.desk_client.specs.Done.{HasDone}
 use Rattle.desk_client.proofs.run.ask_command.Goals as goal
 

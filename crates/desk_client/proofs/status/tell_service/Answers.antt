@@ -1,6 +1,4 @@
-use Rattle.std.proofs.Common.{subst, ℕ, List, Option}
-use Rattle.desk_client.proofs.Common.{SendsLine}
-use Rattle.desk_client.specs.Status.{service_text}
+use Rattle.desk_client.proofs.Common.{List, Option, SendsLine, service_text, subst, ℕ}
 use Rattle.desk_client.proofs.status.tell_service.Goals as goal
 
 pub returns-in-Some : goal.returns-in-Some

@@ -1,5 +1,4 @@
-use Rattle.std.proofs.Common.{◌≡◌, ap, sym, ◌++◌, ◌∷◌, [], ℕ, List, Some, codes, decimal}
-use Rattle.desk_client.specs.Status.{service_text}
+use Rattle.desk_client.proofs.Common.{List, Some, [], ap, codes, decimal, service_text, sym, ℕ, ◌++◌, ◌∷◌, ◌≡◌}
 use Rattle.desk_client.proofs.Telling.{gone_on, stopped}
 use Rattle.desk_client.proofs.status.tell_why.Goals as goal
 

@@ -1,6 +1,4 @@
-use Rattle.std.proofs.Common.{◌∙◌, sym, ap}
-use Rattle.desk_commands.proofs.Common.{view}
-use Rattle.desk_commands.specs.Body.{fields_say}
+use Rattle.desk_commands.proofs.Common.{ap, fields_say, sym, view, ◌∙◌}
 use Rattle.desk_commands.proofs.BodyLaws.{members_counted, body_read, same_count, other_count}
 use Rattle.desk_commands.proofs.body.read.Goals as goal
 

@@ -1,5 +1,4 @@
-use Rattle.std.proofs.Common.{◌≡◌, ◌∙◌, Option, Some, None, Ok, sym, ap}
-use Rattle.desk_commands.proofs.Common.{view, Command}
+use Rattle.desk_commands.proofs.Common.{Command, None, Ok, Option, Some, ap, sym, view, ◌∙◌, ◌≡◌}
 use Rattle.desk_commands.proofs.BodyLaws.{body_made, body_again}
 use Rattle.desk_commands.proofs.Steps.{some_is}
 use Rattle.desk_commands.proofs.body.read_command.Goals as goal

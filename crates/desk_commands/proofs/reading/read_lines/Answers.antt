@@ -1,5 +1,4 @@
-use Rattle.std.proofs.Common.{◌∙◌, ℕ, List, [], ◌∷◌, Option, ap}
-use Rattle.desk_commands.proofs.Common.{places_say, verb_called}
+use Rattle.desk_commands.proofs.Common.{List, Option, [], ap, places_say, verb_called, ℕ, ◌∙◌, ◌∷◌}
 use Rattle.desk_commands.proofs.TextLaws.{lines_read}
 use Rattle.desk_commands.proofs.reading.read_lines.Goals as goal
 

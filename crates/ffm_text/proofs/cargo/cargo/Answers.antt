@@ -1,5 +1,4 @@
-use Rattle.std.proofs.Common.{◌+◌, take, map, arith}
-use Rattle.ffm_text.proofs.Common.{unloaded_of, texts_of}
+use Rattle.ffm_text.proofs.Common.{arith, map, take, texts_of, unloaded_of, ◌+◌}
 use Rattle.ffm_text.proofs.ToldLaws.{told_token}
 use Rattle.ffm_text.proofs.cargo.cargo.Goals as goal
 

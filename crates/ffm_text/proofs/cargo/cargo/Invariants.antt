@@ -1,5 +1,4 @@
-use Rattle.std.proofs.Common.{◌≡◌, ◌+◌, ◌≤◌, length, take}
-use Rattle.ffm_text.proofs.Common.{IsScan, texts_of}
+use Rattle.ffm_text.proofs.Common.{IsScan, length, take, texts_of, ◌+◌, ◌≡◌, ◌≤◌}
 use Rattle.ffm_text.proofs.cargo.cargo.Given as goal
 
 abbrev pub invariant-loop-line : goal.invariant-loop-line

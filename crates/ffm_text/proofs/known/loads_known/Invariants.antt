@@ -1,5 +1,4 @@
-use Rattle.std.proofs.Common.{ℕ, ◌<◌}
-use Rattle.ffm_text.proofs.Common.{slice_index_or, Load, IsLoad}
+use Rattle.ffm_text.proofs.Common.{IsLoad, Load, slice_index_or, ℕ, ◌<◌}
 use Rattle.ffm_text.proofs.known.loads_known.Given as goal
 
 -- each load so far is one

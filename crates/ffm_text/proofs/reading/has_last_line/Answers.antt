@@ -1,5 +1,4 @@
-use Rattle.std.proofs.Common.{sym, ap, ◌∙◌}
-use Rattle.ffm_text.proofs.Common.{option_copied}
+use Rattle.ffm_text.proofs.Common.{ap, option_copied, sym, ◌∙◌}
 use Rattle.ffm_text.proofs.LastLine.{last_token, ends_so, ends_or}
 use Rattle.ffm_text.proofs.reading.has_last_line.Goals as goal
 

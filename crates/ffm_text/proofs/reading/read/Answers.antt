@@ -1,5 +1,4 @@
-use Rattle.std.proofs.Common.{map, sym, ◌∙◌}
-use Rattle.ffm_text.proofs.Common.{part_of, unloaded_of}
+use Rattle.ffm_text.proofs.Common.{map, part_of, sym, unloaded_of, ◌∙◌}
 use Rattle.ffm_text.proofs.ToldLaws.{flight_line_told, ending_told}
 use Rattle.ffm_text.proofs.reading.read.Goals as goal
 

@@ -1,5 +1,4 @@
-use Rattle.std.proofs.Common.{◌≡◌, ℕ, List, subst, ◌++◌, ap, ◌∙◌, [], ◌∷◌}
-use Rattle.ffm_text.proofs.Common.{codes, OnOk, line_text, flight_text, date_text}
+use Rattle.ffm_text.proofs.Common.{List, OnOk, [], ap, codes, date_text, flight_text, line_text, subst, ℕ, ◌++◌, ◌∙◌, ◌∷◌, ◌≡◌}
 use Rattle.ffm_text.proofs.Appended.{joined, joined_line}
 use Rattle.ffm_text.proofs.writing.put_flight_line.Goals as goal
 

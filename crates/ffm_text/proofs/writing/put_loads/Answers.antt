@@ -1,5 +1,4 @@
-use Rattle.std.proofs.Common.{◌++◌, ap, ◌∙◌, map, take}
-use Rattle.ffm_text.proofs.Common.{sent_text, line_text, load_line}
+use Rattle.ffm_text.proofs.Common.{ap, line_text, load_line, map, sent_text, take, ◌++◌, ◌∙◌}
 use Rattle.ffm_text.proofs.Appended.{begins_behind, sent_one_more}
 use Rattle.ffm_text.proofs.writing.put_loads.Goals as goal
 

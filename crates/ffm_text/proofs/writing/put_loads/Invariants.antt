@@ -1,5 +1,4 @@
-use Rattle.std.proofs.Common.{◌≡◌, ◌++◌, map, take}
-use Rattle.ffm_text.proofs.Common.{sent_text, load_line}
+use Rattle.ffm_text.proofs.Common.{load_line, map, sent_text, take, ◌++◌, ◌≡◌}
 use Rattle.ffm_text.proofs.writing.put_loads.Given as goal
 
 abbrev pub invariant-loop-load : goal.invariant-loop-load

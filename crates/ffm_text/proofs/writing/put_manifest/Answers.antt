@@ -1,5 +1,4 @@
-use Rattle.std.proofs.Common.{List, ℕ, ◌++◌, ap, ◌∙◌, [], ◌∷◌, map}
-use Rattle.ffm_text.proofs.Common.{codes, flight_line_text, load_line, line_text}
+use Rattle.ffm_text.proofs.Common.{List, [], ap, codes, flight_line_text, line_text, load_line, map, ℕ, ◌++◌, ◌∙◌, ◌∷◌}
 use Rattle.ffm_text.proofs.Appended.{sent_last, sent_next, sent_others}
 use Rattle.ffm_text.proofs.writing.put_manifest.Goals as goal
 

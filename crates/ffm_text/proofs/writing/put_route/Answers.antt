@@ -1,5 +1,4 @@
-use Rattle.std.proofs.Common.{◌++◌, ap, ◌∙◌, [], ◌∷◌}
-use Rattle.ffm_text.proofs.Common.{number_text}
+use Rattle.ffm_text.proofs.Common.{[], ap, number_text, ◌++◌, ◌∙◌, ◌∷◌}
 use Rattle.ffm_text.proofs.Appended.{joined, joined_last}
 use Rattle.ffm_text.proofs.writing.put_route.Goals as goal
 

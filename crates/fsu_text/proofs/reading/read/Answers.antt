@@ -1,5 +1,4 @@
-use Rattle.std.proofs.Common.{sym, ◌∙◌, subst}
-use Rattle.fsu_text.proofs.Common.{line_texts, IsFaultOf, fsu_fault}
+use Rattle.fsu_text.proofs.Common.{IsFaultOf, fsu_fault, line_texts, subst, sym, ◌∙◌}
 use Rattle.fsu_text.proofs.ReadLaws.{second_told, message_is, trail_plain}
 use Rattle.fsu_text.proofs.reading.read.Goals as goal
 

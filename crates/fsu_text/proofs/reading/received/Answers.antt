@@ -1,5 +1,4 @@
-use Rattle.std.proofs.Common.{sym}
-use Rattle.fsu_text.proofs.Common.{codes}
+use Rattle.fsu_text.proofs.Common.{codes, sym}
 use Rattle.fsu_text.proofs.Cuts.{received_longer}
 use Rattle.fsu_text.proofs.reading.received.Goals as goal
 

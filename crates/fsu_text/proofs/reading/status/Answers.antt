@@ -1,12 +1,6 @@
 use Rattle.std.proofs.Common.{sym, ◌∙◌}
-use Rattle.fsu_text.proofs.Layouts.{tells_handled, tells_carried, tells_received, tells_differs, tells_nothing}
+use Rattle.fsu_text.proofs.Layouts.{tells_carried, tells_received, tells_differs, tells_nothing}
 use Rattle.fsu_text.proofs.reading.status.Goals as goal
-
-pub returns-in-Some : goal.returns-in-Some
-returns-in-Some c =
-    let read = sym c.handling.ensures ∙ c.in-Some.is in
-    c.handled.ensures c.in_ok-code.code.now read
-    ∙ sym (tells_handled c.args.line.now c.in_ok-code.code.now c.in_ok-code.rest.now c.in-Some.event c.in_ok-code.ensures.some read)
 
 pub returns-in-Some-carriage : goal.returns-in-Some-carriage
 returns-in-Some-carriage c =

@@ -1,5 +1,4 @@
-use Rattle.std.proofs.Common.{◌≡◌, All, map, take}
-use Rattle.fsu_text.proofs.Common.{IsRead}
+use Rattle.fsu_text.proofs.Common.{All, IsRead, map, take, ◌≡◌}
 use Rattle.fsu_text.proofs.reading.trail.Given as goal
 
 abbrev pub invariant-loop-text : goal.invariant-loop-text

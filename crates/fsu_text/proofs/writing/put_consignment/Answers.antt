@@ -1,5 +1,4 @@
-use Rattle.std.proofs.Common.{take}
-use Rattle.fsu_text.proofs.Common.{number_text}
+use Rattle.fsu_text.proofs.Common.{number_text, take}
 use Rattle.fsu_text.proofs.PutLaws.{parts_joined}
 use Rattle.fsu_text.proofs.writing.put_consignment.Goals as goal
 

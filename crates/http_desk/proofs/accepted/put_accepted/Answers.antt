@@ -1,5 +1,4 @@
-use Rattle.std.proofs.Common.{arith, ◌≡◌, ◌∙◌, ap, sym, ◌++◌, length, take, None}
-use Rattle.http_desk.proofs.Common.{length-take-le, json_answer}
+use Rattle.http_desk.proofs.Common.{None, ap, arith, json_answer, length, length-take-le, sym, take, ◌++◌, ◌∙◌, ◌≡◌}
 use Rattle.http_desk.proofs.Accepting.{two_digits, answer_is}
 use Rattle.http_desk.proofs.accepted.put_accepted.Goals as goal
 

@@ -1,5 +1,4 @@
-use Rattle.std.proofs.Common.{◌≡◌, rules}
-use Rattle.http_desk.proofs.Common.{view, the_lemmas, good_data}
+use Rattle.http_desk.proofs.Common.{good_data, rules, the_lemmas, view, ◌≡◌}
 use Rattle.http_desk.proofs.answer.good_text.Goals as goal
 
 pub returns : goal.returns

@@ -1,5 +1,4 @@
-use Rattle.std.proofs.Common.{◌≡◌, ◌∙◌, ap, ◌++◌, codes, string_bytes}
-use Rattle.http_desk.proofs.Common.{string, compact_text, told}
+use Rattle.http_desk.proofs.Common.{ap, codes, compact_text, string, string_bytes, told, ◌++◌, ◌∙◌, ◌≡◌}
 use Rattle.http_desk.proofs.answer.third_members.Goals as goal
 
 pub returns : goal.returns

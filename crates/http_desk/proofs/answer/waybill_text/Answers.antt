@@ -1,5 +1,4 @@
-use Rattle.std.proofs.Common.{◌∙◌, ◌++◌, string_bytes}
-use Rattle.http_desk.proofs.Common.{told}
+use Rattle.http_desk.proofs.Common.{string_bytes, told, ◌++◌, ◌∙◌}
 use Rattle.http_desk.proofs.WholeWaybill.{whole}
 use Rattle.http_desk.proofs.answer.waybill_text.Goals as goal
 

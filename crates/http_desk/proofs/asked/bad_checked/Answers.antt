@@ -1,5 +1,4 @@
-use Rattle.std.proofs.Common.{◌∙◌, ap, string_bytes}
-use Rattle.http_desk.proofs.Common.{compact_text, bad_data}
+use Rattle.http_desk.proofs.Common.{ap, bad_data, compact_text, string_bytes, ◌∙◌}
 use Rattle.http_desk.proofs.Joining.{ok_more}
 use Rattle.http_desk.proofs.asked.bad_checked.Goals as goal
 

@@ -1,5 +1,4 @@
-use Rattle.std.proofs.Common.{sym, subst, refl, ℕ, List}
-use Rattle.http_desk.proofs.Common.{Wanted, look_reply, IsToldAs, HasAsked, HasAskedShut, station_after}
+use Rattle.http_desk.proofs.Common.{HasAsked, HasAskedShut, IsToldAs, List, Wanted, look_reply, refl, station_after, subst, sym, ℕ}
 use Rattle.http_desk.specs.declared.wanted.Wanted.TheVariants as wanted
 use Rattle.http_desk.proofs.AskedJson.{asked_json, shut_json, shut_unavailable}
 use Rattle.http_desk.proofs.asking.ask.Goals as goal

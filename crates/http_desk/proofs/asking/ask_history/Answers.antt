@@ -1,5 +1,4 @@
-use Rattle.std.proofs.Common.{◌∙◌, refl, subst, sym, Option}
-use Rattle.http_desk.proofs.Common.{Waybill, history_of, station_after, IsToldAs}
+use Rattle.http_desk.proofs.Common.{IsToldAs, Option, Waybill, history_of, refl, station_after, subst, sym, ◌∙◌}
 use Rattle.http_desk.specs.declared.wanted.Wanted.TheVariants as wanted
 use Rattle.http_desk.proofs.AskedJson.{asked_json}
 use Rattle.http_desk.proofs.asking.ask_history.Goals as goal

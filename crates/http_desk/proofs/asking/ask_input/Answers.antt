@@ -1,5 +1,4 @@
-use Rattle.std.proofs.Common.{◌∙◌}
-use Rattle.http_desk.proofs.Common.{station_after}
+use Rattle.http_desk.proofs.Common.{station_after, ◌∙◌}
 use Rattle.http_desk.proofs.AskedJson.{asked_refused, asked_fault}
 use Rattle.http_desk.proofs.asking.ask_input.Goals as goal
 

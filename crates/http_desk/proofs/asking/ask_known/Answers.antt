@@ -1,5 +1,4 @@
-use Rattle.std.proofs.Common.{List, ℕ, subst}
-use Rattle.http_desk.proofs.Common.{IsHistoryTold}
+use Rattle.http_desk.proofs.Common.{IsHistoryTold, List, subst, ℕ}
 use Rattle.http_desk.proofs.AskedJson.{told_history}
 use Rattle.http_desk.proofs.asking.ask_known.Goals as goal
 

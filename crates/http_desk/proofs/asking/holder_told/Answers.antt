@@ -1,5 +1,4 @@
-use Rattle.std.proofs.Common.{sym, subst}
-use Rattle.http_desk.proofs.Common.{IsToldAs, holder_reply, holder_data}
+use Rattle.http_desk.proofs.Common.{IsToldAs, holder_data, holder_reply, subst, sym}
 use Rattle.http_desk.proofs.asking.holder_told.Goals as goal
 
 pub returns-in-Some : goal.returns-in-Some

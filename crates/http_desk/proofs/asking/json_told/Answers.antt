@@ -1,5 +1,4 @@
-use Rattle.std.proofs.Common.{◌∙◌, refl}
-use Rattle.http_desk.proofs.Common.{option_map, json_answer}
+use Rattle.http_desk.proofs.Common.{json_answer, option_map, refl, ◌∙◌}
 use Rattle.http_desk.proofs.asking.json_told.Goals as goal
 
 pub returns-in-Ok-json_answer : goal.returns-in-Ok-json_answer

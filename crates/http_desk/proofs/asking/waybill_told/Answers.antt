@@ -1,5 +1,4 @@
-use Rattle.std.proofs.Common.{sym, subst}
-use Rattle.http_desk.proofs.Common.{IsToldAs, waybill_reply, waybill_data}
+use Rattle.http_desk.proofs.Common.{IsToldAs, subst, sym, waybill_data, waybill_reply}
 use Rattle.http_desk.proofs.asking.waybill_told.Goals as goal
 
 pub returns-in-Some : goal.returns-in-Some

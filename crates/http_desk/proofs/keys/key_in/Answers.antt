@@ -1,5 +1,4 @@
-use Rattle.std.proofs.Common.{arith, rules, ◌≡◌, sym, Some}
-use Rattle.http_desk.proofs.Common.{and_then, decoded}
+use Rattle.http_desk.proofs.Common.{Some, and_then, arith, decoded, rules, sym, ◌≡◌}
 use Rattle.http_desk.proofs.KeySegments.{one_more, too_long}
 use Rattle.http_desk.proofs.keys.key_in.Goals as goal
 

@@ -1,5 +1,4 @@
-use Rattle.std.proofs.Common.{◌≡◌, ◌≤◌, length, take}
-use Rattle.http_desk.proofs.Common.{decoded}
+use Rattle.http_desk.proofs.Common.{decoded, length, take, ◌≡◌, ◌≤◌}
 use Rattle.http_desk.proofs.KeySegments.{after}
 use Rattle.http_desk.proofs.keys.key_in.Given as goal
 

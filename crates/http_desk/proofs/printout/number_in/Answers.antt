@@ -1,5 +1,4 @@
-use Rattle.std.proofs.Common.{◌∙◌, ap}
-use Rattle.http_desk.proofs.Common.{result_ok, number_of}
+use Rattle.http_desk.proofs.Common.{ap, number_of, result_ok, ◌∙◌}
 use Rattle.http_desk.proofs.Wanting.{chunk_is}
 use Rattle.http_desk.proofs.printout.number_in.Goals as goal
 

@@ -1,5 +1,4 @@
-use Rattle.std.proofs.Common.{◌≡◌, refl, rules}
-use Rattle.http_desk.proofs.Common.{false, codes, bytes_eq}
+use Rattle.http_desk.proofs.Common.{bytes_eq, codes, false, refl, rules, ◌≡◌}
 use Rattle.http_desk.proofs.printout.rows_named.Goals as goal
 
 pub returns-in_default : goal.returns-in_default

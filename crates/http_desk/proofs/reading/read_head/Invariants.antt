@@ -1,5 +1,4 @@
-use Rattle.http_desk.proofs.Common.{RequestHead, HasHead}
-use Rattle.std.proofs.Common.{◌≡◌, ◌<◌, ◌++◌, length, ◌+◌}
+use Rattle.http_desk.proofs.Common.{HasHead, RequestHead, length, ◌++◌, ◌+◌, ◌<◌, ◌≡◌}
 use Rattle.http_desk.proofs.reading.read_head.Given as goal
 
 abbrev pub invariant-loop-turn : goal.invariant-loop-turn

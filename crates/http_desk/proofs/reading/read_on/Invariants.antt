@@ -1,5 +1,4 @@
-use Rattle.std.proofs.Common.{◌≡◌, ◌+◌, ◌-◌}
-use Rattle.http_desk.proofs.Common.{HasGrown}
+use Rattle.http_desk.proofs.Common.{HasGrown, ◌+◌, ◌-◌, ◌≡◌}
 use Rattle.http_desk.proofs.reading.read_on.Given as goal
 
 abbrev pub invariant-loop-turn : goal.invariant-loop-turn

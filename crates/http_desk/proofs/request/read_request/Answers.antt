@@ -1,5 +1,4 @@
-use Rattle.std.proofs.Common.{subst, inr, List, ℕ}
-use Rattle.http_desk.proofs.Common.{BeginsWith}
+use Rattle.http_desk.proofs.Common.{BeginsWith, List, inr, subst, ℕ}
 use Rattle.http_desk.proofs.Arrived.{begins_on, lacks_body}
 use Rattle.http_desk.proofs.Heads.{ended_all, more_come, other_err}
 use Rattle.http_desk.specs.declared.reading.ReadEnd.TheVariants as reading

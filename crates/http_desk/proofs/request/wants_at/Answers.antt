@@ -1,5 +1,4 @@
-use Rattle.std.proofs.Common.{◌∙◌, ap}
-use Rattle.http_desk.proofs.Common.{key_of}
+use Rattle.http_desk.proofs.Common.{ap, key_of, ◌∙◌}
 use Rattle.http_desk.proofs.Heads.{begins}
 use Rattle.http_desk.proofs.request.wants_at.Goals as goal
 

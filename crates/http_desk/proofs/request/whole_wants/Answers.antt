@@ -1,5 +1,4 @@
-use Rattle.std.proofs.Common.{ap, subst, take, drop}
-use Rattle.http_desk.proofs.Common.{HeadWants, BeginsWith, HasBody, Wants}
+use Rattle.http_desk.proofs.Common.{BeginsWith, HasBody, HeadWants, Wants, ap, drop, subst, take}
 use Rattle.http_desk.proofs.Arrived.{now_wants, body_wants, len_of}
 use Rattle.http_desk.proofs.Joining.{ok_more}
 use Rattle.http_desk.proofs.request.whole_wants.Goals as goal

@@ -1,5 +1,4 @@
-use Rattle.std.proofs.Common.{◌∙◌, ap}
-use Rattle.http_desk.proofs.Common.{verb_called}
+use Rattle.http_desk.proofs.Common.{ap, verb_called, ◌∙◌}
 use Rattle.http_desk.proofs.NoVerb.{verb_read}
 use Rattle.http_desk.proofs.route.verb_in.Goals as goal
 

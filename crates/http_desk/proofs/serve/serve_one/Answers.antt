@@ -1,6 +1,5 @@
-use Rattle.std.proofs.Common.{Err, ◌≡◌, ◌∙◌, ap, sym, subst, refl, inl, false, List, ℕ, ◌++◌}
+use Rattle.http_desk.proofs.Common.{Err, IsUnfinished, List, added, ap, false, inl, refl, station_after, subst, sym, ℕ, ◌++◌, ◌∙◌, ◌≡◌}
 use Rattle.http_desk.specs.declared.asking.Response.TheVariants as told
-use Rattle.http_desk.proofs.Common.{station_after, added, IsUnfinished}
 use Rattle.http_desk.proofs.Answered.{served_all, unavailable_all, reopen_all, shut_all}
 use Rattle.http_desk.proofs.Begun.{begun}
 use Rattle.http_desk.proofs.Joining.{added_is}

@@ -1,5 +1,4 @@
-use Rattle.std.proofs.Common.{refl, inl}
-use Rattle.http_desk.proofs.Common.{station_after}
+use Rattle.http_desk.proofs.Common.{inl, refl, station_after}
 use Rattle.http_desk.proofs.Joining.{told_bytes, shut_bytes}
 use Rattle.http_desk.proofs.serve.told_for.Goals as goal
 

@@ -1,5 +1,4 @@
-use Rattle.std.proofs.Common.{◌≡◌, ◌∙◌, ap, sym, refl, true, false}
-use Rattle.http_desk.proofs.Common.{head_of, is_foreign}
+use Rattle.http_desk.proofs.Common.{ap, false, head_of, is_foreign, refl, sym, true, ◌∙◌, ◌≡◌}
 use Rattle.http_desk.proofs.Wanting.{foreign_wants, wants_on}
 use Rattle.http_desk.proofs.wanted.head_wants.Goals as goal
 

@@ -1,5 +1,4 @@
-use Rattle.std.proofs.Common.{◌∙◌, ap, refl}
-use Rattle.http_desk.proofs.Common.{result_ok, number_of}
+use Rattle.http_desk.proofs.Common.{ap, number_of, refl, result_ok, ◌∙◌}
 use Rattle.http_desk.proofs.Wanting.{history_wanted, no_history}
 use Rattle.http_desk.proofs.wanted.history_at.Goals as goal
 

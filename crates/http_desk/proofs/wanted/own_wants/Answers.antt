@@ -1,5 +1,4 @@
-use Rattle.std.proofs.Common.{◌∙◌, ap, subst}
-use Rattle.http_desk.proofs.Common.{HeadAsks, place_asks, asked_place, page_at, path_of, HasWants}
+use Rattle.http_desk.proofs.Common.{HasWants, HeadAsks, ap, asked_place, page_at, path_of, place_asks, subst, ◌∙◌}
 use Rattle.http_desk.proofs.wanted.own_wants.Goals as goal
 
 pub returns : goal.returns

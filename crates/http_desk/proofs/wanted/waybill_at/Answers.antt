@@ -1,5 +1,4 @@
-use Rattle.std.proofs.Common.{◌∙◌, ap, refl}
-use Rattle.http_desk.proofs.Common.{result_ok, number_of}
+use Rattle.http_desk.proofs.Common.{ap, number_of, refl, result_ok, ◌∙◌}
 use Rattle.http_desk.proofs.Wanting.{waybill_wanted, no_waybill}
 use Rattle.http_desk.proofs.wanted.waybill_at.Goals as goal
 

@@ -1,7 +1,4 @@
-use Rattle.std.proofs.Common.{arith, ◌≡◌, ◌∙◌, ◌<◌, false, subst, List, ℕ, length}
-use Rattle.reports.specs.Ended.{IsCause, StopsBy}
-use Rattle.reports.specs.declared.fault.ReportCause.{ReportCause}
-use Rattle.http_desk.proofs.Common.{report_head, HasSent}
+use Rattle.http_desk.proofs.Common.{HasSent, IsCause, List, ReportCause, StopsBy, arith, false, length, report_head, subst, ℕ, ◌<◌, ◌∙◌, ◌≡◌}
 use Rattle.http_desk.proofs.Reporting.{ended_early, after_write, after_part, after_none, none_failed, readers_fault, some_of_report, stops_behind}
 use Rattle.http_desk.proofs.writing.answer_report.Goals as goal
 

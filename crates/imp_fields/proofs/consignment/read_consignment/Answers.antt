@@ -1,5 +1,4 @@
-use Rattle.std.proofs.Common.{◌≡◌, ◌≤◌, ◌+◌, Some, None, length, take, sym, ap, ◌∙◌, arith}
-use Rattle.imp_fields.proofs.Common.{slice_range, min, number_of, quantity_part, quantity_of}
+use Rattle.imp_fields.proofs.Common.{None, Some, ap, arith, length, min, number_of, quantity_of, quantity_part, slice_range, sym, take, ◌+◌, ◌∙◌, ◌≡◌, ◌≤◌}
 use Rattle.imp_fields.proofs.LineLaws.{misnumbered, uncounted, found, quantity_end, end_is, quantity_length, slice_at}
 use Rattle.imp_fields.proofs.consignment.read_consignment.Goals as goal
 

@@ -1,5 +1,4 @@
-use Rattle.std.proofs.Common.{◌≡◌, ◌≤◌, true, Some, length, take, get_or, sym, arith}
-use Rattle.imp_fields.proofs.Common.{slice_range, has_number_shape, airport_of}
+use Rattle.imp_fields.proofs.Common.{Some, airport_of, arith, get_or, has_number_shape, length, slice_range, sym, take, true, ◌≡◌, ◌≤◌}
 use Rattle.std.proofs.lemmas.Grind.{common_steps}
 use Rattle.imp_fields.proofs.ShapeLaws.{route_found}
 use Rattle.imp_fields.proofs.consignment.route.Goals as goal

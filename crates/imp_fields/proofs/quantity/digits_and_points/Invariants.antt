@@ -1,5 +1,4 @@
-use Rattle.std.proofs.Common.{◌≡◌, ◌<◌, ◌^◌, true, take}
-use Rattle.imp_fields.proofs.Common.{count_by, list_all, is_point, is_digit_or_point, numerator_of}
+use Rattle.imp_fields.proofs.Common.{count_by, is_digit_or_point, is_point, list_all, numerator_of, take, true, ◌<◌, ◌^◌, ◌≡◌}
 use Rattle.imp_fields.proofs.quantity.digits_and_points.Given as goal
 
 abbrev pub invariant-loop-b : goal.invariant-loop-b

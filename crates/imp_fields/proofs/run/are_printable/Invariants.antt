@@ -1,5 +1,4 @@
-use Rattle.std.proofs.Common.{◌≡◌, take}
-use Rattle.imp_fields.proofs.Common.{list_all, is_printable}
+use Rattle.imp_fields.proofs.Common.{is_printable, list_all, take, ◌≡◌}
 use Rattle.imp_fields.proofs.run.are_printable.Given as goal
 
 abbrev pub invariant-loop-b : goal.invariant-loop-b

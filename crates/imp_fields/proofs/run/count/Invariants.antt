@@ -1,5 +1,4 @@
-use Rattle.std.proofs.Common.{◌≡◌, ◌<◌, ◌^◌, true, take}
-use Rattle.imp_fields.proofs.Common.{list_all, is_digit, decimal_value}
+use Rattle.imp_fields.proofs.Common.{decimal_value, is_digit, list_all, take, true, ◌<◌, ◌^◌, ◌≡◌}
 use Rattle.imp_fields.proofs.run.count.Given as goal
 
 abbrev pub invariant-loop-b : goal.invariant-loop-b

@@ -1,5 +1,4 @@
-use Rattle.std.proofs.Common.{arith, sym, ◌∙◌}
-use Rattle.imp_fields.proofs.Common.{is_printable}
+use Rattle.imp_fields.proofs.Common.{arith, is_printable, sym, ◌∙◌}
 use Rattle.imp_fields.proofs.Runs.{behind_length, passes_on, run_goes_on}
 use Rattle.imp_fields.proofs.run.printable_in_front.Goals as goal
 

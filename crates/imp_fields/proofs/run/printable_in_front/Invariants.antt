@@ -1,5 +1,4 @@
-use Rattle.std.proofs.Common.{◌≡◌, ◌≤◌, ◌-◌, true, length, take}
-use Rattle.imp_fields.proofs.Common.{list_all, is_printable}
+use Rattle.imp_fields.proofs.Common.{is_printable, length, list_all, take, true, ◌-◌, ◌≡◌, ◌≤◌}
 use Rattle.imp_fields.proofs.run.printable_in_front.Given as goal
 
 abbrev pub invariant-loop-eight : goal.invariant-loop-eight

@@ -1,5 +1,4 @@
-use Rattle.std.proofs.Common.{◌≡◌, take, string_bytes}
-use Rattle.input_reasons.proofs.Common.{map, dropped_object}
+use Rattle.input_reasons.proofs.Common.{dropped_object, map, string_bytes, take, ◌≡◌}
 use Rattle.input_reasons.proofs.as_object.dropped_objects.Given as goal
 
 abbrev pub invariant-loop-line : goal.invariant-loop-line

@@ -1,5 +1,4 @@
-use Rattle.std.proofs.Common.{◌∙◌, ap, ◌++◌, codes}
-use Rattle.input_reasons.proofs.Common.{filter_map, map, dropped_object, list_text, message_members, passed_object, read_object}
+use Rattle.input_reasons.proofs.Common.{ap, codes, dropped_object, filter_map, list_text, map, message_members, passed_object, read_object, ◌++◌, ◌∙◌}
 use Rattle.serde_json.specs.Data.{boolean}
 use Rattle.serde_json.specs.Written.{compact_text}
 use Rattle.input_reasons.proofs.Texts.{told}

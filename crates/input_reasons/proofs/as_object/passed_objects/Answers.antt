@@ -1,5 +1,4 @@
-use Rattle.std.proofs.Common.{◌∙◌, ap, sym, [], ◌++◌}
-use Rattle.input_reasons.proofs.Common.{cons_option, passed_object}
+use Rattle.input_reasons.proofs.Common.{[], ap, cons_option, passed_object, sym, ◌++◌, ◌∙◌}
 use Rattle.input_reasons.proofs.Texts.{filter_more}
 use Rattle.input_reasons.proofs.as_object.passed_objects.Goals as goal
 

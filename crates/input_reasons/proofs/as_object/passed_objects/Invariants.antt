@@ -1,5 +1,4 @@
-use Rattle.std.proofs.Common.{◌≡◌, take, string_bytes}
-use Rattle.input_reasons.proofs.Common.{map, filter_map, passed_object}
+use Rattle.input_reasons.proofs.Common.{filter_map, map, passed_object, string_bytes, take, ◌≡◌}
 use Rattle.input_reasons.proofs.as_object.passed_objects.Given as goal
 
 abbrev pub invariant-loop-line : goal.invariant-loop-line

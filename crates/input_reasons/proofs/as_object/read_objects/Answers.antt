@@ -1,5 +1,4 @@
-use Rattle.std.proofs.Common.{◌∙◌, ap, sym, [], ◌++◌}
-use Rattle.input_reasons.proofs.Common.{cons_option, read_object}
+use Rattle.input_reasons.proofs.Common.{[], ap, cons_option, read_object, sym, ◌++◌, ◌∙◌}
 use Rattle.input_reasons.proofs.Texts.{filter_more}
 use Rattle.input_reasons.proofs.as_object.read_objects.Goals as goal
 

@@ -1,5 +1,4 @@
-use Rattle.std.proofs.Common.{◌≡◌, take, string_bytes}
-use Rattle.input_reasons.proofs.Common.{map, filter_map, read_object}
+use Rattle.input_reasons.proofs.Common.{filter_map, map, read_object, string_bytes, take, ◌≡◌}
 use Rattle.input_reasons.proofs.as_object.read_objects.Given as goal
 
 abbrev pub invariant-loop-line : goal.invariant-loop-line

@@ -1,5 +1,4 @@
-use Rattle.std.proofs.Common.{◌≡◌, take, string_bytes}
-use Rattle.input_reasons.proofs.Common.{flat_map, dropped_text}
+use Rattle.input_reasons.proofs.Common.{dropped_text, flat_map, string_bytes, take, ◌≡◌}
 use Rattle.input_reasons.proofs.as_text.dropped_texts.Given as goal
 
 abbrev pub invariant-loop-line : goal.invariant-loop-line

@@ -1,5 +1,4 @@
-use Rattle.std.proofs.Common.{◌∙◌, ap, sym, ◌++◌, codes}
-use Rattle.input_reasons.proofs.Common.{decimal, part_text}
+use Rattle.input_reasons.proofs.Common.{ap, codes, decimal, part_text, sym, ◌++◌, ◌∙◌}
 use Rattle.input_reasons.proofs.Texts.{told}
 use Rattle.input_reasons.proofs.as_text.line_text.Goals as goal
 

@@ -1,5 +1,4 @@
-use Rattle.std.proofs.Common.{◌≡◌, ◌++◌, length, map}
-use Rattle.input_reasons.proofs.Common.{front_lines}
+use Rattle.input_reasons.proofs.Common.{front_lines, length, map, ◌++◌, ◌≡◌}
 use Rattle.input_reasons.proofs.dropped.front_lines.Given as goal
 
 abbrev pub invariant-loop-line : goal.invariant-loop-line

@@ -1,5 +1,4 @@
-use Rattle.std.proofs.Common.{◌≡◌, map, take}
-use Rattle.input_reasons.proofs.Common.{dropped_line}
+use Rattle.input_reasons.proofs.Common.{dropped_line, map, take, ◌≡◌}
 use Rattle.input_reasons.proofs.dropped.put_dropped.Given as goal
 
 abbrev pub invariant-loop-line : goal.invariant-loop-line

@@ -1,5 +1,4 @@
-use Rattle.std.proofs.Common.{◌∙◌, ap, inr, refl, sym}
-use Rattle.input_reasons.proofs.Common.{fault_at, line_texts, front_lines, has_no_day, seen_lines}
+use Rattle.input_reasons.proofs.Common.{ap, fault_at, front_lines, has_no_day, inr, line_texts, refl, seen_lines, sym, ◌∙◌}
 use Rattle.imp_fields.specs.declared.fault.Why.TheVariants as why
 use Rattle.input_reasons.proofs.Front.{parted}
 use Rattle.input_reasons.proofs.look.look_at.Goals as goal

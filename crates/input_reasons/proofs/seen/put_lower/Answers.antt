@@ -1,5 +1,4 @@
-use Rattle.std.proofs.Common.{◌∙◌, ap, arith, ◌+◌, ◌++◌, drop}
-use Rattle.input_reasons.proofs.Common.{lower_lines}
+use Rattle.input_reasons.proofs.Common.{ap, arith, drop, lower_lines, ◌++◌, ◌+◌, ◌∙◌}
 use Rattle.input_reasons.proofs.LowerLines.{lower_next, printable_at, texts}
 use Rattle.input_reasons.proofs.seen.put_lower.Goals as goal
 

@@ -1,5 +1,4 @@
-use Rattle.std.proofs.Common.{◌≡◌, ◌+◌, ◌++◌, drop, map}
-use Rattle.input_reasons.proofs.Common.{cargo_of, lower_lines}
+use Rattle.input_reasons.proofs.Common.{cargo_of, drop, lower_lines, map, ◌++◌, ◌+◌, ◌≡◌}
 use Rattle.input_reasons.proofs.seen.put_lower.Given as goal
 
 abbrev pub invariant-loop-line : goal.invariant-loop-line

@@ -1,5 +1,4 @@
-use Rattle.std.proofs.Common.{◌≡◌, ◌∙◌, ◌<◌, ◌^◌, rules, string_bytes}
-use Rattle.input_reasons.specs.Reason.{numbered_head}
+use Rattle.input_reasons.proofs.Common.{numbered_head, rules, string_bytes, ◌<◌, ◌^◌, ◌∙◌, ◌≡◌}
 use Rattle.input_reasons.proofs.Told.{headed, of_line}
 use Rattle.input_reasons.proofs.shown.numbered.Goals as goal
 

@@ -1,5 +1,4 @@
-use Rattle.std.proofs.Common.{IsTrue, string_bytes}
-use Rattle.input_reasons.proofs.Common.{list_all, is_printable}
+use Rattle.input_reasons.proofs.Common.{IsTrue, is_printable, list_all, string_bytes}
 use Rattle.input_reasons.proofs.shown.printable.Given as goal
 
 -- what was appended so far is printable

@@ -1,5 +1,4 @@
-use Rattle.std.proofs.Common.{rules}
-use Rattle.plain_station.proofs.Common.{filter_same}
+use Rattle.plain_station.proofs.Common.{filter_same, rules}
 use Rattle.plain_station.proofs.asked.keep_of.Goals as goal
 
 pub returns : goal.returns

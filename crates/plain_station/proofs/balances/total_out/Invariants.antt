@@ -1,6 +1,4 @@
-use Rattle.std.proofs.Common.{◌≡◌, ◌≤◌, ◌*◌, take}
-use Rattle.plain_station.proofs.Common.{pieces_of, tenths_of, moved_out}
-use Rattle.plain_station.specs.Spots.{is_in}
+use Rattle.plain_station.proofs.Common.{is_in, moved_out, pieces_of, take, tenths_of, ◌*◌, ◌≡◌, ◌≤◌}
 use Rattle.plain_station.proofs.balances.total_out.Given as goal
 
 abbrev pub invariant-loop-m : goal.invariant-loop-m

@@ -1,5 +1,4 @@
-use Rattle.std.proofs.Common.{◌≡◌, rules, sym, ◌∙◌}
-use Rattle.plain_station.proofs.Common.{by_flight}
+use Rattle.plain_station.proofs.Common.{by_flight, rules, sym, ◌∙◌, ◌≡◌}
 use Rattle.plain_station.proofs.Listed.{tie_same}
 use Rattle.plain_station.proofs.order.compare.Goals as goal
 

@@ -1,6 +1,4 @@
-use Rattle.std.proofs.Common.{◌≡◌, true, ◌==◌, ◌++◌, ◌∷◌, [], Err, Ordering, rules, sym, subst}
-use Rattle.plain_station.proofs.Common.{eq-eqb, always_returns_same, nat_cmp-IsAntisymmetric, list_any, IsBinarySearchResult, nat_cmp, AreDeclared, declared_in}
-use Rattle.station_core.specs.declared.rows.AnnouncedRow.{AnnouncedRow}
+use Rattle.plain_station.proofs.Common.{AnnouncedRow, AreDeclared, Err, IsBinarySearchResult, Ordering, [], always_returns_same, declared_in, eq-eqb, list_any, nat_cmp, nat_cmp-IsAntisymmetric, rules, subst, sym, true, ◌++◌, ◌==◌, ◌∷◌, ◌≡◌}
 use Rattle.plain_station.proofs.Listed.{any_within, declaration_put, declaration_there}
 use Rattle.plain_station.proofs.order.put_declared.Goals as goal
 

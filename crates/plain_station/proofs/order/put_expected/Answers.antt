@@ -1,5 +1,4 @@
-use Rattle.std.proofs.Common.{◌∙◌, ◌<◌, ◌&&◌, ◌==◌, ◌++◌, ◌∷◌, [], Err, Ordering, get_or, length, rules, ap, sym, subst}
-use Rattle.plain_station.proofs.Common.{always_returns_same, IsBinarySearchResult, same_flight_date, AreExpectations, by_expectation, Expectation, expected_in}
+use Rattle.plain_station.proofs.Common.{AreExpectations, Err, Expectation, IsBinarySearchResult, Ordering, [], always_returns_same, ap, by_expectation, expected_in, get_or, length, rules, same_flight_date, subst, sym, ◌&&◌, ◌++◌, ◌<◌, ◌==◌, ◌∙◌, ◌∷◌}
 use Rattle.plain_station.proofs.Listed.{any_at, expected_put, expected_there, same_back}
 use Rattle.plain_station.proofs.order.put_expected.Goals as goal
 

@@ -1,7 +1,4 @@
-use Rattle.std.proofs.Common.{◌∙◌, ◌<◌, ◌++◌, ◌∷◌, [], Err, Ordering, get_or, length, rules, ap, sym, subst}
-use Rattle.plain_station.proofs.Common.{always_returns_same, IsBinarySearchResult, same_flight_date, AreNoted, by_flight, flights_in}
-use Rattle.shipment_machine.proofs.FlightKeys.{same-sym}
-use Rattle.station_core.specs.declared.rows.NotedFlight.{NotedFlight}
+use Rattle.plain_station.proofs.Common.{AreNoted, Err, IsBinarySearchResult, NotedFlight, Ordering, [], always_returns_same, ap, by_flight, flights_in, get_or, length, rules, same-sym, same_flight_date, subst, sym, ◌++◌, ◌<◌, ◌∙◌, ◌∷◌}
 use Rattle.plain_station.proofs.Listed.{any_at, flight_put, flight_there}
 use Rattle.plain_station.proofs.order.put_flight.Goals as goal
 

@@ -1,6 +1,4 @@
-use Rattle.std.proofs.Common.{◌≡◌, ℕ, Some, ap, ◌∙◌}
-use Rattle.plain_station.proofs.Common.{if◌then◌else◌}
-use Rattle.agent_stock.specs.declared.stock.Run.{Run}
+use Rattle.plain_station.proofs.Common.{Run, Some, ap, if◌then◌else◌, ℕ, ◌∙◌, ◌≡◌}
 use Rattle.agent_stock.specs.declared.stock.Holder.TheVariants.{Used}
 use Rattle.agent_stock.specs.Plain.{holders_of}
 use Rattle.plain_station.proofs.FrontRows.{covers_one, told}

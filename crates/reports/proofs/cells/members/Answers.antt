@@ -1,6 +1,5 @@
-use Rattle.std.proofs.Common.{◌∙◌, ap, sym, ◌++◌, codes, string_bytes}
+use Rattle.reports.proofs.Common.{ap, cell_text, codes, string_bytes, sym, told, ◌++◌, ◌∙◌}
 use Rattle.serde_json.proofs.OnLiterals.{serde_json_on_literals}
-use Rattle.reports.proofs.Common.{told, cell_text}
 use Rattle.reports.proofs.cells.members.Goals as goal
 
 pub returns-in_ok-awb_text-in-Awb : goal.returns-in_ok-awb_text-in-Awb

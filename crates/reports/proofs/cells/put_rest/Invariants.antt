@@ -1,5 +1,4 @@
-use Rattle.std.proofs.Common.{◌≡◌, ◌++◌, take}
-use Rattle.reports.proofs.Common.{flat_map, next_text}
+use Rattle.reports.proofs.Common.{flat_map, next_text, take, ◌++◌, ◌≡◌}
 use Rattle.reports.proofs.cells.put_rest.Given as goal
 
 abbrev pub invariant-loop-cell : goal.invariant-loop-cell

@@ -1,6 +1,4 @@
-use Rattle.std.proofs.Common.{take}
-use Rattle.reports.proofs.Common.{OnlyReads, State}
-use Rattle.reports.specs.Days.{AreDated}
+use Rattle.reports.proofs.Common.{AreDated, OnlyReads, State, take}
 use Rattle.reports.proofs.days.all_dated.Given as goal
 
 -- the rows so far have their days

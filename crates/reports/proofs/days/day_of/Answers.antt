@@ -1,5 +1,4 @@
-use Rattle.std.proofs.Common.{rules, ap}
-use Rattle.reports.proofs.Common.{is_ok}
+use Rattle.reports.proofs.Common.{ap, is_ok, rules}
 use Rattle.reports.proofs.Stays.{day_known}
 use Rattle.reports.proofs.days.day_of.Goals as goal
 

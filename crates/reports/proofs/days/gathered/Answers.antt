@@ -1,5 +1,4 @@
-use Rattle.std.proofs.Common.{rules, ap}
-use Rattle.reports.proofs.Common.{is_ok}
+use Rattle.reports.proofs.Common.{ap, is_ok, rules}
 use Rattle.reports.proofs.Stays.{kept_known}
 use Rattle.reports.proofs.days.gathered.Goals as goal
 

@@ -1,5 +1,4 @@
-use Rattle.std.proofs.Common.{◌≡◌, map, take}
-use Rattle.reports.specs.Keys.{spaced}
+use Rattle.reports.proofs.Common.{map, spaced, take, ◌≡◌}
 use Rattle.reports.proofs.kept.one_line.Given as goal
 
 abbrev pub invariant-loop-byte : goal.invariant-loop-byte

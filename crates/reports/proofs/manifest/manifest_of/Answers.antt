@@ -1,5 +1,4 @@
-use Rattle.std.proofs.Common.{ap}
-use Rattle.reports.proofs.Common.{is_ok}
+use Rattle.reports.proofs.Common.{ap, is_ok}
 use Rattle.reports.proofs.Aboard.{made}
 use Rattle.reports.proofs.manifest.manifest_of.Goals as goal
 

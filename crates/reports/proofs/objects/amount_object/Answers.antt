@@ -1,6 +1,5 @@
-use Rattle.std.proofs.Common.{◌++◌, decimal, codes, string_bytes}
+use Rattle.reports.proofs.Common.{codes, decimal, string_bytes, told, ◌++◌}
 use Rattle.serde_json.proofs.OnLiterals.{serde_json_on_literals}
-use Rattle.reports.proofs.Common.{told}
 use Rattle.reports.proofs.objects.amount_object.Goals as goal
 
 pub returns : goal.returns

@@ -1,7 +1,5 @@
-use Rattle.std.proofs.Common.{rules, ◌≡◌, ◌∙◌, ap, ℕ, List, ◌++◌, codes, string_bytes}
+use Rattle.reports.proofs.Common.{List, ap, codes, compact_text, flight_text, rules, string, string_bytes, told, ℕ, ◌++◌, ◌∙◌, ◌≡◌}
 use Rattle.serde_json.proofs.OnLiterals.{serde_json_on_literals}
-use Rattle.reports.proofs.Common.{string, compact_text, told}
-use Rattle.imp_fields.specs.Flight.{flight_text}
 use Rattle.reports.proofs.objects.flight_members.Goals as goal
 
 pub returns : goal.returns

@@ -1,6 +1,5 @@
-use Rattle.std.proofs.Common.{rules, ◌≡◌, ◌∙◌, ap, ℕ, List, ◌++◌, codes, string_bytes}
+use Rattle.reports.proofs.Common.{List, ap, codes, compact_text, rules, string, string_bytes, told, ℕ, ◌++◌, ◌∙◌, ◌≡◌}
 use Rattle.serde_json.proofs.OnLiterals.{serde_json_on_literals}
-use Rattle.reports.proofs.Common.{string, compact_text, told}
 use Rattle.reports.specs.Layout.{clock_text}
 use Rattle.reports.proofs.objects.moment_members.Goals as goal
 

@@ -1,6 +1,5 @@
-use Rattle.std.proofs.Common.{◌∙◌, ap, ℕ, List, ◌++◌, codes, string_bytes}
+use Rattle.reports.proofs.Common.{List, ap, codes, compact_text, string, string_bytes, told, ℕ, ◌++◌, ◌∙◌}
 use Rattle.serde_json.proofs.OnLiterals.{serde_json_on_literals}
-use Rattle.reports.proofs.Common.{string, compact_text, told}
 use Rattle.reports.proofs.objects.place_members.Goals as goal
 
 pub returns : goal.returns

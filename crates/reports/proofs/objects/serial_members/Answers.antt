@@ -1,6 +1,5 @@
-use Rattle.std.proofs.Common.{rules, ◌≡◌, ◌∙◌, ap, ℕ, List, ◌++◌, codes, string_bytes}
+use Rattle.reports.proofs.Common.{List, ap, codes, compact_text, prefix_of, rules, serial_of, string, string_bytes, told, ℕ, ◌++◌, ◌∙◌, ◌≡◌}
 use Rattle.serde_json.proofs.OnLiterals.{serde_json_on_literals}
-use Rattle.reports.proofs.Common.{string, compact_text, prefix_of, serial_of, told}
 use Rattle.awb_number.specs.Digits.{padded}
 use Rattle.reports.proofs.objects.serial_members.Goals as goal
 

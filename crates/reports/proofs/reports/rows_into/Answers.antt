@@ -1,5 +1,4 @@
-use Rattle.std.proofs.Common.{◌∙◌}
-use Rattle.reports.proofs.Common.{progress_of}
+use Rattle.reports.proofs.Common.{progress_of, ◌∙◌}
 use Rattle.reports.proofs.Choosing.{same_name}
 use Rattle.reports.proofs.Forms.{piece}
 use Rattle.reports.proofs.Handing.{ended_by, ended_each, stops_writing}

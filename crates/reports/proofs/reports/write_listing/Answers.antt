@@ -1,11 +1,8 @@
-use Rattle.std.proofs.Common.{arith, rules}
-use Rattle.std.proofs.lemmas.Grind.{common_steps}
-use Rattle.reports.proofs.Common.{filter, book_by, messages_after, messages_by, trail_by, line_by, data_by, book_cells, manifest_cells, kept_line, message_lines, trail_line, IsListing, is_about, manifest_rows, kept_data, message_data, trail_data}
+use Rattle.reports.proofs.Common.{IsListing, arith, book_by, book_cells, common_steps, data_by, filter, is_about, kept_data, kept_line, kept_rows, line_by, manifest_cells, manifest_rows, message_data, message_lines, messages_after, messages_by, rules, trail_by, trail_data, trail_line}
 use Rattle.station_core.specs.declared.rows.BookQuery.TheVariants as book
 use Rattle.station_core.specs.declared.rows.ExpectedQuery.TheVariants as expected
 use Rattle.station_core.specs.declared.rows.MessageQuery.TheVariants as messages
 use Rattle.station_core.specs.declared.rows.TrailQuery.TheVariants as trail
-use Rattle.reports.specs.Keys.{kept_rows}
 use Rattle.reports.proofs.FlightLists.{one_expected, one_flights}
 use Rattle.reports.proofs.Handing.{reported_as, reported_rows, reported_these}
 use Rattle.reports.proofs.OneList.{one_list}

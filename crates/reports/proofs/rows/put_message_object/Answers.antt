@@ -1,5 +1,4 @@
-use Rattle.std.proofs.Common.{◌∙◌, ap, ℕ, List, [], ◌∷◌, ◌++◌}
-use Rattle.reports.proofs.Common.{string, compact_text}
+use Rattle.reports.proofs.Common.{List, [], ap, compact_text, string, ℕ, ◌++◌, ◌∙◌, ◌∷◌}
 use Rattle.reports.proofs.Wholes.{message_put}
 use Rattle.reports.proofs.rows.put_message_object.Goals as goal
 

@@ -1,5 +1,4 @@
-use Rattle.std.proofs.Common.{◌∙◌, ap, ℕ, List, [], ◌∷◌, ◌++◌}
-use Rattle.reports.proofs.Common.{number_text}
+use Rattle.reports.proofs.Common.{List, [], ap, number_text, ℕ, ◌++◌, ◌∙◌, ◌∷◌}
 use Rattle.reports.proofs.Blanks.{trail_put}
 use Rattle.reports.proofs.rows.put_trail_line.Goals as goal
 

@@ -1,5 +1,4 @@
-use Rattle.std.proofs.Common.{◌∙◌, ap, ℕ, List, [], ◌∷◌, ◌++◌, codes, decimal}
-use Rattle.reports.proofs.Common.{string, compact_text}
+use Rattle.reports.proofs.Common.{List, [], ap, codes, compact_text, decimal, string, ℕ, ◌++◌, ◌∙◌, ◌∷◌}
 use Rattle.reports.proofs.Wholes.{trail_put}
 use Rattle.reports.proofs.rows.put_trail_object.Goals as goal
 

@@ -1,5 +1,5 @@
 use Rattle.std.proofs.Common.{◌∙◌, sym, ap, Some, option_map, w64, of_z, to_z, to_z-of_z}
-use Rattle.row_codec.proofs.Common.{get, build_meant, Build, BuildKey, Tally, running_on}
+use Rattle.row_codec.proofs.Common.{Build, BuildKey, Tally, build_meant, get, running_on}
 use Rattle.row_codec.proofs.Stores.{made_of, tally_read}
 use Rattle.row_codec.proofs.building.at_flight.Goals as goal
 

@@ -1,5 +1,5 @@
 use Rattle.std.proofs.Common.{◌≡◌, subst, option_map, IfOk, to_z-of_z}
-use Rattle.row_codec.proofs.Common.{get, BuildKey, running_on}
+use Rattle.row_codec.proofs.Common.{BuildKey, get, running_on}
 use Rattle.row_codec.proofs.building.carried.Goals as goal
 
 pub returns-clause-read : goal.returns-clause-read

@@ -1,6 +1,4 @@
-use Rattle.std.proofs.Common.{◌∙◌, sym, ap}
-use Rattle.std.proofs.lemmas.Option.{IfSome_then}
-use Rattle.row_codec.proofs.Common.{FlightDate, Built, running}
+use Rattle.row_codec.proofs.Common.{Built, FlightDate, IfSome_then, ap, running, sym, ◌∙◌}
 use Rattle.row_codec.proofs.Amounts.{held_is}
 use Rattle.row_codec.proofs.KnownLaws.{sum_more}
 use Rattle.row_codec.proofs.Stores.{made_of}

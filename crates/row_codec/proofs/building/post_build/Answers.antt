@@ -1,5 +1,5 @@
 use Rattle.std.proofs.Common.{sym, IfSome, ap, subst, ◌∙◌, option_map, rules, FitsSigned, w64, of_z, to_z, to_z-of_z}
-use Rattle.row_codec.proofs.Common.{get, inside, IsShowing, BuildKey, running_on, IsRowOf, pieces_found, posting_build, Tables, build_row, storing_build}
+use Rattle.row_codec.proofs.Common.{BuildKey, IsRowOf, IsShowing, Tables, build_row, get, inside, pieces_found, posting_build, running_on, storing_build}
 use Rattle.row_codec.proofs.Stores.{row_posted, survives_on}
 use Rattle.row_codec.proofs.building.post_build.Goals as goal
 

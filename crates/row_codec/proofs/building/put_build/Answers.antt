@@ -1,5 +1,5 @@
 use Rattle.std.proofs.Common.{sym, subst, ◌∙◌, to_z-of_z}
-use Rattle.row_codec.proofs.Common.{without_build, changing_build, with_build, ShowsChange, Tables, Build, BuildKey, build_row}
+use Rattle.row_codec.proofs.Common.{Build, BuildKey, ShowsChange, Tables, build_row, changing_build, with_build, without_build}
 use Rattle.row_codec.proofs.Stores.{row_removed, row_changed, row_added}
 use Rattle.row_codec.proofs.building.put_build.Goals as goal
 

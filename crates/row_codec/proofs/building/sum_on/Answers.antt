@@ -1,5 +1,5 @@
 use Rattle.std.proofs.Common.{◌≡◌, ◌∙◌, pos, sym, ap, option_map, rules, FitsSigned, w64, to_z, of_z, to_z-of_z}
-use Rattle.row_codec.proofs.Common.{get, BuildKey, running_on, flight_text}
+use Rattle.row_codec.proofs.Common.{BuildKey, flight_text, get, running_on}
 use Rattle.row_codec.proofs.Amounts.{carried_told, carried_none}
 use Rattle.row_codec.proofs.Stores.{made_of}
 use Rattle.row_codec.proofs.building.sum_on.Goals as goal

@@ -1,5 +1,5 @@
 use Rattle.std.proofs.Common.{◌∙◌, sym, ap, Option, Some, None, option_map, option_copied, int_eq, to_z-of_z}
-use Rattle.row_codec.proofs.Common.{find, count_meant, CountRow, Tally, running_in}
+use Rattle.row_codec.proofs.Common.{CountRow, Tally, count_meant, find, running_in}
 use Rattle.row_codec.proofs.Found.{tally_found}
 use Rattle.row_codec.proofs.counting.at_place.Goals as goal
 

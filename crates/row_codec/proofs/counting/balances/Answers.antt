@@ -1,5 +1,5 @@
 use Rattle.std.proofs.Common.{◌∙◌, ap, map, rules, FitsSigned, w64, to_z-of_z}
-use Rattle.row_codec.proofs.Common.{filter, entries, count_meant, counts_for}
+use Rattle.row_codec.proofs.Common.{count_meant, counts_for, entries, filter}
 use Rattle.row_codec.proofs.Stores.{made_of}
 use Rattle.row_codec.proofs.counting.balances.Goals as goal
 

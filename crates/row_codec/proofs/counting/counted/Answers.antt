@@ -1,5 +1,5 @@
 use Rattle.std.proofs.Common.{◌∙◌, ap, map, option_map, w64, of_z, to_z, to_z-of_z}
-use Rattle.row_codec.proofs.Common.{get, count_meant, CountKey, running_in}
+use Rattle.row_codec.proofs.Common.{CountKey, count_meant, get, running_in}
 use Rattle.row_codec.proofs.counting.counted.Goals as goal
 
 pub returns-clause-read : goal.returns-clause-read

@@ -1,5 +1,5 @@
 use Rattle.std.proofs.Common.{sym, ap, subst, ◌∙◌, option_map, IfSome, rules, FitsSigned, w64, of_z, to_z, to_z-of_z}
-use Rattle.row_codec.proofs.Common.{get, inside, IsShowing, CountKey, running_in, IsRowOf, pieces_found, posting_count, Tables, count_row, storing_count}
+use Rattle.row_codec.proofs.Common.{CountKey, IsRowOf, IsShowing, Tables, count_row, get, inside, pieces_found, posting_count, running_in, storing_count}
 use Rattle.row_codec.proofs.Stores.{row_posted, survives_on}
 use Rattle.row_codec.proofs.counting.post_count.Goals as goal
 

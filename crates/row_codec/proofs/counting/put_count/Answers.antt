@@ -1,5 +1,5 @@
 use Rattle.std.proofs.Common.{sym, subst, ◌∙◌, to_z-of_z}
-use Rattle.row_codec.proofs.Common.{without_count, changing_count, with_count, ShowsChange, Tables, Count, CountKey, count_row}
+use Rattle.row_codec.proofs.Common.{Count, CountKey, ShowsChange, Tables, changing_count, count_row, with_count, without_count}
 use Rattle.row_codec.proofs.Stores.{row_removed, row_changed, row_added}
 use Rattle.row_codec.proofs.counting.put_count.Goals as goal
 

@@ -1,5 +1,4 @@
-use Rattle.std.proofs.Common.{refl}
-use Rattle.row_codec.proofs.Common.{Hand, Surplus, Free, Built, Departed, Delivered, Missing, Transferred}
+use Rattle.row_codec.proofs.Common.{Built, Delivered, Departed, Free, Hand, Missing, Surplus, Transferred, refl}
 use Rattle.row_codec.proofs.counting.sums_by.Goals as goal
 
 pub returns : goal.returns

@@ -1,5 +1,4 @@
-use Rattle.std.proofs.Common.{◌∙◌, ap, map}
-use Rattle.row_codec.proofs.Common.{count_meant}
+use Rattle.row_codec.proofs.Common.{ap, count_meant, map, ◌∙◌}
 use Rattle.row_codec.proofs.Stores.{made_of}
 use Rattle.row_codec.proofs.listing.all_balances.Goals as goal
 

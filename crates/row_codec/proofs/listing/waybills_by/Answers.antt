@@ -1,5 +1,5 @@
 use Rattle.std.proofs.Common.{◌≡◌, [], drop, get_or, pos, sym, subst, arith, rules, FitsSigned, w64, to_z-of_z}
-use Rattle.row_codec.proofs.Common.{drop_all, length-drop, CountRow}
+use Rattle.row_codec.proofs.Common.{CountRow, drop_all, length-drop}
 use Rattle.row_codec.proofs.EachWaybill.{Lists, none_listed, one_step, all_listed, rest_is}
 use Rattle.row_codec.proofs.listing.waybills_by.Goals as goal
 

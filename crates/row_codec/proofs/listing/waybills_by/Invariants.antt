@@ -1,5 +1,4 @@
-use Rattle.std.proofs.Common.{◌≡◌, ◌≤◌, ◌-◌, List, drop, length, map}
-use Rattle.row_codec.proofs.Common.{FinMap, entries, Move, Count, count_cmp, count_meant, AreCounts}
+use Rattle.row_codec.proofs.Common.{AreCounts, Count, FinMap, List, Move, count_cmp, count_meant, drop, entries, length, map, ◌-◌, ◌≡◌, ◌≤◌}
 use Rattle.row_codec.proofs.EachWaybill.{Lists}
 use Rattle.row_codec.proofs.listing.waybills_by.Given as goal
 

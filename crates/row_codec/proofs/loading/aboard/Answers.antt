@@ -1,5 +1,5 @@
 use Rattle.std.proofs.Common.{◌≡◌, ◌∙◌, ℕ, ℤ, List, sym, ap, ap₂, subst, map, rules, FitsSigned, w64, to_z-of_z}
-use Rattle.row_codec.proofs.Common.{All, filter, entries, Built, Load, Build, BuildKey, build_meant, is_on, running, load_said, row_said, is_loaded}
+use Rattle.row_codec.proofs.Common.{All, Build, BuildKey, Built, Load, build_meant, entries, filter, is_loaded, is_on, load_said, row_said, running}
 use Rattle.row_codec.proofs.FlightRows.{loads_are, loads_sums}
 use Rattle.row_codec.proofs.Stores.{made_of}
 use Rattle.row_codec.proofs.loading.aboard.Goals as goal

@@ -1,5 +1,4 @@
-use Rattle.std.proofs.Common.{◌∙◌, sym, ap, map}
-use Rattle.row_codec.proofs.Common.{load_said}
+use Rattle.row_codec.proofs.Common.{ap, load_said, map, sym, ◌∙◌}
 use Rattle.row_codec.proofs.Loads.{load_taken, load_passed}
 use Rattle.row_codec.proofs.loading.loads_in.Goals.{then-is_loaded+in_ok-load+in_ok-add, else-is_loaded}
 use Rattle.row_codec.proofs.loading.loads_in.Goals as goal

@@ -1,5 +1,4 @@
-use Rattle.std.proofs.Common.{◌≡◌, take, map}
-use Rattle.row_codec.proofs.Common.{filter, build_meant, load_said, row_said, is_loaded}
+use Rattle.row_codec.proofs.Common.{build_meant, filter, is_loaded, load_said, map, row_said, take, ◌≡◌}
 use Rattle.row_codec.proofs.loading.loads_in.Given as goal
 
 abbrev pub invariant-loop-row : goal.invariant-loop-row

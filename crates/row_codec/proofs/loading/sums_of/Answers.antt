@@ -1,5 +1,4 @@
-use Rattle.std.proofs.Common.{◌≡◌, ◌∙◌, sym, ap, subst}
-use Rattle.row_codec.proofs.Common.{FlightDate, Built, Load, load_said}
+use Rattle.row_codec.proofs.Common.{Built, FlightDate, Load, ap, load_said, subst, sym, ◌∙◌, ◌≡◌}
 use Rattle.row_codec.proofs.KnownLaws.{sum_more}
 use Rattle.row_codec.proofs.loading.sums_of.Goals as goal
 

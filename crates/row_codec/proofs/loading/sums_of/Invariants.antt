@@ -1,5 +1,4 @@
-use Rattle.std.proofs.Common.{◌≡◌}
-use Rattle.row_codec.proofs.Common.{All, Built, AreSumsOn, load_said, Sums}
+use Rattle.row_codec.proofs.Common.{All, AreSumsOn, Built, Sums, load_said, ◌≡◌}
 use Rattle.row_codec.proofs.loading.sums_of.Given as goal
 
 -- the sums so far are right, if those of all loads are

@@ -1,5 +1,5 @@
 use Rattle.std.proofs.Common.{◌∙◌, ℕ, ℤ, pos, int_lt, List, length, ap, ap₂, map, rules, FitsSigned, w64, to_z-of_z}
-use Rattle.row_codec.proofs.Common.{filter, entries, is_on, pieces_in}
+use Rattle.row_codec.proofs.Common.{entries, filter, is_on, pieces_in}
 use Rattle.row_codec.proofs.FlightRows.{number_is}
 use Rattle.row_codec.proofs.Stores.{made_of}
 use Rattle.row_codec.proofs.loading.waybills_on.Goals as goal

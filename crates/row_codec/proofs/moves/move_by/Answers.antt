@@ -1,5 +1,5 @@
 use Rattle.std.proofs.Common.{rules, ◌≡◌, Option, List, ℕ, is_some, unwrap_or, SFits, w64, to_z-of_z, sym, ap, ◌∙◌, true≢false}
-use Rattle.row_codec.proofs.Common.{and_parts, and_from, move_meant, FlightDate, Place, Hand, flight_date_of, is_day, is_within, place_of, are_flight_columns}
+use Rattle.row_codec.proofs.Common.{FlightDate, Hand, Place, and_from, and_parts, are_flight_columns, flight_date_of, is_day, is_within, move_meant, place_of}
 use Rattle.row_codec.proofs.MoveRows.{move_is, is_row, is_no_row}
 use Rattle.row_codec.proofs.moves.move_by.Goals as goal
 

@@ -1,6 +1,5 @@
 use Rattle.std.proofs.Common.{IfSome, ◌≡◌, ◌∙◌, sym, ap, subst, rules, FitsSigned, w64, to_z, of_z, to_z-of_z}
-use Rattle.row_codec.proofs.Common.{Place, inside, posting}
-use Rattle.row_codec.specs.Posted.{Keeps}
+use Rattle.row_codec.proofs.Common.{Keeps, Place, inside, posting}
 use Rattle.row_codec.proofs.Codes.{plain_by}
 use Rattle.row_codec.proofs.TotalsKept.{keeps_count, keeps_build, counted_before, built_before, counted_known, built_known}
 use Rattle.row_codec.proofs.posting.post.Goals as goal

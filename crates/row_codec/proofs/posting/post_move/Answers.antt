@@ -1,5 +1,5 @@
 use Rattle.std.proofs.Common.{◌∙◌, ap, subst, rules, FitsSigned, w64, to_z-of_z}
-use Rattle.row_codec.proofs.Common.{running, AreKnown, posting, come}
+use Rattle.row_codec.proofs.Common.{AreKnown, come, posting, running}
 use Rattle.row_codec.proofs.Moved.{sums_then}
 use Rattle.row_codec.proofs.TotalsKept.{keeps_book, posted_book, there_before}
 use Rattle.row_codec.proofs.posting.post_move.Goals as goal

@@ -1,5 +1,4 @@
-use Rattle.std.proofs.Common.{rules, ◌∙◌, SFits, w64}
-use Rattle.row_codec.proofs.Common.{to_z-of_z}
+use Rattle.row_codec.proofs.Common.{SFits, rules, to_z-of_z, w64, ◌∙◌}
 use Rattle.row_codec.proofs.Asking.{asks_lines_of}
 use Rattle.row_codec.proofs.queries.line_query.Goals as goal
 

@@ -1,5 +1,4 @@
-use Rattle.std.proofs.Common.{rules, true, SFits, w64}
-use Rattle.row_codec.proofs.Common.{to_z-of_z, kept_meant}
+use Rattle.row_codec.proofs.Common.{SFits, kept_meant, rules, to_z-of_z, true, w64}
 use Rattle.row_codec.proofs.Exact.{under_key, text_is}
 use Rattle.row_codec.proofs.replies.kept_by.Goals as goal
 

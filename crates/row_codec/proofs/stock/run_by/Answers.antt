@@ -1,5 +1,4 @@
-use Rattle.std.proofs.Common.{rules, ◌∙◌, pos, is_some, SFits, w64, ap}
-use Rattle.row_codec.proofs.Common.{int_le, to_z-of_z, stock_meant, is_within, holder_by}
+use Rattle.row_codec.proofs.Common.{SFits, ap, holder_by, int_le, is_some, is_within, pos, rules, stock_meant, to_z-of_z, w64, ◌∙◌}
 use Rattle.row_codec.proofs.Exact.{no_number, no_count, no_holder, all_tests}
 use Rattle.row_codec.proofs.stock.run_by.Goals as goal
 

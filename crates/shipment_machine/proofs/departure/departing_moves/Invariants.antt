@@ -1,5 +1,4 @@
-use Rattle.std.proofs.Common.{◌≡◌, take}
-use Rattle.shipment_machine.proofs.Common.{depart_moves}
+use Rattle.shipment_machine.proofs.Common.{depart_moves, take, ◌≡◌}
 use Rattle.shipment_machine.proofs.departure.departing_moves.Given as goal
 
 abbrev pub invariant-loop-aboard : goal.invariant-loop-aboard

@@ -1,5 +1,4 @@
-use Rattle.std.proofs.Common.{◌≡◌, take}
-use Rattle.shipment_machine.proofs.Common.{flat_map, status_of}
+use Rattle.shipment_machine.proofs.Common.{flat_map, status_of, take, ◌≡◌}
 use Rattle.shipment_machine.specs.declared.notice.Event.TheVariants as event
 use Rattle.shipment_machine.proofs.departure.departing_notices.Given as goal
 

@@ -1,5 +1,4 @@
-use Rattle.std.proofs.Common.{◌≡◌, take, map}
-use Rattle.shipment_machine.proofs.Common.{manifest_line}
+use Rattle.shipment_machine.proofs.Common.{manifest_line, map, take, ◌≡◌}
 use Rattle.shipment_machine.proofs.departure.lines_of.Given as goal
 
 abbrev pub invariant-loop-aboard : goal.invariant-loop-aboard

@@ -1,5 +1,4 @@
-use Rattle.std.proofs.Common.{◌≡◌, ◌≤◌, ◌*◌, take}
-use Rattle.shipment_machine.proofs.Common.{sum_by}
+use Rattle.shipment_machine.proofs.Common.{sum_by, take, ◌*◌, ◌≡◌, ◌≤◌}
 use Rattle.shipment_machine.proofs.departure.pieces_aboard.Given as goal
 
 abbrev pub invariant-loop-aboard : goal.invariant-loop-aboard

@@ -1,6 +1,4 @@
-use Rattle.std.proofs.Common.{◌≡◌, nat_eq, get_or, subst, sym, arith}
-use Rattle.std.specs.HashMap.{get}
-use Rattle.shipment_machine.proofs.Common.{CargoLine, no_earlier, announced_changes}
+use Rattle.shipment_machine.proofs.Common.{CargoLine, announced_changes, arith, get, get_or, nat_eq, no_earlier, subst, sym, ◌≡◌}
 use Rattle.shipment_machine.proofs.AnnouncedSteps.{one_more}
 use Rattle.shipment_machine.proofs.inbound.announced.Goals as goal
 

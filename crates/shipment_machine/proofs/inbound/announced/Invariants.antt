@@ -1,6 +1,4 @@
-use Rattle.std.proofs.Common.{◌≡◌, nat_eq, drop}
-use Rattle.std.specs.HashMap.{get}
-use Rattle.shipment_machine.proofs.Common.{then_write, no_earlier, announced_changes}
+use Rattle.shipment_machine.proofs.Common.{announced_changes, drop, get, nat_eq, no_earlier, then_write, ◌≡◌}
 use Rattle.shipment_machine.proofs.inbound.announced.Given as goal
 
 abbrev pub invariant-loop-i : goal.invariant-loop-i

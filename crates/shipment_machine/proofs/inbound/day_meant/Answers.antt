@@ -1,5 +1,4 @@
-use Rattle.std.proofs.Common.{sym, ap, ◌∙◌}
-use Rattle.shipment_machine.proofs.Common.{resolved}
+use Rattle.shipment_machine.proofs.Common.{ap, resolved, sym, ◌∙◌}
 use Rattle.shipment_machine.proofs.Meant.{meant, not_meant}
 use Rattle.shipment_machine.proofs.inbound.day_meant.Goals as goal
 

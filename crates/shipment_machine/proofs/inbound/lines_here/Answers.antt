@@ -1,6 +1,5 @@
-use Rattle.std.proofs.Common.{arith, subst}
+use Rattle.shipment_machine.proofs.Common.{All-more, HasPieces, arith, subst}
 use Rattle.std.proofs.lemmas.Grind.{common_steps}
-use Rattle.shipment_machine.proofs.Common.{All-more, HasPieces}
 use Rattle.shipment_machine.proofs.inbound.lines_here.Goals.{then-is_same+in_ok-push, else-is_same}
 use Rattle.shipment_machine.proofs.inbound.lines_here.Goals as goal
 

@@ -1,5 +1,4 @@
-use Rattle.std.proofs.Common.{◌≡◌, ◌≤◌, take, length, All}
-use Rattle.shipment_machine.proofs.Common.{lines_for, HasPieces}
+use Rattle.shipment_machine.proofs.Common.{All, HasPieces, length, lines_for, take, ◌≡◌, ◌≤◌}
 use Rattle.shipment_machine.proofs.inbound.lines_here.Given as goal
 
 abbrev pub invariant-loop-line : goal.invariant-loop-line

@@ -1,5 +1,4 @@
-use Rattle.std.proofs.Common.{take, All}
-use Rattle.shipment_machine.proofs.Common.{IsOnBoard}
+use Rattle.shipment_machine.proofs.Common.{All, IsOnBoard, take}
 use Rattle.shipment_machine.proofs.planning.are_on_board.Given as goal
 
 abbrev pub invariant-loop-aboard : goal.invariant-loop-aboard

@@ -1,5 +1,4 @@
-use Rattle.std.proofs.Common.{◌∙◌, sym}
-use Rattle.shipment_machine.proofs.Common.{length-map}
+use Rattle.shipment_machine.proofs.Common.{length-map, sym, ◌∙◌}
 use Rattle.shipment_machine.proofs.planning.lines_for.Goals as goal
 
 pub returns : goal.returns

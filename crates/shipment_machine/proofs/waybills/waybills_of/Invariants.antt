@@ -1,5 +1,4 @@
-use Rattle.std.proofs.Common.{◌≡◌, ◌≤◌, length, drop}
-use Rattle.shipment_machine.proofs.Common.{waybills_of}
+use Rattle.shipment_machine.proofs.Common.{drop, length, waybills_of, ◌≡◌, ◌≤◌}
 use Rattle.shipment_machine.proofs.waybills.waybills_of.Given as goal
 
 abbrev pub invariant-loop-left : goal.invariant-loop-left

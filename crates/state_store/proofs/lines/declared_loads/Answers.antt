@@ -1,5 +1,4 @@
-use Rattle.std.proofs.Common.{◌≡◌, [], ◌++◌, ◌∷◌, ap, ◌∙◌, map, take, ◌+◌}
-use Rattle.state_store.proofs.Common.{aboard_of, mapped}
+use Rattle.state_store.proofs.Common.{[], aboard_of, ap, map, mapped, take, ◌++◌, ◌+◌, ◌∙◌, ◌∷◌, ◌≡◌}
 use Rattle.state_store.proofs.Walks.{reads_then}
 use Rattle.state_store.proofs.lines.declared_loads.Goals as goal
 

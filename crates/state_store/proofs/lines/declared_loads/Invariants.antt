@@ -1,5 +1,4 @@
-use Rattle.std.proofs.Common.{◌≡◌, Ok, take, map}
-use Rattle.state_store.proofs.Common.{aboard_of, Reads}
+use Rattle.state_store.proofs.Common.{Ok, Reads, aboard_of, map, take, ◌≡◌}
 use Rattle.state_store.proofs.lines.declared_loads.Given as goal
 
 abbrev pub invariant-loop-load : goal.invariant-loop-load

@@ -1,7 +1,5 @@
-use Rattle.std.proofs.Common.{◌≡◌, Ok, take, map}
+use Rattle.state_store.proofs.Common.{Ok, Reads, line_view_of, map, take, ◌≡◌}
 use Rattle.shipment_machine.specs.Effect.{lines_for}
-use Rattle.shipment_machine.specs.Views.{line_view_of}
-use Rattle.state_store.proofs.Common.{Reads}
 use Rattle.state_store.proofs.lines.line_rows.Given as goal
 
 abbrev pub invariant-loop-line : goal.invariant-loop-line

@@ -1,5 +1,4 @@
-use Rattle.std.proofs.Common.{map, sym, ap, ◌∙◌}
-use Rattle.state_store.proofs.Common.{waybills_on, aboard_of, load_on, map_twice}
+use Rattle.state_store.proofs.Common.{aboard_of, ap, load_on, map, map_twice, sym, waybills_on, ◌∙◌}
 use Rattle.state_store.proofs.Walks.{reads_then}
 use Rattle.state_store.proofs.lines.loads_of.Goals as goal
 

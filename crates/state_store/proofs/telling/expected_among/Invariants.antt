@@ -1,5 +1,4 @@
-use Rattle.std.proofs.Common.{◌≡◌, Ok, take, map}
-use Rattle.state_store.proofs.Common.{expected_row, ReadsAtRest}
+use Rattle.state_store.proofs.Common.{Ok, ReadsAtRest, expected_row, map, take, ◌≡◌}
 use Rattle.state_store.proofs.telling.expected_among.Given as goal
 
 abbrev pub invariant-loop-expectation : goal.invariant-loop-expectation

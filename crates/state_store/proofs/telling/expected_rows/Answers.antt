@@ -1,5 +1,4 @@
-use Rattle.std.proofs.Common.{map, ap, ◌∙◌}
-use Rattle.state_store.proofs.Common.{expected_row}
+use Rattle.state_store.proofs.Common.{ap, expected_row, map, ◌∙◌}
 use Rattle.state_store.proofs.Walks.{rests_then}
 use Rattle.state_store.proofs.telling.expected_rows.Goals as goal
 

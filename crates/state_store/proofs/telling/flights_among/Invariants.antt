@@ -1,5 +1,4 @@
-use Rattle.std.proofs.Common.{◌≡◌, Ok, take, map}
-use Rattle.state_store.proofs.Common.{flight_row, ReadsAtRest}
+use Rattle.state_store.proofs.Common.{Ok, ReadsAtRest, flight_row, map, take, ◌≡◌}
 use Rattle.state_store.proofs.telling.flights_among.Given as goal
 
 abbrev pub invariant-loop-noted : goal.invariant-loop-noted

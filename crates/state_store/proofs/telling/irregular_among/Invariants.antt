@@ -1,5 +1,4 @@
-use Rattle.std.proofs.Common.{◌≡◌, Ok, take, map}
-use Rattle.state_store.proofs.Common.{irregular_by, ReadsAtRest}
+use Rattle.state_store.proofs.Common.{Ok, ReadsAtRest, irregular_by, map, take, ◌≡◌}
 use Rattle.state_store.proofs.telling.irregular_among.Given as goal
 
 abbrev pub invariant-loop-waybill : goal.invariant-loop-waybill

@@ -1,5 +1,4 @@
-use Rattle.std.proofs.Common.{map, refl, ap, ◌∙◌}
-use Rattle.state_store.proofs.Common.{waybills_of, is_irregular, irregular_row, irregular_by, Irregular}
+use Rattle.state_store.proofs.Common.{Irregular, ap, irregular_by, irregular_row, is_irregular, map, refl, waybills_of, ◌∙◌}
 use Rattle.state_store.proofs.Listed.{rows_of}
 use Rattle.state_store.proofs.Walks.{rests_then}
 use Rattle.state_store.proofs.telling.irregular_rows.Goals as goal

@@ -1,5 +1,4 @@
-use Rattle.std.proofs.Common.{◌≡◌, ◌≤◌, ◌*◌, take}
-use Rattle.state_store.proofs.Common.{sum_by, Load}
+use Rattle.state_store.proofs.Common.{Load, sum_by, take, ◌*◌, ◌≡◌, ◌≤◌}
 use Rattle.state_store.proofs.telling.pieces_in.Given as goal
 
 abbrev pub invariant-loop-load : goal.invariant-loop-load

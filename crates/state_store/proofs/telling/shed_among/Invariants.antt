@@ -1,5 +1,4 @@
-use Rattle.std.proofs.Common.{◌≡◌, Ok, take, map}
-use Rattle.state_store.proofs.Common.{shed_by, ReadsAtRest}
+use Rattle.state_store.proofs.Common.{Ok, ReadsAtRest, map, shed_by, take, ◌≡◌}
 use Rattle.state_store.proofs.telling.shed_among.Given as goal
 
 abbrev pub invariant-loop-waybill : goal.invariant-loop-waybill

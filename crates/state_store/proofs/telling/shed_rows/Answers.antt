@@ -1,7 +1,4 @@
-use Rattle.std.proofs.Common.{ℕ, nat_lt, map, ap, ◌∙◌}
-use Rattle.shipment_machine.specs.Amount.{less}
-use Rattle.state_store.proofs.Common.{Amount, free, waybills_of, Cargo, is_in_shed, shed_row, shed_by, Stored}
-use Rattle.shipment_machine.specs.Views.{declaration}
+use Rattle.state_store.proofs.Common.{Amount, Cargo, Stored, ap, declaration, free, is_in_shed, less, map, nat_lt, shed_by, shed_row, waybills_of, ℕ, ◌∙◌}
 use Rattle.station_core.specs.declared.rows.ShedRow.{ShedRow}
 use Rattle.state_store.proofs.Listed.{rows_of}
 use Rattle.state_store.proofs.Stored.{stored_is}

@@ -1,5 +1,4 @@
-use Rattle.std.proofs.Common.{◌≡◌, ℕ, ◌+◌, sym, ap, ◌∙◌, arith}
-use Rattle.state_store.proofs.Common.{Amount, store, taken_and_found, departed, delivered, missing, transferred}
+use Rattle.state_store.proofs.Common.{Amount, ap, arith, delivered, departed, missing, store, sym, taken_and_found, transferred, ℕ, ◌+◌, ◌∙◌, ◌≡◌}
 use Rattle.shipment_machine.specs.declared.moves.Balances.{Balances}
 use Rattle.state_store.proofs.telling.stored.Goals as goal
 

@@ -1,5 +1,4 @@
-use Rattle.std.proofs.Common.{Some, sym, ap, ◌∙◌}
-use Rattle.state_store.proofs.Common.{option_map, told_of, at_rest}
+use Rattle.state_store.proofs.Common.{Some, ap, at_rest, option_map, sym, told_of, ◌∙◌}
 use Rattle.state_store.proofs.Walks.{survives_then}
 use Rattle.state_store.proofs.telling.waybill_in.Goals as goal
 

@@ -1,6 +1,4 @@
-use Rattle.std.proofs.Common.{◌≡◌, [], take, length, true, false}
-use Rattle.station_core.specs.Keeping.{KeepsSound}
-use Rattle.station_core.proofs.Common.{State, after_all, answers_of}
+use Rattle.station_core.proofs.Common.{KeepsSound, State, [], after_all, answers_of, false, length, take, true, ◌≡◌}
 use Rattle.station_core.proofs.all.act_all.Given as goal
 
 -- what was answered so far is the run of the inputs so far

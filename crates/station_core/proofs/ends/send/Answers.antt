@@ -1,6 +1,6 @@
 use Rattle.std.proofs.Common.{rules, arith, ◌≡◌, ◌∙◌, sym, ap, ℕ, List, ◌++◌, ◌-◌, length, take, drop, append_assoc}
 use Rattle.std.proofs.Math.Seq.{take-add, take-length}
-use Rattle.station_core.proofs.Common.{nat_tests, length-drop, length-take-le}
+use Rattle.station_core.proofs.Common.{length-drop, length-take-le, nat_tests}
 use Rattle.station_core.specs.Ends.{idle_count}
 use Rattle.station_core.proofs.ends.send.Goals as goal
 

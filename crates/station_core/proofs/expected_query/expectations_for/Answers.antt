@@ -1,5 +1,5 @@
 use Rattle.std.proofs.Common.{arith, ◌≡◌, ◌∙◌, ap, sym, subst, filter, length, take}
-use Rattle.station_core.proofs.Common.{take_all, AreExpectations, asks_for, expected_for, Expectation}
+use Rattle.station_core.proofs.Common.{AreExpectations, Expectation, asks_for, expected_for, take_all}
 use Rattle.station_core.proofs.Asked.{are_asked}
 use Rattle.station_core.proofs.expected_query.expectations_for.Goals as goal
 

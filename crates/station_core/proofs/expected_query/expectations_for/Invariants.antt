@@ -1,5 +1,5 @@
 use Rattle.std.proofs.Common.{◌≡◌, take, filter}
-use Rattle.station_core.proofs.Common.{asks_for, Expectation}
+use Rattle.station_core.proofs.Common.{Expectation, asks_for}
 use Rattle.station_core.proofs.expected_query.expectations_for.Given as goal
 
 -- what is asked for of the rows so far

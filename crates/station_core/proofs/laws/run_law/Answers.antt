@@ -1,6 +1,6 @@
 use Rattle.shipment_machine.proofs.Conserved.{is_conserved}
 use Rattle.shipment_machine.proofs.Shown.{are_balances}
-use Rattle.station_core.proofs.Common.{opening, after_all}
+use Rattle.station_core.proofs.Common.{after_all, opening}
 use Rattle.station_core.proofs.RunLaw.{run_lawful}
 use Rattle.station_core.proofs.laws.run_law.Goals as goal
 

@@ -1,5 +1,4 @@
-use Rattle.std.proofs.Common.{subst, arith}
-use Rattle.station_core.proofs.Common.{AllByRecursion, take_all, IsInboundLine}
+use Rattle.station_core.proofs.Common.{AllByRecursion, IsInboundLine, arith, subst, take_all}
 use Rattle.station_core.proofs.RangeLaws.{all_more}
 use Rattle.station_core.proofs.ranges.lines_range.Goals as goal
 

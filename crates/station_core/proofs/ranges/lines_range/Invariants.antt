@@ -1,5 +1,4 @@
-use Rattle.std.proofs.Common.{take}
-use Rattle.station_core.proofs.Common.{AllByRecursion, IsInboundLine}
+use Rattle.station_core.proofs.Common.{AllByRecursion, IsInboundLine, take}
 use Rattle.station_core.proofs.ranges.lines_range.Given as goal
 
 -- the lines so far are in range

@@ -1,5 +1,4 @@
-use Rattle.std.proofs.Common.{◌≡◌, map, take}
-use Rattle.station_core.proofs.Common.{notice_text, texts_in}
+use Rattle.station_core.proofs.Common.{map, notice_text, take, texts_in, ◌≡◌}
 use Rattle.station_core.proofs.texts.notice_texts.Given as goal
 
 abbrev pub invariant-loop-notice : goal.invariant-loop-notice

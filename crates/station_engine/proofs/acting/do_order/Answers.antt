@@ -1,5 +1,4 @@
-use Rattle.std.proofs.Common.{rules}
-use Rattle.station_engine.proofs.Common.{accepted, kept_with, at_rest, with_order}
+use Rattle.station_engine.proofs.Common.{accepted, at_rest, kept_with, rules, with_order}
 use Rattle.station_engine.proofs.Steps.{serves_by, found_after, order_step, order_lawful}
 use Rattle.station_engine.proofs.acting.do_order.Goals as goal
 

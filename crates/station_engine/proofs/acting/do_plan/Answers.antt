@@ -1,6 +1,4 @@
-use Rattle.std.proofs.Common.{map, rules, sym, ap, ◌∙◌}
-use Rattle.station_engine.proofs.Common.{outcome_of, carried_out, accepted, has_room, kept_with, sent, at_rest, with_plan, texts_in}
-use Rattle.telegrams.specs.NoticeText.{notice_text}
+use Rattle.station_engine.proofs.Common.{accepted, ap, at_rest, carried_out, has_room, kept_with, map, notice_text, outcome_of, rules, sent, sym, texts_in, with_plan, ◌∙◌}
 use Rattle.station_engine.proofs.Steps.{serves_by, found_after, plan_step, plan_lawful}
 use Rattle.station_engine.proofs.acting.do_plan.Goals as goal
 

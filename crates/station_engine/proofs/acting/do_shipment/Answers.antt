@@ -1,5 +1,4 @@
-use Rattle.std.proofs.Common.{inl, inr, ⊎_elim}
-use Rattle.station_engine.proofs.Common.{at_rest}
+use Rattle.station_engine.proofs.Common.{at_rest, inl, inr, ⊎_elim}
 use Rattle.station_engine.proofs.Steps.{planned_by}
 use Rattle.station_engine.proofs.acting.do_shipment.Goals as goal
 

@@ -1,5 +1,4 @@
-use Rattle.std.proofs.Common.{Ok, take}
-use Rattle.station_engine.proofs.Common.{Changes, with_messages, texts_in}
+use Rattle.station_engine.proofs.Common.{Changes, Ok, take, texts_in, with_messages}
 use Rattle.station_engine.proofs.carrying.add_messages.Given as goal
 
 abbrev pub invariant-loop-message : goal.invariant-loop-message

@@ -1,5 +1,4 @@
-use Rattle.std.proofs.Common.{Ok, take}
-use Rattle.station_engine.proofs.Common.{Changes, with_moves}
+use Rattle.station_engine.proofs.Common.{Changes, Ok, take, with_moves}
 use Rattle.station_engine.proofs.carrying.add_moves.Given as goal
 
 abbrev pub invariant-loop-movement : goal.invariant-loop-movement

@@ -1,5 +1,4 @@
-use Rattle.std.proofs.Common.{take, subst}
-use Rattle.station_engine.proofs.Common.{State, inside, with_changes}
+use Rattle.station_engine.proofs.Common.{State, inside, subst, take, with_changes}
 use Rattle.state_store.proofs.Walks.{survives_then}
 use Rattle.station_engine.proofs.Walks.{change_next}
 use Rattle.station_engine.proofs.carrying.write_all.Goals as goal

@@ -1,5 +1,4 @@
-use Rattle.std.proofs.Common.{Ok, take}
-use Rattle.station_engine.proofs.Common.{Changes, with_changes}
+use Rattle.station_engine.proofs.Common.{Changes, Ok, take, with_changes}
 use Rattle.station_engine.proofs.carrying.write_all.Given as goal
 
 abbrev pub invariant-loop-change : goal.invariant-loop-change

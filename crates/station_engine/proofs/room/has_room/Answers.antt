@@ -1,7 +1,5 @@
-use Rattle.std.proofs.Common.{◌∙◌, ap, sym, length, ◌+◌}
-use Rattle.station_engine.proofs.Common.{nat_le, length-map, texts_in}
+use Rattle.station_engine.proofs.Common.{ap, is_line, length, length-map, nat_le, sym, texts_in, ◌+◌, ◌∙◌}
 use Rattle.std.specs.List.{filter}
-use Rattle.station_engine.specs.Room.{is_line}
 use Rattle.station_engine.proofs.Numbering.{room_by}
 use Rattle.station_engine.proofs.room.has_room.Goals as goal
 

@@ -1,5 +1,4 @@
-use Rattle.std.proofs.Common.{◌<◌, ◌∙◌, ℕ, IsTrue, Vec, Global, length, slice_index, ap, subst, refl, inr, arith, rules}
-use Rattle.station_files.proofs.Common.{catalog_tree, IsClean, AreBeside, own_trees}
+use Rattle.station_files.proofs.Common.{AreBeside, Global, IsClean, IsTrue, Vec, ap, arith, catalog_tree, inr, length, own_trees, refl, rules, slice_index, subst, ℕ, ◌<◌, ◌∙◌}
 use Rattle.station_files.proofs.beside.connect_own.Goals as goal
 
 pub returns-in-Err-over-clause-left : goal.returns-in-Err-over-clause-left

@@ -1,5 +1,4 @@
-use Rattle.std.proofs.Common.{IsTrue, length, lt-ltb, refl, sym, subst}
-use Rattle.station_files.proofs.Common.{Recovers, recovers_once, image, state_of}
+use Rattle.station_files.proofs.Common.{IsTrue, Recovers, image, length, lt-ltb, recovers_once, refl, state_of, subst, sym}
 use Rattle.sqlite_store.specs.FileStore.{state as store_state}
 use Rattle.station_files.proofs.Opened.{opens_on}
 use Rattle.station_files.proofs.beside.open_all.Goals as goal

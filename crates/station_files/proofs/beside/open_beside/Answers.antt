@@ -1,5 +1,4 @@
-use Rattle.std.proofs.Common.{◌∙◌, sym, ap, inl, inr, arith}
-use Rattle.station_files.proofs.Common.{no_doubt, settled_at, own_trees}
+use Rattle.station_files.proofs.Common.{ap, arith, inl, inr, no_doubt, own_trees, settled_at, sym, ◌∙◌}
 use Rattle.sqlite_trees.proofs.Doubt.{clean_of as sure}
 use Rattle.sqlite_store.specs.FileStore.{state as store_state, view as shown}
 use Rattle.station_files.proofs.OwnFiles.{finds_own, reads_own}

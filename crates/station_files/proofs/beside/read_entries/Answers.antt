@@ -1,5 +1,4 @@
-use Rattle.std.proofs.Common.{sym, subst}
-use Rattle.station_files.proofs.Common.{Recovers, settled, image, state_of}
+use Rattle.station_files.proofs.Common.{Recovers, image, settled, state_of, subst, sym}
 use Rattle.sqlite_pool.proofs.OpenLemmas.{Reopens-keeps}
 use Rattle.sqlite_store.proofs.OpenLemmas.{opens_after}
 use Rattle.station_files.proofs.beside.read_entries.Goals as goal

@@ -1,5 +1,4 @@
-use Rattle.std.proofs.Common.{◌≡◌, false, refl, ap, ap₂, subst₂, ◌∙◌, arith}
-use Rattle.station_files.proofs.Common.{∥∥₁_map, cond-true, bytes_of, is_summed, Recovers, no_trees, no_doubt, state_of, state, file_trees, IsOurs, kept_schema, summed_used}
+use Rattle.station_files.proofs.Common.{IsOurs, Recovers, ap, ap₂, arith, bytes_of, cond-true, false, file_trees, is_summed, kept_schema, no_doubt, no_trees, refl, state, state_of, subst₂, summed_used, ∥∥₁_map, ◌∙◌, ◌≡◌}
 use Rattle.station_files.proofs.ByList.{in_any_order}
 use Rattle.station_files.proofs.Opened.{kept_files}
 use Rattle.station_files.proofs.beside.store_beside.Goals as goal

@@ -1,5 +1,4 @@
-use Rattle.std.proofs.Common.{◌≤◌, arith}
-use Rattle.station_files.proofs.Common.{doubt}
+use Rattle.station_files.proofs.Common.{arith, doubt, ◌≤◌}
 use Rattle.station_files.proofs.closing.inside.Goals as goal
 
 pub returns : goal.returns

@@ -1,7 +1,5 @@
-use Rattle.std.proofs.Common.{◌≡◌, ◌%◌, ◌≤◌, true≢false, not, ap, sym, subst, ◌∙◌, inl, inr, arith, rules, eq-eqb, ne_eqb}
-use Rattle.station_files.proofs.Common.{cases_eq, reserved, image_of}
+use Rattle.station_files.proofs.Common.{ap, arith, cases_eq, eq-eqb, image_of, inl, inr, ne_eqb, not, reserved, reserved_word, rules, subst, sym, true≢false, ◌%◌, ◌∙◌, ◌≡◌, ◌≤◌}
 use Rattle.sqlite_wal.specs.Recovery as raw
-use Rattle.sqlite_pool.proofs.ProbeLemmas.{reserved_word}
 use Rattle.station_files.proofs.first_page.begins_plain.Goals as goal
 
 -- the header's word is that of pages with no sums

@@ -1,5 +1,4 @@
-use Rattle.std.proofs.Common.{◌≡◌, Some, rules}
-use Rattle.station_files.proofs.Common.{image_of}
+use Rattle.station_files.proofs.Common.{Some, image_of, rules, ◌≡◌}
 use Rattle.station_files.proofs.ByList.{probe_pages}
 use Rattle.station_files.proofs.first_page.named_size.Goals as goal
 

@@ -1,5 +1,4 @@
-use Rattle.std.proofs.Common.{refl}
-use Rattle.station_files.proofs.Common.{view, stays_at}
+use Rattle.station_files.proofs.Common.{refl, stays_at, view}
 use Rattle.station_files.proofs.Ended.{own_leads_on}
 use Rattle.station_files.proofs.laws.own_files_lead_on.Goals as goal
 

@@ -1,6 +1,4 @@
-use Rattle.std.proofs.Common.{inl, inr, subst, subst₂}
-use Rattle.station_files.proofs.Common.{cases_Bool, both_ways, no_doubt, catalog_tree, IsListed, IsClean, IsOrdered, view, shut_if_dirty_at, own_trees}
-use Rattle.station_files.specs.OwnLaws.{own_listed, own_ordered}
+use Rattle.station_files.proofs.Common.{IsClean, IsListed, IsOrdered, both_ways, cases_Bool, catalog_tree, inl, inr, no_doubt, own_listed, own_ordered, own_trees, shut_if_dirty_at, subst, subst₂, view}
 use Rattle.station_files.proofs.laws.own_files_lie_in_order.Goals as goal
 
 pub returns : goal.returns

@@ -1,5 +1,4 @@
-use Rattle.std.proofs.Common.{◌≡◌, true, sym, subst, ◌∙◌, arith, rules}
-use Rattle.station_files.proofs.Common.{err_from_is_err_and, bytes_of, IsBlankFile, no_doubt, settled_at, IsEmpty, same_image}
+use Rattle.station_files.proofs.Common.{IsBlankFile, IsEmpty, arith, bytes_of, err_from_is_err_and, no_doubt, rules, same_image, settled_at, subst, sym, true, ◌∙◌, ◌≡◌}
 use Rattle.sqlite_trees.proofs.Doubt.{clean_of as sure}
 use Rattle.sqlite_store.specs.FileStore.{view as shown}
 use Rattle.station_files.proofs.Unstarted.{unstarted_before}

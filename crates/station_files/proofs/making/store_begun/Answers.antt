@@ -1,5 +1,4 @@
-use Rattle.std.proofs.Common.{◌≡◌, sym, ap, false, subst, subst₂, ◌∙◌, inl, inr}
-use Rattle.station_files.proofs.Common.{outcomes, seen_image, bytes_of, IsPageSize, are_clean, IsBlankFile, is_summed, stored_size, no_doubt, catalog_rows, listed_from, pool_files, stored_used, summed_used, image_of, image, state_of}
+use Rattle.station_files.proofs.Common.{IsBlankFile, IsPageSize, ap, are_clean, bytes_of, catalog_rows, false, image, image_of, inl, inr, is_summed, listed_from, no_doubt, outcomes, pool_files, seen_image, state_of, stored_size, stored_used, subst, subst₂, summed_used, sym, ◌∙◌, ◌≡◌}
 use Rattle.station_files.proofs.Unstarted.{unstarted}
 use Rattle.station_files.proofs.making.store_begun.Goals as goal
 

@@ -1,5 +1,4 @@
-use Rattle.std.proofs.Common.{sym, subst, ◌∙◌, inl, arith}
-use Rattle.station_files.proofs.Common.{∥∥₁_map, adopts_of, no_doubt, settled_at, IsSound, file_state, image_of, AreFound}
+use Rattle.station_files.proofs.Common.{AreFound, IsSound, adopts_of, arith, file_state, image_of, inl, no_doubt, settled_at, subst, sym, ∥∥₁_map, ◌∙◌}
 use Rattle.sqlite_trees.proofs.Doubt.{clean_of as sure}
 use Rattle.sqlite_store.specs.FileStore.{state as store_state, view as shown}
 use Rattle.station_files.proofs.ByList.{in_any_order}

@@ -1,5 +1,4 @@
-use Rattle.std.proofs.Common.{◌≡◌, false, ap, ap₂, subst₂, ◌∙◌, arith}
-use Rattle.station_files.proofs.Common.{∥∥₁_map, subst₃, cond-true, bytes_of, is_summed, Recovers, no_trees, no_doubt, state_of, wanted_by, state, file_trees, IsOurs, kept_schema, summed_used}
+use Rattle.station_files.proofs.Common.{IsOurs, Recovers, ap, ap₂, arith, bytes_of, cond-true, false, file_trees, is_summed, kept_schema, no_doubt, no_trees, state, state_of, subst₂, subst₃, summed_used, wanted_by, ∥∥₁_map, ◌∙◌, ◌≡◌}
 use Rattle.station_files.proofs.Opened.{kept_files}
 use Rattle.station_files.proofs.opening.store_by_list.Goals as goal
 

@@ -1,5 +1,4 @@
-use Rattle.std.proofs.Common.{IsTrue, sym, ap, subst, ◌∙◌, rules}
-use Rattle.station_files.proofs.Common.{outcomes, seen_image, are_clean, AreClean, pair, state_of, BeginsWell, pool_files, reads_then, same_image, bytes_of, HoldsPages}
+use Rattle.station_files.proofs.Common.{AreClean, BeginsWell, HoldsPages, IsTrue, ap, are_clean, bytes_of, outcomes, pair, pool_files, reads_then, rules, same_image, seen_image, state_of, subst, sym, ◌∙◌}
 use Rattle.sqlite_wal.proofs.CleanLemmas.{both_clean}
 use Rattle.station_files.proofs.opening.unopened.Goals as goal
 

@@ -1,5 +1,4 @@
-use Rattle.std.proofs.Common.{◌≡◌, ap, map, take, true, IsTrue, sym, ◌∙◌, rules}
-use Rattle.station_files.proofs.Common.{list_all, catalog_tree, is_known}
+use Rattle.station_files.proofs.Common.{IsTrue, ap, catalog_tree, is_known, list_all, map, rules, sym, take, true, ◌∙◌, ◌≡◌}
 use Rattle.station_files.proofs.OwnListing.{known_taken}
 use Rattle.station_files.proofs.own_listing.are_beside.Goals as goal
 

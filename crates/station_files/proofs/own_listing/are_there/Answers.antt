@@ -1,5 +1,4 @@
-use Rattle.std.proofs.Common.{◌≡◌, ◌-◌, ap, arith, map, take, slice_index, ◌∙◌, subst}
-use Rattle.station_files.proofs.Common.{catalog_tree, wanted_of, listed_from}
+use Rattle.station_files.proofs.Common.{ap, arith, catalog_tree, listed_from, map, slice_index, subst, take, wanted_of, ◌-◌, ◌∙◌, ◌≡◌}
 use Rattle.station_files.proofs.OwnListing.{all_placed, IsPlaced}
 use Rattle.station_files.proofs.own_listing.are_there.Goals as goal
 

@@ -1,5 +1,4 @@
-use Rattle.std.proofs.Common.{◌≡◌, ◌<◌, ℕ, false, map, take, get_or, slice_get, Some}
-use Rattle.station_files.proofs.Common.{catalog_tree, IsClean, Object}
+use Rattle.station_files.proofs.Common.{IsClean, Object, Some, catalog_tree, false, get_or, map, slice_get, take, ℕ, ◌<◌, ◌≡◌}
 use Rattle.station_files.proofs.OwnListing.{IsPlaced}
 use Rattle.station_files.proofs.own_listing.are_there.Given as goal
 

@@ -1,5 +1,4 @@
-use Rattle.std.proofs.Common.{◌≡◌, ◌<◌, ◌+◌, pos, None, find, ap, sym, ◌∙◌, arith, rules}
-use Rattle.station_files.proofs.Common.{catalog_tree, has_rowid}
+use Rattle.station_files.proofs.Common.{None, ap, arith, catalog_tree, find, has_rowid, pos, rules, sym, ◌+◌, ◌<◌, ◌∙◌, ◌≡◌}
 use Rattle.station_files.proofs.OwnListing.{is_missing_there}
 use Rattle.station_files.proofs.own_listing.is_placed.Goals as goal
 

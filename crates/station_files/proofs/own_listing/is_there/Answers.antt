@@ -1,5 +1,4 @@
-use Rattle.std.proofs.Common.{◌≡◌, ◌<◌, ◌+◌, ◌∷◌, [], pos, true, Some, find, ap, sym, ◌∙◌, arith, rules}
-use Rattle.station_files.proofs.Common.{column, catalog_tree, has_rowid, is_present, wanted_of}
+use Rattle.station_files.proofs.Common.{Some, [], ap, arith, catalog_tree, column, find, has_rowid, is_present, pos, rules, sym, true, wanted_of, ◌+◌, ◌<◌, ◌∙◌, ◌∷◌, ◌≡◌}
 use Rattle.station_files.proofs.OwnListing.{is_listed_there}
 use Rattle.station_files.proofs.own_listing.is_there.Goals as goal
 

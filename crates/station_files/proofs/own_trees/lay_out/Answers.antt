@@ -1,5 +1,4 @@
-use Rattle.std.proofs.Common.{◌≡◌, ◌∙◌, ap, length, sym, subst₂, rules}
-use Rattle.station_files.proofs.Common.{AreLaidOut}
+use Rattle.station_files.proofs.Common.{AreLaidOut, ap, length, rules, subst₂, sym, ◌∙◌, ◌≡◌}
 use Rattle.station_files.proofs.Owning.{written_back}
 use Rattle.station_files.proofs.own_trees.lay_out.Goals as goal
 

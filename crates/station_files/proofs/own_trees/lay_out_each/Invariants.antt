@@ -1,5 +1,4 @@
-use Rattle.std.proofs.Common.{◌≡◌, ◌<◌, ℕ, length, slice_index, slice_index_or}
-use Rattle.station_files.proofs.Common.{Layout}
+use Rattle.station_files.proofs.Common.{Layout, length, slice_index, slice_index_or, ℕ, ◌<◌, ◌≡◌}
 use Rattle.station_files.proofs.own_trees.lay_out_each.Given as goal
 
 abbrev pub invariant-loop-at : goal.invariant-loop-at

@@ -1,5 +1,4 @@
-use Rattle.std.proofs.Common.{◌≡◌, ◌++◌, List, map, take, drop}
-use Rattle.station_files.proofs.Common.{Row, rows_from}
+use Rattle.station_files.proofs.Common.{List, Row, drop, map, rows_from, take, ◌++◌, ◌≡◌}
 use Rattle.station_files.proofs.own_trees.own_rows.Given as goal
 
 abbrev pub invariant-loop-tree : goal.invariant-loop-tree

@@ -1,5 +1,4 @@
-use Rattle.std.proofs.Common.{◌++◌, ◌∷◌, [], List, ap, sym, ◌∙◌, append-nil}
-use Rattle.station_files.proofs.Common.{Row}
+use Rattle.station_files.proofs.Common.{List, Row, [], ap, append-nil, sym, ◌++◌, ◌∙◌, ◌∷◌}
 use Rattle.station_files.proofs.Owning.{one_row, no_row}
 use Rattle.station_files.proofs.own_trees.push_row.Goals as goal
 

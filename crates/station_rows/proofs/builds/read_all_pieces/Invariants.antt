@@ -1,5 +1,4 @@
-use Rattle.std.proofs.Common.{◌≡◌, map, take}
-use Rattle.station_rows.proofs.Common.{pieces_read}
+use Rattle.station_rows.proofs.Common.{map, pieces_read, take, ◌≡◌}
 use Rattle.station_rows.proofs.builds.read_all_pieces.Given as goal
 
 abbrev pub invariant-loop-row : goal.invariant-loop-row

@@ -1,4 +1,4 @@
-use Rattle.station_rows.proofs.Common.{state, reads, station_schema, query_survives}
+use Rattle.station_rows.proofs.Common.{query_survives, reads, state, station_schema}
 use Rattle.station_rows.proofs.Texts.{list_pieces_text, list_pieces_is}
 use Rattle.station_rows.proofs.BuildLemmas.{lists_pieces}
 use Rattle.station_rows.proofs.builds.shown_pieces_on.Goals as goal

@@ -1,6 +1,5 @@
-use Rattle.station_rows.proofs.Common.{state, reads, station_schema, query_survives, kept_text_shown}
+use Rattle.station_rows.proofs.Common.{kept_text_shown, query_survives, reads, refl, state, station_schema}
 use Rattle.station_rows.proofs.Texts.{get_kept_text_text, get_kept_text_is}
-use Rattle.std.proofs.Common.{refl}
 use Rattle.station_rows.proofs.KeyedLemmas.{gets_value}
 use Rattle.station_rows.proofs.KeptTextLemmas.{kept_text_is, kept_text_table}
 use Rattle.station_rows.proofs.kept_texts.shown_kept_text.Goals as goal

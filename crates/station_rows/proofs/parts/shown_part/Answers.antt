@@ -1,6 +1,5 @@
-use Rattle.station_rows.proofs.Common.{state, reads, station_schema, query_survives, part_shown}
+use Rattle.station_rows.proofs.Common.{part_shown, query_survives, reads, refl, state, station_schema}
 use Rattle.station_rows.proofs.Texts.{get_part_text, get_part_is}
-use Rattle.std.proofs.Common.{refl}
 use Rattle.station_rows.proofs.KeyedLemmas.{gets_value}
 use Rattle.station_rows.proofs.PartLemmas.{part_is, part_table}
 use Rattle.station_rows.proofs.parts.shown_part.Goals as goal

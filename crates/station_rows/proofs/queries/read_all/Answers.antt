@@ -1,6 +1,4 @@
-use Rattle.std.proofs.Common.{subst, sym}
-use Rattle.std.proofs.Common.{take, ◌+◌}
-use Rattle.station_rows.proofs.Common.{AreRead}
+use Rattle.station_rows.proofs.Common.{AreRead, subst, sym, take, ◌+◌}
 use Rattle.station_rows.proofs.ReadLemmas.{one_more_read}
 use Rattle.station_rows.proofs.queries.read_all.Goals as goal
 

@@ -1,5 +1,4 @@
-use Rattle.std.proofs.Common.{take}
-use Rattle.station_rows.proofs.Common.{AreRead}
+use Rattle.station_rows.proofs.Common.{AreRead, take}
 use Rattle.station_rows.proofs.queries.read_all.Given as goal
 
 abbrev pub invariant-loop-row : goal.invariant-loop-row

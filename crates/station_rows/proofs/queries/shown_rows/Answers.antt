@@ -1,5 +1,4 @@
-use Rattle.std.proofs.Common.{List, refl, ◌≡◌}
-use Rattle.station_rows.proofs.Common.{state, Row, Shown, reads}
+use Rattle.station_rows.proofs.Common.{List, Row, Shown, reads, refl, state, ◌≡◌}
 use Rattle.sqlite.specs.Values.{bound}
 use Rattle.station_rows.proofs.queries.shown_rows.Goals as goal
 

@@ -1,5 +1,4 @@
-use Rattle.std.proofs.Common.{◌≡◌, rules, subst}
-use Rattle.station_schema.proofs.Common.{Trees, state, Survives, survives_then}
+use Rattle.station_schema.proofs.Common.{Survives, Trees, rules, state, subst, survives_then, ◌≡◌}
 use Rattle.station_schema.proofs.Begun.{begun_survives}
 use Rattle.station_schema.proofs.beside.create_beside.Goals as goal
 

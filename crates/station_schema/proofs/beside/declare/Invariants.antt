@@ -1,5 +1,4 @@
-use Rattle.std.proofs.Common.{◌≡◌}
-use Rattle.station_schema.proofs.Common.{HasCleanDisk, KeepsCommit, Survives, state}
+use Rattle.station_schema.proofs.Common.{HasCleanDisk, KeepsCommit, Survives, state, ◌≡◌}
 use Rattle.station_schema.proofs.beside.declare.Given as goal
 
 abbrev pub invariant-loop-text : goal.invariant-loop-text

@@ -1,5 +1,4 @@
-use Rattle.std.proofs.Common.{sym, ◌∙◌}
-use Rattle.station_schema.proofs.Common.{state}
+use Rattle.station_schema.proofs.Common.{state, sym, ◌∙◌}
 use Rattle.station_schema.proofs.Owned.{owns, owned}
 use Rattle.station_schema.proofs.Again.{found_again}
 use Rattle.station_schema.proofs.connection.has_station.Goals as goal

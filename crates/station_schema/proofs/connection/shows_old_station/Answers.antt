@@ -1,10 +1,7 @@
 use Rattle.station_schema.proofs.Common.{state}
-use Rattle.station_schema.proofs.Owned.{owns_old, owned_old}
+use Rattle.station_schema.proofs.Owned.{owns_old}
 use Rattle.station_schema.proofs.Again.{old_again}
 use Rattle.station_schema.proofs.connection.shows_old_station.Goals as goal
-
-pub returns-clause-schema : goal.returns-clause-schema
-returns-clause-schema g c is_open own = owned_old (state g.S.Store c.args.conn.now).now own (c.schema.ensures.live is_open).0
 
 pub returns-clause-own : goal.returns-clause-own
 returns-clause-own g c is_open has = owns_old (state g.S.Store c.args.conn.now).now has (c.schema.ensures.live is_open).0

@@ -1,5 +1,4 @@
-use Rattle.std.proofs.Common.{arith, ap, subst, sym, ◌∙◌}
-use Rattle.station_schema.proofs.Common.{state, survives_weaker, survives_then, IsOwn, tables_of}
+use Rattle.station_schema.proofs.Common.{IsOwn, ap, arith, state, subst, survives_then, survives_weaker, sym, tables_of, ◌∙◌}
 use Rattle.station_schema.proofs.creation.commit_tables.Goals as goal
 
 pub returns-in_err-fill_tables-clause-survives : goal.returns-in_err-fill_tables-clause-survives

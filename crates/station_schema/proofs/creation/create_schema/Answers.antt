@@ -1,5 +1,4 @@
-use Rattle.std.proofs.Common.{arith}
-use Rattle.station_schema.proofs.Common.{Trees, state, survives_then, no_schema, IsNewStation, IsMade}
+use Rattle.station_schema.proofs.Common.{IsMade, IsNewStation, Trees, arith, no_schema, state, survives_then}
 use Rattle.station_schema.proofs.Creating.{begun_blank}
 use Rattle.station_schema.proofs.creation.create_schema.Goals as goal
 

@@ -1,6 +1,4 @@
-use Rattle.std.proofs.Common.{◌≡◌, ◌<◌, get_or, [], Ok, Err, subst, arith, rules}
-use Rattle.station_schema.proofs.Common.{state, Executes, KeepsCommit, Survives, IsMade, no_schema}
-use Rattle.sqlite.specs.State.{CommitsBy}
+use Rattle.station_schema.proofs.Common.{CommitsBy, Err, Executes, IsMade, KeepsCommit, Ok, Survives, [], arith, get_or, no_schema, rules, state, subst, ◌<◌, ◌≡◌}
 use Rattle.station_schema.proofs.Inside.{survives_inside}
 use Rattle.station_schema.proofs.Creating.{HasComeTo, come_all, come_next, come_short, fifteen, item, stages, step_at}
 use Rattle.station_schema.proofs.creation.declare.Goals as goal

@@ -1,4 +1,4 @@
-use Rattle.station_schema.proofs.Common.{state, HasCleanDisk, Survives, IsMade, no_schema}
+use Rattle.station_schema.proofs.Common.{HasCleanDisk, IsMade, Survives, no_schema, state}
 use Rattle.station_schema.proofs.Creating.{HasComeTo}
 use Rattle.station_schema.proofs.creation.declare.Given as goal
 

@@ -1,4 +1,4 @@
-use Rattle.station_schema.proofs.Common.{state, no_schema, IsMade, IsInside}
+use Rattle.station_schema.proofs.Common.{IsInside, IsMade, no_schema, state}
 use Rattle.station_schema.proofs.Inside.{survives_inside}
 use Rattle.station_schema.proofs.Creating.{made_inside}
 use Rattle.station_schema.proofs.creation.fill_tables.Goals as goal

@@ -1,6 +1,4 @@
-use Rattle.std.proofs.Common.{rules, arith}
-use Rattle.station_schema.proofs.Common.{state, HasCleanDisk, begun_plain}
-use Rattle.sqlite.specs.State.{FailsToQuery}
+use Rattle.station_schema.proofs.Common.{FailsToQuery, HasCleanDisk, arith, begun_plain, rules, state}
 use Rattle.sqlite.specs.Values.{bound}
 use Rattle.station_schema.proofs.Handing.{begun_then, not_begun, returns_nothing}
 use Rattle.station_schema.proofs.streaming.stream.Goals as goal

@@ -1,5 +1,4 @@
-use Rattle.std.proofs.Common.{[], subst}
-use Rattle.station_schema.proofs.Common.{state, Executes}
+use Rattle.station_schema.proofs.Common.{Executes, [], state, subst}
 use Rattle.station_schema.proofs.AnyTexts.{rollback_text}
 use Rattle.station_schema.proofs.Turns.{rollback_stops, rollback_survives, refused_live}
 use Rattle.station_schema.proofs.transaction.is_live.Goals as goal

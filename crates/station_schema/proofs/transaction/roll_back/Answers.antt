@@ -1,5 +1,4 @@
-use Rattle.std.proofs.Common.{rules}
-use Rattle.station_schema.proofs.Common.{state}
+use Rattle.station_schema.proofs.Common.{rules, state}
 use Rattle.station_schema.proofs.Turns.{rolls_back, rollback_survives}
 use Rattle.station_schema.proofs.transaction.roll_back.Goals as goal
 

@@ -1,5 +1,4 @@
-use Rattle.std.proofs.Common.{rules, ap, ◌-◌, ◌≡◌, inl, inr, refl, sym, subst, arith, ◌+◌, [], ◌∷◌, None, Some}
-use Rattle.stock_tables.proofs.Common.{AllByRecursion, IsNumber, StockRun, Behind, cut_from, end_of}
+use Rattle.stock_tables.proofs.Common.{AllByRecursion, Behind, IsNumber, None, Some, StockRun, [], ap, arith, cut_from, end_of, inl, inr, refl, rules, subst, sym, ◌+◌, ◌-◌, ◌∷◌, ◌≡◌}
 use Rattle.stock_tables.proofs.Places.{behind_last}
 use Rattle.stock_tables.proofs.Standing.{each_split}
 use Rattle.stock_tables.proofs.edges.behind.Goals as goal

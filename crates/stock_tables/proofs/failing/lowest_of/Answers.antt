@@ -1,6 +1,4 @@
-use Rattle.std.proofs.Common.{◌≡◌, ◌∙◌, ◌+◌, ◌<◌, ◌≤◌, false, drop, length, Some, None, sym, subst, arith}
-use Rattle.stock_tables.proofs.Common.{drop_all, IsNumber, serial_of, passes, end_of}
-use Rattle.agent_stock.proofs.Serials.{given_as}
+use Rattle.stock_tables.proofs.Common.{IsNumber, None, Some, arith, drop, drop_all, end_of, false, given_as, length, passes, serial_of, subst, sym, ◌+◌, ◌<◌, ◌∙◌, ◌≡◌, ◌≤◌}
 use Rattle.stock_tables.proofs.Places.{run_parts}
 use Rattle.stock_tables.proofs.Lowest.{Left, at_place, as_row, gap_fails, row_fails, goes_on, last_fails, none_fails, whole}
 use Rattle.stock_tables.proofs.failing.lowest_of.Goals as goal

@@ -1,5 +1,4 @@
-use Rattle.std.proofs.Common.{◌≡◌, ℕ, drop}
-use Rattle.stock_tables.proofs.Common.{IsTrue, Holders, covers, StandFrom, holders_by}
+use Rattle.stock_tables.proofs.Common.{Holders, IsTrue, StandFrom, covers, drop, holders_by, ℕ, ◌≡◌}
 use Rattle.stock_tables.proofs.Lowest.{Left}
 use Rattle.stock_tables.proofs.failing.lowest_of.Given as goal
 

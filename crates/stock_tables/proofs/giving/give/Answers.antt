@@ -1,4 +1,4 @@
-use Rattle.stock_tables.proofs.Common.{written, cleared, restocked}
+use Rattle.stock_tables.proofs.Common.{cleared, restocked, written}
 use Rattle.stock_tables.proofs.Restocking.{ahead_of, after_of, runs_are, around_is, near_touch, there_are, restocked_is}
 use Rattle.stock_tables.proofs.giving.give.Goals as goal
 

@@ -1,5 +1,4 @@
-use Rattle.std.proofs.Common.{◌∙◌}
-use Rattle.stock_tables.proofs.Common.{inside}
+use Rattle.stock_tables.proofs.Common.{inside, ◌∙◌}
 use Rattle.stock_tables.proofs.Doing.{uses_up}
 use Rattle.stock_tables.proofs.giving.use_up.Goals as goal
 

@@ -1,5 +1,4 @@
-use Rattle.std.proofs.Common.{◌≡◌, ◌∙◌, Option, ℤ, pos, arith, w64, of_z, to_z, IfOk, option_map, sym, ap, ap₂, subst}
-use Rattle.stock_tables.proofs.Common.{ints, option_and_then, entries, prefix_of, serial_of, Holder, holders_in, run_in, StockRow, stock_meant, last_up_to, holder_at}
+use Rattle.stock_tables.proofs.Common.{Holder, IfOk, Option, StockRow, ap, ap₂, arith, entries, holder_at, holders_in, ints, last_up_to, of_z, option_and_then, option_map, pos, prefix_of, run_in, serial_of, stock_meant, subst, sym, to_z, w64, ℤ, ◌∙◌, ◌≡◌}
 use Rattle.stock_tables.proofs.Showing.{if_given, made_of}
 use Rattle.stock_tables.proofs.Held.{held_is}
 use Rattle.stock_tables.proofs.holding.holder.Goals as goal

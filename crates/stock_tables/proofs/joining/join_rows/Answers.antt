@@ -1,5 +1,4 @@
-use Rattle.std.proofs.Common.{rules, ◌≡◌, ◌+◌, ◌-◌, ◌≤◌, sym, subst, arith}
-use Rattle.stock_tables.proofs.Common.{AllByRecursion, serial_of, Before, Behind, IsRunRow}
+use Rattle.stock_tables.proofs.Common.{AllByRecursion, Before, Behind, IsRunRow, arith, rules, serial_of, subst, sym, ◌+◌, ◌-◌, ◌≡◌, ◌≤◌}
 use Rattle.agent_stock.specs.declared.runs.StockRun.{StockRun as Row}
 use Rattle.stock_tables.proofs.Places.{run_parts, near_rows, all_assigned, all_runs, high_within, size_within, prefix_low, low_at, high_at, beside_rows}
 use Rattle.stock_tables.proofs.joining.join_rows.Goals as goal

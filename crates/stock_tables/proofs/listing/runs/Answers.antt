@@ -1,5 +1,4 @@
-use Rattle.std.proofs.Common.{◌≡◌, ◌∙◌, List, IfOk, map, sym, ap, subst}
-use Rattle.stock_tables.proofs.Common.{entries, AreStockRuns, AreRuns, holders_by, Holders, Stock, StockKey, stock_meant, run_in}
+use Rattle.stock_tables.proofs.Common.{AreRuns, AreStockRuns, Holders, IfOk, List, Stock, StockKey, ap, entries, holders_by, map, run_in, stock_meant, subst, sym, ◌∙◌, ◌≡◌}
 use Rattle.stock_tables.proofs.Showing.{if_given, made_of}
 use Rattle.stock_tables.proofs.Meant.{same_holders, are_in_order}
 use Rattle.stock_tables.proofs.listing.runs.Goals as goal

@@ -1,5 +1,4 @@
-use Rattle.std.proofs.Common.{◌≡◌, ◌∙◌, ◌+◌, ◌+ℤ◌, ℤ, pos, arith, true, w64, of_z, to_z, map, filter, sym, ap, ap₂}
-use Rattle.stock_tables.proofs.Common.{ints, entries, prefix_of, serial_of, stock_meant, last_rows_up_to, reaches, are_enough, run_in}
+use Rattle.stock_tables.proofs.Common.{ap, ap₂, are_enough, arith, entries, filter, ints, last_rows_up_to, map, of_z, pos, prefix_of, reaches, run_in, serial_of, stock_meant, sym, to_z, true, w64, ℤ, ◌+ℤ◌, ◌+◌, ◌∙◌, ◌≡◌}
 use Rattle.stock_tables.proofs.Held.{near_is_last}
 use Rattle.stock_tables.proofs.Showing.{made_of}
 use Rattle.stock_tables.proofs.near.near_at_once.Goals as goal

@@ -1,5 +1,4 @@
-use Rattle.std.proofs.Common.{◌≡◌, ◌∙◌, ◌+◌, ◌+ℤ◌, ◌-ℤ◌, ◌++◌, ℤ, pos, arith, w64, of_z, to_z, List, map, filter, option_map, ap, ap₂}
-use Rattle.stock_tables.proofs.Common.{ints, entries, prefix_of, serial_of, StockRun, StockRow, stock_meant, is_between, last_up_to, run_in}
+use Rattle.stock_tables.proofs.Common.{List, StockRow, StockRun, ap, ap₂, arith, entries, filter, ints, is_between, last_up_to, map, of_z, option_map, pos, prefix_of, run_in, serial_of, stock_meant, to_z, w64, ℤ, ◌++◌, ◌+ℤ◌, ◌+◌, ◌-ℤ◌, ◌∙◌, ◌≡◌}
 use Rattle.stock_tables.proofs.Held.{near_is}
 use Rattle.stock_tables.proofs.Showing.{made_of, reads_after}
 use Rattle.stock_tables.proofs.near.near_by_two.Goals as goal

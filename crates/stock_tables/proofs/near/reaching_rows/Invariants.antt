@@ -1,5 +1,4 @@
-use Rattle.std.proofs.Common.{◌≡◌, filter, take}
-use Rattle.stock_tables.proofs.Common.{reaches}
+use Rattle.stock_tables.proofs.Common.{filter, reaches, take, ◌≡◌}
 use Rattle.stock_tables.proofs.near.reaching_rows.Given as goal
 
 abbrev pub invariant-loop-row : goal.invariant-loop-row

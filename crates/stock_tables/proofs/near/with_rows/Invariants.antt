@@ -1,5 +1,4 @@
-use Rattle.std.proofs.Common.{◌≡◌, ◌++◌, map, take}
-use Rattle.stock_tables.proofs.Common.{stock_meant, run_in}
+use Rattle.stock_tables.proofs.Common.{map, run_in, stock_meant, take, ◌++◌, ◌≡◌}
 use Rattle.stock_tables.proofs.near.with_rows.Given as goal
 
 abbrev pub invariant-loop-row : goal.invariant-loop-row

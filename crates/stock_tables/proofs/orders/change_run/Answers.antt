@@ -1,5 +1,4 @@
-use Rattle.std.proofs.Common.{◌∙◌, sym, ap}
-use Rattle.stock_tables.proofs.Common.{refused_by, at_rest, holders_in}
+use Rattle.stock_tables.proofs.Common.{ap, at_rest, holders_in, refused_by, sym, ◌∙◌}
 use Rattle.stock_tables.proofs.Restocking.{near_stand, near_held}
 use Rattle.stock_tables.proofs.Showing.{survives_goes_on}
 use Rattle.stock_tables.proofs.orders.change_run.Goals as goal

@@ -1,5 +1,4 @@
-use Rattle.std.proofs.Common.{◌+◌, ◌-◌, pos, arith}
-use Rattle.stock_tables.proofs.Common.{serial_of}
+use Rattle.stock_tables.proofs.Common.{arith, pos, serial_of, ◌+◌, ◌-◌}
 use Rattle.stock_tables.proofs.row.row_of.Goals as goal
 
 pub returns-clause-writable : goal.returns-clause-writable

@@ -1,5 +1,4 @@
-use Rattle.std.proofs.Common.{◌≡◌, ◌∙◌, ◌+◌, ◌<◌, List, [], ◌∷◌, length, drop, refl, sym, ap, subst, arith}
-use Rattle.stock_tables.proofs.Common.{FinMap, drop_all, StockRun, IsShowing, inside, Stock, stock_cmp, written, without, cleared, restocked}
+use Rattle.stock_tables.proofs.Common.{FinMap, IsShowing, List, Stock, StockRun, [], ap, arith, cleared, drop, drop_all, inside, length, refl, restocked, stock_cmp, subst, sym, without, written, ◌+◌, ◌<◌, ◌∙◌, ◌∷◌, ◌≡◌}
 use Rattle.stock_tables.proofs.Lowest.{at_place}
 use Rattle.stock_tables.proofs.Showing.{survives_itself, survives_goes_on}
 use Rattle.stock_tables.proofs.writing.clear.Goals as goal

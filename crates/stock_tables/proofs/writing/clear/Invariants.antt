@@ -1,5 +1,4 @@
-use Rattle.std.proofs.Common.{◌≡◌, drop}
-use Rattle.stock_tables.proofs.Common.{FinMap, IsShowing, Survives, inside, Tables, Stock, stock_cmp, written, cleared, restocked}
+use Rattle.stock_tables.proofs.Common.{FinMap, IsShowing, Stock, Survives, Tables, cleared, drop, inside, restocked, stock_cmp, written, ◌≡◌}
 use Rattle.stock_tables.proofs.writing.clear.Given as goal
 
 -- the rows so far are cleared

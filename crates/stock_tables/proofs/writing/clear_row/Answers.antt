@@ -1,5 +1,4 @@
-use Rattle.std.proofs.Common.{◌≡◌, ◌∙◌, pos, arith, w64, of_z, to_z, Bool, false, cond, sym, ap, subst}
-use Rattle.stock_tables.proofs.Common.{ints, FinMap, remove, prefix_of, serial_of, IsShowing, inside, Stock, stock_cmp, written, key_of, begins, without, restocked}
+use Rattle.stock_tables.proofs.Common.{Bool, FinMap, IsShowing, Stock, ap, arith, begins, cond, false, inside, ints, key_of, of_z, pos, prefix_of, remove, restocked, serial_of, stock_cmp, subst, sym, to_z, w64, without, written, ◌∙◌, ◌≡◌}
 use Rattle.stock_tables.proofs.writing.clear_row.Goals as goal
 
 pub returns-clause-done : goal.returns-clause-done

@@ -1,5 +1,4 @@
-use Rattle.std.proofs.Common.{◌≡◌, ◌∙◌, true, Option, Some, None, refl, sym, ap, subst}
-use Rattle.stock_tables.proofs.Common.{is_some, OnOk, get, IsShowing, inside, Stock, StockKey, stock_meant, with_stock, key_of, entry_of}
+use Rattle.stock_tables.proofs.Common.{IsShowing, None, OnOk, Option, Some, Stock, StockKey, ap, entry_of, get, inside, is_some, key_of, refl, stock_meant, subst, sym, true, with_stock, ◌∙◌, ◌≡◌}
 use Rattle.stock_tables.proofs.writing.put.Goals as goal
 
 is_there : (o : Option Stock) → is_some o ≡ true → (was : Stock) × (o ≡ Some was)

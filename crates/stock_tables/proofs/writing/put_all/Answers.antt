@@ -1,5 +1,4 @@
-use Rattle.std.proofs.Common.{◌≡◌, [], ◌∷◌, List, true, sym, subst}
-use Rattle.stock_tables.proofs.Common.{is_some, FinMap, get, StockRun, IsShowing, inside, Stock, stock_cmp, listed, key_of, begins, put_in, restocked}
+use Rattle.stock_tables.proofs.Common.{FinMap, IsShowing, List, Stock, StockRun, [], begins, get, inside, is_some, key_of, listed, put_in, restocked, stock_cmp, subst, sym, true, ◌∷◌, ◌≡◌}
 use Rattle.stock_tables.proofs.Standing.{each_split}
 use Rattle.stock_tables.proofs.Rewriting.{put_both}
 use Rattle.stock_tables.proofs.Restocking.{still_there}

@@ -1,5 +1,4 @@
-use Rattle.std.proofs.Common.{Option, sym, subst}
-use Rattle.stock_tables.proofs.Common.{OnOk, StockRun, IsShowing, inside, listed, put_in, restocked, AreThere}
+use Rattle.stock_tables.proofs.Common.{AreThere, IsShowing, OnOk, Option, StockRun, inside, listed, put_in, restocked, subst, sym}
 use Rattle.stock_tables.proofs.writing.put_some.Goals as goal
 
 pub returns-in-Some-clause-done : goal.returns-in-Some-clause-done

@@ -1,5 +1,4 @@
-use Rattle.std.proofs.Common.{sym, ap, ◌∙◌, true≢false}
-use Rattle.table_audits.proofs.Common.{list_all, is_lawful_build}
+use Rattle.table_audits.proofs.Common.{ap, is_lawful_build, list_all, sym, true≢false, ◌∙◌}
 use Rattle.table_audits.proofs.Balanced.{lawful_counts, lawful_builds, lawful_balances, room_at}
 use Rattle.table_audits.proofs.balances.are_balances_lawful.Goals as goal
 

@@ -1,5 +1,4 @@
-use Rattle.std.proofs.Common.{◌≡◌, map}
-use Rattle.table_audits.proofs.Common.{list_all, flight_entry, is_lawful_build}
+use Rattle.table_audits.proofs.Common.{flight_entry, is_lawful_build, list_all, map, ◌≡◌}
 use Rattle.table_audits.proofs.balances.are_builds_lawful.Given as goal
 
 -- the sums are lawful where those ahead are

@@ -1,5 +1,4 @@
-use Rattle.std.proofs.Common.{◌≡◌}
-use Rattle.table_audits.proofs.Common.{list_all, is_lawful_count}
+use Rattle.table_audits.proofs.Common.{is_lawful_count, list_all, ◌≡◌}
 use Rattle.table_audits.proofs.balances.are_counts_lawful.Given as goal
 
 -- the sums are lawful where those ahead are

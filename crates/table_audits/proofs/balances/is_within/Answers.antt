@@ -1,5 +1,4 @@
-use Rattle.std.proofs.Common.{rules, w64}
-use Rattle.table_audits.proofs.Common.{to_z-of_z}
+use Rattle.table_audits.proofs.Common.{rules, to_z-of_z, w64}
 use Rattle.table_audits.proofs.Stocked.{within_then, within_else}
 use Rattle.table_audits.proofs.balances.is_within.Goals as goal
 

@@ -1,7 +1,4 @@
-use Rattle.std.proofs.Common.{◌≡◌, true, List, map, refl, sym, subst}
-use Rattle.table_audits.proofs.Common.{Tables, move_meant, Reading, Known, AreGood, before, HasFlights, HasWaybills, AreMovesTaken, IsBookAs}
-use Rattle.station_rows.specs.declared.moves.MoveRow.{MoveRow}
-use Rattle.table_audits.specs.declared.book.BookAudit.{BookAudit}
+use Rattle.table_audits.proofs.Common.{AreGood, AreMovesTaken, BookAudit, HasFlights, HasWaybills, IsBookAs, Known, List, MoveRow, Reading, Tables, before, map, move_meant, refl, subst, sym, true, ◌≡◌}
 use Rattle.table_audits.specs.declared.name.TableName.TheVariants as table
 use Rattle.table_audits.proofs.Tables.{are, bad, missing, tested, moves_table}
 use Rattle.table_audits.proofs.book.is_good.Goals as goal

@@ -1,5 +1,4 @@
-use Rattle.std.proofs.Common.{Some, drop, map}
-use Rattle.table_audits.proofs.Common.{build_meant, flight_entry, build_entry}
+use Rattle.table_audits.proofs.Common.{Some, build_entry, build_meant, drop, flight_entry, map}
 use Rattle.table_audits.proofs.Walk.{SameAhead}
 use Rattle.table_audits.proofs.builds.are_same.Given as goal
 

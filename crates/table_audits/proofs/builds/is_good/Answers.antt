@@ -1,5 +1,4 @@
-use Rattle.std.proofs.Common.{refl, subst}
-use Rattle.table_audits.proofs.Common.{book_in, listed_in, AreFlightsOf, build_meant}
+use Rattle.table_audits.proofs.Common.{AreFlightsOf, book_in, build_meant, listed_in, refl, subst}
 use Rattle.table_audits.proofs.Listed.{flights_are}
 use Rattle.table_audits.proofs.Made.{builds_compared}
 use Rattle.table_audits.proofs.Tables.{missing, tested, build_table}

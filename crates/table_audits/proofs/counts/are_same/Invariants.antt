@@ -1,5 +1,4 @@
-use Rattle.std.proofs.Common.{drop}
-use Rattle.table_audits.proofs.Common.{count_meant, count_entry}
+use Rattle.table_audits.proofs.Common.{count_entry, count_meant, drop}
 use Rattle.table_audits.proofs.Walk.{SameAhead}
 use Rattle.table_audits.proofs.counts.are_same.Given as goal
 

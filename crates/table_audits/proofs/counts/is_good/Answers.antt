@@ -1,5 +1,4 @@
-use Rattle.std.proofs.Common.{refl}
-use Rattle.table_audits.proofs.Common.{book_in, listed_in}
+use Rattle.table_audits.proofs.Common.{book_in, listed_in, refl}
 use Rattle.table_audits.proofs.Compared.{counts_compared}
 use Rattle.table_audits.proofs.Tables.{missing, tested, counts_table}
 use Rattle.table_audits.proofs.counts.is_good.Goals as goal

@@ -1,6 +1,5 @@
-use Rattle.std.proofs.Common.{drop}
+use Rattle.table_audits.proofs.Common.{drop, flight_entry, is_set}
 use Rattle.std.specs.Slice.Iter.{iter_rest}
-use Rattle.table_audits.proofs.Common.{flight_entry, is_set}
 use Rattle.table_audits.proofs.Walk.{SameAhead}
 use Rattle.table_audits.proofs.departures.are_closed.Given as goal
 

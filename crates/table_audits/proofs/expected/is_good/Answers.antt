@@ -1,5 +1,4 @@
-use Rattle.std.proofs.Common.{◌≡◌, map, true, refl, sym, subst, rules, tests}
-use Rattle.table_audits.proofs.Common.{YieldsList-from_slice, all_from_yields_List, entries, waybill_meant, expected_entry, RisesByNumber, list_all, is_lawful_expected}
+use Rattle.table_audits.proofs.Common.{RisesByNumber, YieldsList-from_slice, all_from_yields_List, entries, expected_entry, is_lawful_expected, list_all, map, refl, rules, subst, sym, tests, true, waybill_meant, ◌≡◌}
 use Rattle.table_audits.proofs.ExpectedLaws.{are_expected, lawful_expected}
 use Rattle.table_audits.proofs.Tables.{as_law, missing, tested, expected_table}
 use Rattle.table_audits.proofs.expected.is_good.Goals as goal

@@ -1,5 +1,4 @@
-use Rattle.std.proofs.Common.{rules, ◌≡◌, ◌&&◌, ◌∙◌, false, map, sym, ap, to_z, of_z, w64}
-use Rattle.table_audits.proofs.Common.{int_le, and_from, to_z-of_z, waybill_meant, expected_entry, is_expected_row, has_waybill}
+use Rattle.table_audits.proofs.Common.{and_from, ap, expected_entry, false, has_waybill, int_le, is_expected_row, map, of_z, rules, sym, to_z, to_z-of_z, w64, waybill_meant, ◌&&◌, ◌∙◌, ◌≡◌}
 use Rattle.table_audits.proofs.RowValues.{unlawful, as_tested, number_is, enough_is}
 use Rattle.table_audits.proofs.expected.is_lawful.Goals as goal
 

@@ -1,5 +1,4 @@
-use Rattle.std.proofs.Common.{refl, rules, tests}
-use Rattle.table_audits.proofs.Common.{YieldsList-from_slice, all_from_yields_List, flight_entry, is_lawful_flight}
+use Rattle.table_audits.proofs.Common.{YieldsList-from_slice, all_from_yields_List, flight_entry, is_lawful_flight, refl, rules, tests}
 use Rattle.table_audits.proofs.FlightLaws.{are_flights, lawful_flights}
 use Rattle.table_audits.proofs.Tables.{are, as_law, missing, tested, flight_table}
 use Rattle.table_audits.proofs.flight.is_good.Goals as goal

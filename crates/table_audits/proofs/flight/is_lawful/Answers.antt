@@ -1,5 +1,4 @@
-use Rattle.std.proofs.Common.{List, ℕ, not, ap, ◌∙◌}
-use Rattle.table_audits.proofs.Common.{bytes_eq, flight_entry, is_flight_row}
+use Rattle.table_audits.proofs.Common.{List, ap, bytes_eq, flight_entry, is_flight_row, not, ℕ, ◌∙◌}
 use Rattle.table_audits.proofs.RowValues.{as_tested, unload_is}
 use Rattle.table_audits.proofs.flight.is_lawful.Goals as goal
 

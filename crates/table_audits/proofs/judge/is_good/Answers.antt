@@ -1,6 +1,4 @@
-use Rattle.std.proofs.Common.{refl}
-use Rattle.table_audits.proofs.Common.{state}
-use Rattle.table_load.proofs.WholeLemmas.{at_rest}
+use Rattle.table_audits.proofs.Common.{at_rest, refl, state}
 use Rattle.table_audits.proofs.judge.is_good.Goals as goal
 
 pub returns-in-Station-clause-read : goal.returns-in-Station-clause-read

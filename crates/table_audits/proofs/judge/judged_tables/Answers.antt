@@ -1,6 +1,5 @@
-use Rattle.std.proofs.Common.{Ok, Err}
+use Rattle.table_audits.proofs.Common.{Err, HasJudged, Ok, read_as, state}
 use Rattle.sqlite.proofs.StateLemmas.{survives_then}
-use Rattle.table_audits.proofs.Common.{state, read_as, HasJudged}
 use Rattle.table_audits.proofs.Judged.{all_judged, gone_on, reads_err, told}
 use Rattle.table_audits.proofs.judge.judged_tables.Goals as goal
 

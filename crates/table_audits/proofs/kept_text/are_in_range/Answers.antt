@@ -1,5 +1,4 @@
-use Rattle.std.proofs.Common.{◌≡◌, ◌∙◌, sym, rules, tests}
-use Rattle.table_audits.proofs.Common.{YieldsList-from_slice, all_from_yields_List, list_all-map, kept_text_entry, is_count, is_kept_text_row}
+use Rattle.table_audits.proofs.Common.{YieldsList-from_slice, all_from_yields_List, is_count, is_kept_text_row, kept_text_entry, list_all-map, rules, sym, tests, ◌∙◌, ◌≡◌}
 use Rattle.table_audits.proofs.Texts.{kept_text_is}
 use Rattle.table_audits.proofs.kept_text.are_in_range.Goals as goal
 

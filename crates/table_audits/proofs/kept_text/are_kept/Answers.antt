@@ -1,5 +1,4 @@
-use Rattle.std.proofs.Common.{◌∙◌, sym, rules, tests}
-use Rattle.table_audits.proofs.Common.{YieldsList-from_slice, all_from_yields_List, list_all-map, part_entry, has_text}
+use Rattle.table_audits.proofs.Common.{YieldsList-from_slice, all_from_yields_List, has_text, list_all-map, part_entry, rules, sym, tests, ◌∙◌}
 use Rattle.table_audits.proofs.kept_text.are_kept.Goals as goal
 
 pub returns : goal.returns

@@ -1,5 +1,4 @@
-use Rattle.std.proofs.Common.{◌∙◌, sym, ap}
-use Rattle.table_audits.proofs.Common.{list_all, is_kept_text_row, has_text}
+use Rattle.table_audits.proofs.Common.{ap, has_text, is_kept_text_row, list_all, sym, ◌∙◌}
 use Rattle.table_audits.proofs.KeptTextLaws.{are_texts, texts_kept}
 use Rattle.table_audits.proofs.kept_text.are_kept_texts_lawful.Goals as goal
 

@@ -1,5 +1,4 @@
-use Rattle.std.proofs.Common.{rules}
-use Rattle.table_audits.proofs.Common.{always_returns_same, flight_cmp, flight_entry}
+use Rattle.table_audits.proofs.Common.{always_returns_same, flight_cmp, flight_entry, rules}
 use Rattle.table_audits.proofs.lookups.flight_place.Goals as goal
 
 pub returns-clause-place : goal.returns-clause-place

@@ -1,5 +1,4 @@
-use Rattle.std.proofs.Common.{◌∙◌}
-use Rattle.table_audits.proofs.Common.{kept_text_total, kept_text_same, kept_text_cmp, kept_text_entry}
+use Rattle.table_audits.proofs.Common.{kept_text_cmp, kept_text_entry, kept_text_same, kept_text_total, ◌∙◌}
 use Rattle.table_audits.proofs.Searches.{has_entry}
 use Rattle.table_audits.proofs.lookups.is_kept.Goals as goal
 

@@ -1,5 +1,4 @@
-use Rattle.std.proofs.Common.{rules}
-use Rattle.std.proofs.lemmas.List.Sorted.{answers_always}
+use Rattle.table_audits.proofs.Common.{answers_always, rules}
 use Rattle.table_audits.proofs.Searches.{has_number}
 use Rattle.table_audits.proofs.lookups.place_of.Goals as goal
 

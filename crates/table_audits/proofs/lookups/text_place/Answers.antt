@@ -1,5 +1,4 @@
-use Rattle.std.proofs.Common.{rules}
-use Rattle.table_audits.proofs.Common.{always_returns_same, kept_text_cmp, kept_text_entry}
+use Rattle.table_audits.proofs.Common.{always_returns_same, kept_text_cmp, kept_text_entry, rules}
 use Rattle.table_audits.proofs.lookups.text_place.Goals as goal
 
 pub returns-clause-place : goal.returns-clause-place

@@ -1,5 +1,4 @@
-use Rattle.std.proofs.Common.{◌+◌, pos, sym, ap, ◌∙◌, true≢false, rules, w64}
-use Rattle.table_audits.proofs.Common.{to_z-of_z}
+use Rattle.table_audits.proofs.Common.{ap, pos, rules, sym, to_z-of_z, true≢false, w64, ◌+◌, ◌∙◌}
 use Rattle.table_audits.proofs.Taken.{one_sound, last_number, counted_more}
 use Rattle.table_audits.proofs.numbers.counted.Goals as goal
 

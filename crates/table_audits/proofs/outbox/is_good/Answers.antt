@@ -1,5 +1,4 @@
-use Rattle.std.proofs.Common.{◌≡◌, ◌∙◌, length, true, refl, sym, subst}
-use Rattle.table_audits.proofs.Common.{◌↔◌, IfSome, IsSome, AreMessages}
+use Rattle.table_audits.proofs.Common.{AreMessages, IfSome, IsSome, length, refl, subst, sym, true, ◌↔◌, ◌∙◌, ◌≡◌}
 use Rattle.table_audits.proofs.Taken.{messages_count, messages_so}
 use Rattle.table_audits.proofs.Tables.{are, bad, missing, tested, outbox_table}
 use Rattle.table_audits.proofs.outbox.is_good.Goals as goal

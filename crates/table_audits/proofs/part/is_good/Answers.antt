@@ -1,5 +1,4 @@
-use Rattle.std.proofs.Common.{refl, rules, tests}
-use Rattle.table_audits.proofs.Common.{YieldsList-from_slice, all_from_yields_List, part_entry, is_part_row}
+use Rattle.table_audits.proofs.Common.{YieldsList-from_slice, all_from_yields_List, is_part_row, part_entry, refl, rules, tests}
 use Rattle.table_audits.proofs.Tables.{are, as_law, missing, tested, part_table}
 use Rattle.table_audits.proofs.part.is_good.Goals as goal
 

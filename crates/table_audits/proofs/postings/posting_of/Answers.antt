@@ -1,5 +1,4 @@
-use Rattle.std.proofs.Common.{◌≡◌, ◌∙◌, true, map, sym, subst, true≢false}
-use Rattle.table_audits.proofs.Common.{move_meant, waybill_meant, flight_entry, is_move_row, IsPosted, IsPostedOr}
+use Rattle.table_audits.proofs.Common.{IsPosted, IsPostedOr, flight_entry, is_move_row, map, move_meant, subst, sym, true, true≢false, waybill_meant, ◌∙◌, ◌≡◌}
 use Rattle.table_audits.proofs.PostedLaws.{read_columns, names_from, names_to, posted_row, good_fits, nowhere_from, nowhere_to}
 use Rattle.table_audits.proofs.postings.posting_of.Goals as goal
 

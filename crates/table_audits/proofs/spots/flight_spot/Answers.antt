@@ -1,5 +1,4 @@
-use Rattle.std.proofs.Common.{◌≡◌, ℕ, List, Equal, Err, get_or, subst}
-use Rattle.table_audits.proofs.Common.{IsBinarySearchResult, flight_cmp, flight_total, flight_same, move_meant, flight_entry}
+use Rattle.table_audits.proofs.Common.{Equal, Err, IsBinarySearchResult, List, flight_cmp, flight_entry, flight_same, flight_total, get_or, move_meant, subst, ℕ, ◌≡◌}
 use Rattle.table_audits.proofs.Searches.{no_entry}
 use Rattle.table_audits.proofs.PostedLaws.{found_spot, lost_spot}
 use Rattle.table_audits.proofs.spots.flight_spot.Goals as goal

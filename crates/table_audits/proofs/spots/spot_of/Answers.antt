@@ -1,5 +1,4 @@
-use Rattle.std.proofs.Common.{◌∙◌, sym, rules, w64}
-use Rattle.table_audits.proofs.Common.{to_z-of_z}
+use Rattle.table_audits.proofs.Common.{rules, sym, to_z-of_z, w64, ◌∙◌}
 use Rattle.table_audits.proofs.PostedLaws.{plain_spot}
 use Rattle.table_audits.proofs.spots.spot_of.Goals as goal
 

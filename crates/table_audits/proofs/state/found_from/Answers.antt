@@ -1,7 +1,4 @@
-use Rattle.std.proofs.Common.{◌≡◌, ◌∙◌, ℕ, ℤ, List, ◌∷◌, [], refl, sym, w64}
-use Rattle.table_audits.proofs.Common.{to_z-of_z, state, Tables, natural, Reading, read_as, station_read, new_row, one_row, Known, Knows, IsLawfulTable}
-use Rattle.station_schema.specs.Connection.{opening}
-use Rattle.table_load.proofs.WholeLemmas.{at_rest}
+use Rattle.table_audits.proofs.Common.{IsLawfulTable, Known, Knows, List, Reading, Tables, [], at_rest, natural, new_row, one_row, opening, read_as, refl, state, station_read, sym, to_z-of_z, w64, ℕ, ℤ, ◌∙◌, ◌∷◌, ◌≡◌}
 use Rattle.table_audits.specs.declared.name.TableName.TheVariants as table
 use Rattle.table_audits.proofs.Judged.{airport_is, is_our_row, mark_is, reads_err, row_stops}
 use Rattle.table_audits.proofs.state.found_from.Goals as goal

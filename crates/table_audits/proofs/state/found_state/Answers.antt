@@ -1,5 +1,4 @@
-use Rattle.std.proofs.Common.{◌∙◌, sym, ap}
-use Rattle.table_audits.proofs.Common.{state, read_as, found_meant}
+use Rattle.table_audits.proofs.Common.{ap, found_meant, read_as, state, sym, ◌∙◌}
 use Rattle.table_audits.proofs.Judged.{damaged_stops}
 use Rattle.table_audits.proofs.state.found_state.Goals as goal
 

@@ -1,5 +1,4 @@
-use Rattle.std.proofs.Common.{rules, tests}
-use Rattle.table_audits.proofs.Common.{always_returns_same, stock_meant, is_behind}
+use Rattle.table_audits.proofs.Common.{always_returns_same, is_behind, rules, stock_meant, tests}
 use Rattle.table_audits.proofs.StockRows.{adjacent}
 use Rattle.table_audits.proofs.stock.are_apart.Goals as goal
 

@@ -1,5 +1,4 @@
-use Rattle.std.proofs.Common.{◌≡◌, ◌∙◌, map, sym, ap, subst, true≢false, arith, w64, to_z}
-use Rattle.table_audits.proofs.Common.{IsTrue, int_le, ints, to_z-of_z, waybill_meant, has_waybill}
+use Rattle.table_audits.proofs.Common.{IsTrue, ap, arith, has_waybill, int_le, ints, map, subst, sym, to_z, to_z-of_z, true≢false, w64, waybill_meant, ◌∙◌, ◌≡◌}
 use Rattle.table_audits.proofs.stock.are_declared.Goals as goal
 
 pub returns-then-not-is_declared : goal.returns-then-not-is_declared

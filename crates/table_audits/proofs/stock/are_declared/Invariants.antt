@@ -1,5 +1,4 @@
-use Rattle.std.proofs.Common.{ℤ, map}
-use Rattle.table_audits.proofs.Common.{IsTrue, int_le, int_lt, waybill_meant, RisesByNumber, has_waybill}
+use Rattle.table_audits.proofs.Common.{IsTrue, RisesByNumber, has_waybill, int_le, int_lt, map, waybill_meant, ℤ}
 use Rattle.table_audits.proofs.stock.are_declared.Given as goal
 
 abbrev pub invariant-loop-number : goal.invariant-loop-number

@@ -1,5 +1,4 @@
-use Rattle.std.proofs.Common.{map, rules, tests}
-use Rattle.table_audits.proofs.Common.{YieldsList-from_slice, cases_from_all, stock_meant, waybill_meant, IsLawfulStock}
+use Rattle.table_audits.proofs.Common.{IsLawfulStock, YieldsList-from_slice, cases_from_all, map, rules, stock_meant, tests, waybill_meant}
 use Rattle.table_audits.proofs.StockRows.{each_row}
 use Rattle.table_audits.proofs.stock.are_lawful.Goals as goal
 

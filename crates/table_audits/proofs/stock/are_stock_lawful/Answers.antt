@@ -1,5 +1,4 @@
-use Rattle.std.proofs.Common.{◌≡◌, true, map, sym, ap, subst, ◌∙◌}
-use Rattle.table_audits.proofs.Common.{AllByRecursion, entries, waybill_meant, are_apart, IsLawfulStock}
+use Rattle.table_audits.proofs.Common.{AllByRecursion, IsLawfulStock, ap, are_apart, entries, map, subst, sym, true, waybill_meant, ◌∙◌, ◌≡◌}
 use Rattle.table_audits.proofs.StockLaws.{are_stocks, lawful_stocks}
 use Rattle.table_audits.proofs.stock.are_stock_lawful.Goals as goal
 

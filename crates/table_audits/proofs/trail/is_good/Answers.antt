@@ -1,5 +1,4 @@
-use Rattle.std.proofs.Common.{◌∙◌, length, true, None, Some, refl, sym, ap}
-use Rattle.table_audits.proofs.Common.{length-map}
+use Rattle.table_audits.proofs.Common.{None, Some, ap, length, length-map, refl, sym, true, ◌∙◌}
 use Rattle.table_audits.proofs.TrailLaws.{lines_so}
 use Rattle.table_audits.proofs.Tables.{are, bad, missing, tested, trail_table}
 use Rattle.table_audits.proofs.trail.is_good.Goals as goal

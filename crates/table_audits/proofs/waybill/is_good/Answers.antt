@@ -1,5 +1,4 @@
-use Rattle.std.proofs.Common.{refl, subst, sym, rules, tests}
-use Rattle.table_audits.proofs.Common.{YieldsList-from_slice, all_from_yields_List, waybill_meant, RisesByNumber, is_lawful_waybill}
+use Rattle.table_audits.proofs.Common.{RisesByNumber, YieldsList-from_slice, all_from_yields_List, is_lawful_waybill, refl, rules, subst, sym, tests, waybill_meant}
 use Rattle.table_audits.proofs.WaybillLaws.{are_waybills, lawful_waybills}
 use Rattle.table_audits.proofs.Tables.{are, as_law, missing, tested, waybill_table, waybills_rise}
 use Rattle.table_audits.proofs.waybill.is_good.Goals as goal

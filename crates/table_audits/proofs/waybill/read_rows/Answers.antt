@@ -1,5 +1,4 @@
-use Rattle.std.proofs.Common.{List, map, sym, subst}
-use Rattle.table_audits.proofs.Common.{state, Waybill, waybill_meant, HoldsWaybills}
+use Rattle.table_audits.proofs.Common.{HoldsWaybills, List, Waybill, map, state, subst, sym, waybill_meant}
 use Rattle.table_audits.proofs.Undated.{none_told, some_told}
 use Rattle.table_audits.proofs.waybill.read_rows.Goals as goal
 

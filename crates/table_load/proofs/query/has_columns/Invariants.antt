@@ -1,5 +1,4 @@
-use Rattle.std.proofs.Common.{◌≡◌, map}
-use Rattle.table_load.proofs.Common.{drop, is_some, places_by_name}
+use Rattle.table_load.proofs.Common.{drop, is_some, map, places_by_name, ◌≡◌}
 use Rattle.table_load.proofs.query.has_columns.Given as goal
 
 abbrev pub invariant-loop-name : goal.invariant-loop-name

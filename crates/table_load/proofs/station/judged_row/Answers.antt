@@ -1,7 +1,4 @@
-use Rattle.std.proofs.Common.{◌≡◌, ℤ, true, pos, w64, sym, ap, ◌∙◌, to_z, rules, arith}
-use Rattle.std.proofs.lemmas.Int.{to_z-of_z}
-use Rattle.std.proofs.lemmas.Str.{is_utf8-from_IsUtf8, IsUtf8-string_bytes}
-use Rattle.table_load.proofs.Common.{int_eq, version_number}
+use Rattle.table_load.proofs.Common.{IsUtf8-string_bytes, ap, arith, int_eq, is_utf8-from_IsUtf8, pos, rules, sym, to_z, to_z-of_z, true, version_number, w64, ℤ, ◌∙◌, ◌≡◌}
 use Rattle.table_load.proofs.StationLemmas.{is_one_row}
 use Rattle.table_load.proofs.station.judged_row.Goals as goal
 

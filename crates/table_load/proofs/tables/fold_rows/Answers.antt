@@ -1,4 +1,4 @@
-use Rattle.table_load.proofs.Common.{state, column_names}
+use Rattle.table_load.proofs.Common.{column_names, state}
 use Rattle.table_load.proofs.TableLemmas.{reads_failed, reads_folded}
 use Rattle.table_load.proofs.WholeLemmas.{given_whole, plain, survives}
 use Rattle.table_load.proofs.tables.fold_rows.Goals as goal

@@ -1,4 +1,4 @@
-use Rattle.table_load.proofs.Common.{state, changes}
+use Rattle.table_load.proofs.Common.{changes, state}
 use Rattle.table_load.proofs.Copying.{clears, clear_survives}
 use Rattle.table_load.proofs.upgrade.clear_waybills.Goals as goal
 

@@ -1,5 +1,4 @@
-use Rattle.std.proofs.Common.{arith, ap, sym, subst, ◌∙◌}
-use Rattle.table_load.proofs.Common.{state, survives_weaker, survives_then, tables_of}
+use Rattle.table_load.proofs.Common.{ap, arith, state, subst, survives_then, survives_weaker, sym, tables_of, ◌∙◌}
 use Rattle.station_schema.specs.Own.{IsOwn}
 use Rattle.table_load.proofs.upgrade.commit_upgrade.Goals as goal
 

@@ -1,4 +1,4 @@
-use Rattle.table_load.proofs.Common.{state, survives_inside, survives_three, IsInside, copying, clearing}
+use Rattle.table_load.proofs.Common.{IsInside, clearing, copying, state, survives_inside, survives_three}
 use Rattle.table_load.proofs.Upgrading.{still_inside}
 use Rattle.table_load.proofs.upgrade.fill_waybill2.Goals as goal
 

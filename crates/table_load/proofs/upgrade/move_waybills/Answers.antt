@@ -1,5 +1,4 @@
-use Rattle.std.proofs.Common.{arith}
-use Rattle.table_load.proofs.Common.{state, survives_inside, IsInside, old_tables_of, IsInsideOld}
+use Rattle.table_load.proofs.Common.{IsInside, IsInsideOld, arith, old_tables_of, state, survives_inside}
 use Rattle.table_load.proofs.Upgrading.{now_inside, moves_on}
 use Rattle.table_load.proofs.upgrade.move_waybills.Goals as goal
 

@@ -1,4 +1,4 @@
-use Rattle.table_load.proofs.Common.{state, changes}
+use Rattle.table_load.proofs.Common.{changes, state}
 use Rattle.table_load.proofs.Copying.{raises, raise_survives}
 use Rattle.table_load.proofs.upgrade.raise_version.Goals as goal
 

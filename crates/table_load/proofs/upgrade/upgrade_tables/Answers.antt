@@ -1,5 +1,4 @@
-use Rattle.std.proofs.Common.{arith}
-use Rattle.table_load.proofs.Common.{Trees, state, survives_then, IsInsideOld, MeansUpgraded}
+use Rattle.table_load.proofs.Common.{IsInsideOld, MeansUpgraded, Trees, arith, state, survives_then}
 use Rattle.table_load.proofs.Upgrading.{means_upgraded}
 use Rattle.table_load.proofs.upgrade.upgrade_tables.Goals as goal
 

@@ -1,6 +1,4 @@
-use Rattle.std.proofs.Common.{sym, ap, ◌∙◌, subst}
-use Rattle.table_load.proofs.Common.{IsUtf8}
-use Rattle.std.proofs.lemmas.Str.{IsUtf8-from_is_utf8, is_utf8-from_IsUtf8, IsUtf8-string_bytes}
+use Rattle.table_load.proofs.Common.{IsUtf8, IsUtf8-from_is_utf8, IsUtf8-string_bytes, ap, is_utf8-from_IsUtf8, subst, sym, ◌∙◌}
 use Rattle.sqlite_value.specs.Value.{owned}
 use Rattle.table_load.proofs.WholeLemmas.{same_text}
 use Rattle.table_load.proofs.values.words.Goals as goal

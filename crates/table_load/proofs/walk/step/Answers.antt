@@ -1,5 +1,4 @@
-use Rattle.std.proofs.Common.{◌∙◌, refl, sym, subst}
-use Rattle.table_load.proofs.Common.{IsTyped}
+use Rattle.table_load.proofs.Common.{IsTyped, refl, subst, sym, ◌∙◌}
 use Rattle.table_load.proofs.TableLemmas.{less_trans}
 use Rattle.table_load.proofs.WalkLemmas.{one_untyped, not_following, next_taken}
 use Rattle.table_load.proofs.walk.step.Goals as goal

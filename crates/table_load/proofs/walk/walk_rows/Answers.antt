@@ -1,5 +1,4 @@
-use Rattle.std.proofs.Common.{refl, ◌∙◌}
-use Rattle.table_load.proofs.Common.{state}
+use Rattle.table_load.proofs.Common.{refl, state, ◌∙◌}
 use Rattle.table_load.proofs.WalkLoops.{at_start, cut_off, ended, failed, one_on, untaken, walks_failed}
 use Rattle.table_load.proofs.walk.walk_rows.Goals as goal
 

@@ -1,6 +1,4 @@
-use Rattle.std.proofs.Common.{rules, arith, [], Ok}
-use Rattle.table_load.proofs.Common.{state, HasCleanDisk, AreLawful, IsWalked, Walks}
-use Rattle.sqlite.specs.State.{FailsToQuery}
+use Rattle.table_load.proofs.Common.{AreLawful, FailsToQuery, HasCleanDisk, IsWalked, Ok, Walks, [], arith, rules, state}
 use Rattle.table_load.proofs.WalkLemmas.{none_given}
 use Rattle.table_load.proofs.WalkLoops.{read_begins, read_stops, stops_since, walks_failed, walks_since}
 use Rattle.table_load.proofs.walk.walked.Goals as goal

@@ -1,5 +1,5 @@
 use Rattle.std.proofs.Common.{◌≡◌, filter, map, not, take}
-use Rattle.table_state.proofs.Common.{contains, nat_cmp, AnnouncedRow, WaybillRow, waybill_meant, announced_by}
+use Rattle.table_state.proofs.Common.{AnnouncedRow, WaybillRow, announced_by, contains, nat_cmp, waybill_meant}
 use Rattle.table_state.proofs.announcing.announced_among.Given as goal
 
 abbrev pub invariant-loop-row : goal.invariant-loop-row

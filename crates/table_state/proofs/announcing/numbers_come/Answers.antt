@@ -1,6 +1,4 @@
-use Rattle.std.proofs.Common.{◌≡◌, ◌∙◌, ap, length, rules, take}
-use Rattle.std.proofs.Math.Seq.{take-length}
-use Rattle.table_state.proofs.Common.{list_any}
+use Rattle.table_state.proofs.Common.{ap, length, list_any, rules, take, take-length, ◌∙◌, ◌≡◌}
 use Rattle.table_state.proofs.Announced.{come_by_all, comes}
 use Rattle.table_state.proofs.announcing.numbers_come.Goals as goal
 

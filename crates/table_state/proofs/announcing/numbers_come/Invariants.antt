@@ -1,5 +1,4 @@
-use Rattle.std.proofs.Common.{◌≡◌, ℕ, take}
-use Rattle.table_state.proofs.Common.{contains, list_any, nat_cmp}
+use Rattle.table_state.proofs.Common.{contains, list_any, nat_cmp, take, ℕ, ◌≡◌}
 use Rattle.table_state.proofs.Announced.{comes}
 use Rattle.table_state.proofs.announcing.numbers_come.Given as goal
 

@@ -1,5 +1,4 @@
-use Rattle.std.proofs.Common.{rules, ◌≡◌, true, false, Option, Some, None, subst}
-use Rattle.table_state.proofs.Common.{FlightDate, is_named}
+use Rattle.table_state.proofs.Common.{FlightDate, None, Option, Some, false, is_named, rules, subst, true, ◌≡◌}
 use Rattle.table_state.proofs.Spans.{covered_by, same_day}
 use Rattle.table_state.proofs.flight_spans.with_move.Goals as goal
 

@@ -1,5 +1,4 @@
-use Rattle.std.proofs.Common.{◌≡◌, Some, take, map}
-use Rattle.table_state.proofs.Common.{noted_flight_meant, noted_by}
+use Rattle.table_state.proofs.Common.{Some, map, noted_by, noted_flight_meant, take, ◌≡◌}
 use Rattle.table_state.proofs.noted.flights_noted.Given as goal
 
 abbrev pub invariant-loop-row : goal.invariant-loop-row

@@ -1,5 +1,4 @@
-use Rattle.std.proofs.Common.{◌≡◌, Some, take, map}
-use Rattle.table_state.proofs.Common.{listed_waybill_meant, expectation_by}
+use Rattle.table_state.proofs.Common.{Some, expectation_by, listed_waybill_meant, map, take, ◌≡◌}
 use Rattle.table_state.proofs.noted.waybills_expected.Given as goal
 
 abbrev pub invariant-loop-row : goal.invariant-loop-row

@@ -1,5 +1,4 @@
-use Rattle.std.proofs.Common.{Some, None, ap, subst, ◌∙◌}
-use Rattle.table_state.proofs.Common.{Lines, with_line, HasOpen}
+use Rattle.table_state.proofs.Common.{HasOpen, Lines, None, Some, ap, subst, with_line, ◌∙◌}
 use Rattle.table_state.proofs.LineWritten.{closed, opened}
 use Rattle.table_state.proofs.open_lines.after_line.Goals as goal
 

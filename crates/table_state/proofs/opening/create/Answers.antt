@@ -1,5 +1,4 @@
-use Rattle.std.proofs.Common.{rules, ◌≡◌, true, inl, inr, ⊎_elim, ap, ◌∙◌}
-use Rattle.table_state.proofs.Common.{is_airport, opening}
+use Rattle.table_state.proofs.Common.{ap, inl, inr, is_airport, opening, rules, true, ⊎_elim, ◌∙◌, ◌≡◌}
 use Rattle.table_state.proofs.File.{leaves_file}
 use Rattle.table_state.proofs.NewState.{opening_found}
 use Rattle.table_state.proofs.opening.create.Goals as goal

@@ -1,5 +1,4 @@
-use Rattle.std.proofs.Common.{sym, ap, subst, ◌∙◌}
-use Rattle.table_state.proofs.Common.{insert_key, nat_cmp, HasAsked}
+use Rattle.table_state.proofs.Common.{HasAsked, ap, insert_key, nat_cmp, subst, sym, ◌∙◌}
 use Rattle.table_state.proofs.Asked.{kept_still, kept_too}
 use Rattle.table_state.proofs.waybill_sets.after_move.Goals as goal
 

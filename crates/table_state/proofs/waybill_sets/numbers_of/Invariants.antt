@@ -1,5 +1,4 @@
-use Rattle.std.proofs.Common.{◌≡◌, ℕ, true, take, map}
-use Rattle.table_state.proofs.Common.{is_in, WaybillBalances}
+use Rattle.table_state.proofs.Common.{WaybillBalances, is_in, map, take, true, ℕ, ◌≡◌}
 use Rattle.table_state.proofs.waybill_sets.numbers_of.Given as goal
 
 -- the numbers of the waybills so far are there

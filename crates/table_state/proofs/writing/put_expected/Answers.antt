@@ -1,5 +1,4 @@
-use Rattle.std.proofs.Common.{sym, ◌∙◌, w64}
-use Rattle.table_state.proofs.Common.{to_z-of_z, inside, expected_meant}
+use Rattle.table_state.proofs.Common.{expected_meant, inside, sym, to_z-of_z, w64, ◌∙◌}
 use Rattle.table_state.proofs.Lifting.{of_answer}
 use Rattle.table_state.proofs.Putting.{over_expected}
 use Rattle.table_state.proofs.writing.put_expected.Goals as goal

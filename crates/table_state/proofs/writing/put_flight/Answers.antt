@@ -1,5 +1,4 @@
-use Rattle.std.proofs.Common.{sym, ◌∙◌, w64}
-use Rattle.table_state.proofs.Common.{to_z-of_z, inside, flight_meant}
+use Rattle.table_state.proofs.Common.{flight_meant, inside, sym, to_z-of_z, w64, ◌∙◌}
 use Rattle.table_state.proofs.Lifting.{of_answer}
 use Rattle.table_state.proofs.Putting.{over_flight}
 use Rattle.table_state.proofs.writing.put_flight.Goals as goal

@@ -1,5 +1,4 @@
-use Rattle.std.proofs.Common.{rules, sym, ◌∙◌, SFits, w64}
-use Rattle.table_state.proofs.Common.{to_z-of_z, inside, waybill_meant}
+use Rattle.table_state.proofs.Common.{SFits, inside, rules, sym, to_z-of_z, w64, waybill_meant, ◌∙◌}
 use Rattle.table_state.proofs.Lifting.{of_answer}
 use Rattle.table_state.proofs.Putting.{over_waybill, as_new_waybill}
 use Rattle.table_state.proofs.writing.put_waybill.Goals as goal

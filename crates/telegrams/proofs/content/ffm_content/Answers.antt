@@ -1,6 +1,4 @@
-use Rattle.std.proofs.Common.{◌≡◌, true, List, length, map, refl, sym, ap, subst, ◌∙◌, arith}
-use Rattle.telegrams.proofs.Common.{list_all, length-map, line_texts, ffm_fault, manifest_of, unloaded_of, has_plain_cargo, inbound_line}
-use Rattle.ffm_text.specs.declared.FfmLine.{FfmLine}
+use Rattle.telegrams.proofs.Common.{FfmLine, List, ap, arith, ffm_fault, has_plain_cargo, inbound_line, length, length-map, line_texts, list_all, manifest_of, map, refl, subst, sym, true, unloaded_of, ◌∙◌, ◌≡◌}
 use Rattle.telegrams.proofs.Bounds.{ffm_within, told_within}
 use Rattle.telegrams.proofs.PlainLines.{few_texts, plain_cargo, few_cargo, same_lines, same_part}
 use Rattle.telegrams.proofs.content.ffm_content.Goals as goal

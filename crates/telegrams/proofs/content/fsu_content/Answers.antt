@@ -1,9 +1,6 @@
-use Rattle.std.proofs.Common.{◌≡◌, ◌≤◌, true, ℕ, List, length, map, refl, sym, ap, subst, ◌∙◌}
-use Rattle.telegrams.proofs.Common.{list_all, line_texts, fsu_fault, update_of}
-use Rattle.imp_fields.specs.Characters.{is_line}
-use Rattle.fsu_text.specs.declared.status.StatusLine.{StatusLine}
+use Rattle.telegrams.proofs.Common.{List, StatusLine, ap, fsu_fault, is_line, length, line_texts, list_all, map, subst, sym, true, ℕ, ◌∙◌, ◌≡◌, ◌≤◌}
 use Rattle.telegrams.proofs.Bounds.{fsu_within, told_within}
-use Rattle.telegrams.proofs.PlainLines.{few_texts, plain_trail, few_trail, same_status}
+use Rattle.telegrams.proofs.PlainLines.{few_texts, plain_trail, few_trail}
 use Rattle.telegrams.proofs.content.fsu_content.Goals as goal
 
 pub refusal-requires : goal.refusal-requires
@@ -19,14 +16,3 @@ new-requires c =
       printable = subst (λ (ls : List (List ℕ)). list_all is_line ls ≡ true) (sym same)
           (plain_trail c.args.lines.now.lines.items c.in-Ok.message.trail.items c.args.lines.now.printable c.in-Ok.ensures.spans.trail);
     }
-
-pub returns-in-Ok-trail_lines-clause-said : goal.returns-in-Ok-trail_lines-clause-said
-returns-in-Ok-trail_lines-clause-said c = (
-  refl,
-  (
-    update_of c.in-Ok.message,
-    c.in-Ok.ensures.read,
-    same_status c.in-Ok.message c.new.result
-        (c.new.ensures ∙ c.in-Ok-trail_lines.ensures ∙ ap (map (λ (l : StatusLine). l.text.text.now)) c.as_slice.ensures.value),
-  ),
-)

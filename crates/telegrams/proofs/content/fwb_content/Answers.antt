@@ -1,6 +1,4 @@
-use Rattle.std.proofs.Common.{arith}
-use Rattle.telegrams.proofs.Common.{line_texts}
-use Rattle.fwb_text.specs.Fwb.{fwb_fault}
+use Rattle.telegrams.proofs.Common.{arith, fwb_fault, line_texts}
 use Rattle.telegrams.proofs.Bounds.{fwb_within}
 use Rattle.telegrams.proofs.PlainLines.{second_plain, few_texts}
 use Rattle.telegrams.proofs.content.fwb_content.Goals as goal

@@ -1,5 +1,4 @@
-use Rattle.std.proofs.Common.{◌≡◌, map, take}
-use Rattle.telegrams.proofs.Common.{unloaded_of, inbound_line}
+use Rattle.telegrams.proofs.Common.{inbound_line, map, take, unloaded_of, ◌≡◌}
 use Rattle.telegrams.proofs.content.inbound_lines.Given as goal
 
 abbrev pub invariant-loop-line : goal.invariant-loop-line

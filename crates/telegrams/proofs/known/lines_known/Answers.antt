@@ -1,6 +1,5 @@
 use Rattle.std.proofs.Common.{All, subst}
-use Rattle.telegrams.proofs.Common.{take_all}
-use Rattle.std.proofs.lemmas.List.Elements.{All-more}
+use Rattle.telegrams.proofs.Common.{All-more, take_all}
 use Rattle.telegrams.proofs.KnownLines.{IsLine}
 use Rattle.telegrams.proofs.known.lines_known.Goals as goal
 

@@ -1,5 +1,4 @@
-use Rattle.std.proofs.Common.{List, subst}
-use Rattle.telegrams.proofs.Common.{ManifestLine, IsNormalManifest, IsManifestAgain}
+use Rattle.telegrams.proofs.Common.{IsManifestAgain, IsNormalManifest, List, ManifestLine, subst}
 use Rattle.telegrams.proofs.NoticeLaws.{manifest_normal, manifest_again}
 use Rattle.telegrams.proofs.known.manifest_known.Goals as goal
 

@@ -1,5 +1,4 @@
-use Rattle.std.proofs.Common.{arith, subst}
-use Rattle.telegrams.proofs.Common.{length-map, IsCalendarDay, sent_load}
+use Rattle.telegrams.proofs.Common.{IsCalendarDay, arith, length-map, sent_load, subst}
 use Rattle.telegrams.proofs.KnownLines.{are_loads, IsAirport}
 use Rattle.telegrams.proofs.known.parts_known.Goals as goal
 

@@ -1,5 +1,4 @@
-use Rattle.std.proofs.Common.{◌≡◌, map, take}
-use Rattle.telegrams.proofs.Common.{sent_load}
+use Rattle.telegrams.proofs.Common.{map, sent_load, take, ◌≡◌}
 use Rattle.telegrams.proofs.notice.loads_of.Given as goal
 
 abbrev pub invariant-loop-line : goal.invariant-loop-line

@@ -1,5 +1,4 @@
-use Rattle.std.proofs.Common.{◌≡◌, IfOk, sym, subst}
-use Rattle.telegrams.proofs.Common.{Notice, notice_text}
+use Rattle.telegrams.proofs.Common.{IfOk, Notice, notice_text, subst, sym, ◌≡◌}
 use Rattle.telegrams.proofs.NoticeLaws.{status_normal, status_again, flight_normal, flight_again}
 use Rattle.telegrams.proofs.notice.notice_text.Goals as goal
 

@@ -1,6 +1,5 @@
-use Rattle.std.proofs.Common.{sym, ap, ◌∙◌}
+use Rattle.telegrams.proofs.Common.{ap, status_of_event, sym, ◌∙◌}
 use Rattle.fsu_text.specs.declared.sent.SentStatus.TheVariants as sent
-use Rattle.telegrams.proofs.Common.{status_of_event}
 use Rattle.telegrams.proofs.notice.status_of.Goals as goal
 
 pub returns-in-ReceivedFromShipper : goal.returns-in-ReceivedFromShipper

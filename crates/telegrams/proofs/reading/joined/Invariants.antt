@@ -1,5 +1,4 @@
-use Rattle.std.proofs.Common.{◌≡◌, ◌+◌, map, take}
-use Rattle.telegrams.proofs.Common.{normal_text}
+use Rattle.telegrams.proofs.Common.{map, normal_text, take, ◌+◌, ◌≡◌}
 use Rattle.telegrams.proofs.reading.joined.Given as goal
 
 abbrev pub invariant-loop-line : goal.invariant-loop-line

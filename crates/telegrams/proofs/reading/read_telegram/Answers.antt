@@ -1,5 +1,4 @@
-use Rattle.std.proofs.Common.{Some, sym, ap, ◌∙◌, arith}
-use Rattle.telegrams.proofs.Common.{fault_of, normal_lines, line_texts}
+use Rattle.telegrams.proofs.Common.{Some, ap, arith, fault_of, line_texts, normal_lines, sym, ◌∙◌}
 use Rattle.telegrams.proofs.Bounds.{normal_within, told_within}
 use Rattle.telegrams.proofs.PlainLines.{few_texts, plain_texts}
 use Rattle.telegrams.proofs.RefusedLaws.{text_refused}

@@ -1,6 +1,4 @@
-use Rattle.std.proofs.Common.{◌≡◌, true, ℕ, List, map, sym, ap, subst, ◌∙◌}
-use Rattle.telegrams.proofs.Common.{list_all, normal_text, line_texts, is_text_byte}
-use Rattle.imp_fields.specs.declared.token.Token.{Token}
+use Rattle.telegrams.proofs.Common.{List, Token, ap, is_text_byte, line_texts, list_all, map, normal_text, subst, sym, true, ℕ, ◌∙◌, ◌≡◌}
 use Rattle.telegrams.proofs.PlainLines.{plain_normal, plain_texts}
 use Rattle.telegrams.proofs.reading.text_of.Goals as goal
 

@@ -1,6 +1,4 @@
-use Rattle.std.proofs.Common.{◌≡◌, Some, sym, ap, ◌∙◌, subst}
-use Rattle.agent_stock.proofs.Common.{is_some, nat_cmp, AreRuns, holders_by}
-use Rattle.std.specs.BTreeMap.{get}
+use Rattle.agent_stock.proofs.Common.{AreRuns, Some, ap, get, holders_by, is_some, nat_cmp, subst, sym, ◌∙◌, ◌≡◌}
 use Rattle.std.specs.Map.Iter.{deref_pair}
 use Rattle.std.proofs.lemmas.Map.Views.{All-turn}
 use Rattle.agent_stock.proofs.Keyed.{rows_in_order, holders_by_key, all_listed}

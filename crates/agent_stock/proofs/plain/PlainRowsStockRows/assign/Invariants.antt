@@ -1,5 +1,4 @@
-use Rattle.std.proofs.Common.{◌≡◌, ℕ, ◌&&◌, nat_le, nat_lt, cond, Some}
-use Rattle.agent_stock.proofs.Common.{holders_of}
+use Rattle.agent_stock.proofs.Common.{Some, cond, holders_of, nat_le, nat_lt, ℕ, ◌&&◌, ◌≡◌}
 use Rattle.agent_stock.proofs.plain.PlainRowsStockRows.assign.Given as goal
 
 -- the numbers so far are with the holder

@@ -1,5 +1,4 @@
-use Rattle.std.proofs.Common.{◌≡◌, ◌-◌, not}
-use Rattle.agent_stock.proofs.Common.{find, range_with_len, lowest_failing, passes, holders_of}
+use Rattle.agent_stock.proofs.Common.{find, holders_of, lowest_failing, not, passes, range_with_len, ◌-◌, ◌≡◌}
 use Rattle.agent_stock.proofs.plain.PlainRowsStockRows.uniform.Given as goal
 
 -- what is looked for lies ahead

@@ -1,5 +1,4 @@
-use Rattle.std.proofs.Common.{ℕ, List, None, subst}
-use Rattle.desk_client.proofs.Common.{call, HasAnswered, request_by, most_of}
+use Rattle.desk_client.proofs.Common.{HasAnswered, List, None, call, most_of, request_by, subst, ℕ}
 use Rattle.desk_client.proofs.answering.ByServiceAnswering.answer.Goals as goal
 
 pub returns-clause-answered : goal.returns-clause-answered

@@ -1,5 +1,4 @@
-use Rattle.std.proofs.Common.{ap}
-use Rattle.desk_client.proofs.Common.{talk, most_of, request_of}
+use Rattle.desk_client.proofs.Common.{ap, most_of, request_of, talk}
 use Rattle.desk_client.specs.declared.ask.Until.TheVariants as until
 use Rattle.desk_client.proofs.Asking.{asked}
 use Rattle.desk_client.proofs.ask.RemoteDeskAsk.ask.Goals as goal

@@ -1,4 +1,4 @@
-use Rattle.desk_client.proofs.Common.{talk, rows_path}
+use Rattle.desk_client.proofs.Common.{rows_path, talk}
 use Rattle.desk_client.proofs.RowsAsked.{rows_shown, rows_unanswered, rows_unasked}
 use Rattle.desk_client.proofs.ask.RemoteDeskAsk.ask_rows.Goals as goal
 

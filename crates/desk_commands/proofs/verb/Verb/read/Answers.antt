@@ -1,5 +1,4 @@
-use Rattle.std.proofs.Common.{◌≡◌, ℕ, List, Option, Some, None, IfSome, sym, ap, ◌∙◌}
-use Rattle.desk_commands.proofs.Common.{Verb, word, verb_called}
+use Rattle.desk_commands.proofs.Common.{IfSome, List, None, Option, Some, Verb, ap, sym, verb_called, word, ℕ, ◌∙◌, ◌≡◌}
 use Rattle.desk_commands.proofs.Words.{called_again, called_is}
 use Rattle.desk_commands.proofs.verb.Verb.read.Goals as goal
 

@@ -1,5 +1,4 @@
-use Rattle.std.proofs.Common.{◌++◌, ◌∷◌, [], sym, ◌∙◌, subst}
-use Rattle.ffm_text.proofs.Common.{AreCargo}
+use Rattle.ffm_text.proofs.Common.{AreCargo, [], subst, sym, ◌++◌, ◌∙◌, ◌∷◌}
 use Rattle.ffm_text.proofs.ScanLaws.{take_cargo, pass_line}
 use Rattle.ffm_text.proofs.ToldLaws.{cargo_told}
 use Rattle.ffm_text.proofs.cargo.ManifestScan.take.Goals as goal

@@ -1,5 +1,4 @@
-use Rattle.std.proofs.Common.{subst, sym}
-use Rattle.imp_fields.proofs.Common.{IsTrue, is_goods}
+use Rattle.imp_fields.proofs.Common.{IsTrue, is_goods, subst, sym}
 use Rattle.imp_fields.proofs.NameLaws.{kept_is, kept_is_goods}
 use Rattle.imp_fields.proofs.name.Goods.kept.Goals as goal
 

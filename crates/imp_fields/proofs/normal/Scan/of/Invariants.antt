@@ -1,5 +1,4 @@
-use Rattle.std.proofs.Common.{◌≤◌, ◌+◌, ◌-◌, length}
-use Rattle.imp_fields.proofs.Common.{IsScannedTo}
+use Rattle.imp_fields.proofs.Common.{IsScannedTo, length, ◌+◌, ◌-◌, ◌≤◌}
 use Rattle.imp_fields.proofs.normal.Scan.of.Given as goal
 
 abbrev pub invariant-loop-start : goal.invariant-loop-start

@@ -1,5 +1,4 @@
-use Rattle.std.proofs.Common.{arith, ◌≡◌, ◌∙◌, ◌+◌, not, length, take, ◌++◌, ◌∷◌, [], refl, sym, ap, subst}
-use Rattle.plain_station.proofs.Common.{take_all, filter, AreDeclared, declared_in}
+use Rattle.plain_station.proofs.Common.{AreDeclared, [], ap, arith, declared_in, filter, length, not, refl, subst, sym, take, take_all, ◌++◌, ◌+◌, ◌∙◌, ◌∷◌, ◌≡◌}
 use Rattle.plain_station.proofs.Listed.{are_announced, is_ahead}
 use Rattle.plain_station.proofs.Walks.{kept, passed_over}
 use Rattle.plain_station.proofs.cargo.PlainCargo.announced_rows.Goals.{then-not-has_come+in_ok-put_declared, else-not-has_come}

@@ -1,5 +1,4 @@
-use Rattle.std.proofs.Common.{take}
-use Rattle.plain_station.proofs.Common.{filter, AreDeclared, declared_in}
+use Rattle.plain_station.proofs.Common.{AreDeclared, declared_in, filter, take}
 use Rattle.plain_station.proofs.Listed.{is_ahead}
 use Rattle.plain_station.proofs.cargo.PlainCargo.announced_rows.Given as goal
 

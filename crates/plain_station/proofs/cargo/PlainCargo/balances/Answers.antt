@@ -1,5 +1,4 @@
-use Rattle.std.proofs.Common.{◌∙◌, ap}
-use Rattle.plain_station.proofs.Common.{taken, found, free, missing, departed, delivered, transferred, held_free, held_missing, cargo_of}
+use Rattle.plain_station.proofs.Common.{ap, cargo_of, delivered, departed, found, free, held_free, held_missing, missing, taken, transferred, ◌∙◌}
 use Rattle.plain_station.proofs.Within.{within_taken, within_found, within_held, within_places}
 use Rattle.plain_station.proofs.cargo.PlainCargo.balances.Goals as goal
 

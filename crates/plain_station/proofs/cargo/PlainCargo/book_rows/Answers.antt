@@ -1,5 +1,4 @@
-use Rattle.std.proofs.Common.{◌+◌, get_or, ap, ◌∙◌, arith}
-use Rattle.plain_station.proofs.Common.{book_row}
+use Rattle.plain_station.proofs.Common.{ap, arith, book_row, get_or, ◌+◌, ◌∙◌}
 use Rattle.plain_station.proofs.Numbers.{told_next}
 use Rattle.plain_station.proofs.cargo.PlainCargo.book_rows.Goals as goal
 

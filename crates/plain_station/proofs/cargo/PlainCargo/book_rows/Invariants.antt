@@ -1,5 +1,4 @@
-use Rattle.std.proofs.Common.{◌≡◌, take}
-use Rattle.plain_station.proofs.Common.{numbered, book_row}
+use Rattle.plain_station.proofs.Common.{book_row, numbered, take, ◌≡◌}
 use Rattle.plain_station.proofs.cargo.PlainCargo.book_rows.Given as goal
 
 abbrev pub invariant-loop-i : goal.invariant-loop-i

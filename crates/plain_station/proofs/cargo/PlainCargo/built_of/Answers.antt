@@ -1,6 +1,4 @@
-use Rattle.std.proofs.Common.{◌≤◌, ap, ◌∙◌, arith}
-use Rattle.plain_station.proofs.Common.{held_built, built, cargo_of}
-use Rattle.shipment_machine.specs.declared.amount.Amount.{Amount}
+use Rattle.plain_station.proofs.Common.{Amount, ap, arith, built, cargo_of, held_built, ◌∙◌, ◌≤◌}
 use Rattle.plain_station.proofs.Walks.{summed}
 use Rattle.plain_station.proofs.cargo.PlainCargo.built_of.Goals as goal
 

@@ -1,5 +1,4 @@
-use Rattle.std.proofs.Common.{◌≡◌, ◌≤◌, ◌*◌, take, sum_by}
-use Rattle.plain_station.proofs.Common.{built}
+use Rattle.plain_station.proofs.Common.{built, sum_by, take, ◌*◌, ◌≡◌, ◌≤◌}
 use Rattle.plain_station.proofs.cargo.PlainCargo.built_of.Given as goal
 
 abbrev pub invariant-loop-number : goal.invariant-loop-number

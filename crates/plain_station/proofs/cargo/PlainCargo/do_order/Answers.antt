@@ -1,5 +1,4 @@
-use Rattle.std.proofs.Common.{◌≡◌, None, ap, subst, ◌∙◌}
-use Rattle.plain_station.proofs.Common.{order_refusal, after_order, cargo_of}
+use Rattle.plain_station.proofs.Common.{None, after_order, ap, cargo_of, order_refusal, subst, ◌∙◌, ◌≡◌}
 use Rattle.plain_station.proofs.Ordering.{done, steady_after}
 use Rattle.plain_station.proofs.cargo.PlainCargo.do_order.Goals as goal
 

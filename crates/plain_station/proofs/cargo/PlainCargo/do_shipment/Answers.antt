@@ -1,5 +1,4 @@
-use Rattle.std.proofs.Common.{sym, subst}
-use Rattle.plain_station.proofs.Common.{outcome_of, cargo_acted, Does, cargo_of}
+use Rattle.plain_station.proofs.Common.{Does, cargo_acted, cargo_of, outcome_of, subst, sym}
 use Rattle.plain_station.proofs.Steady.{carried_steady}
 use Rattle.plain_station.proofs.cargo.PlainCargo.do_shipment.Goals as goal
 

@@ -1,5 +1,4 @@
-use Rattle.std.proofs.Common.{take}
-use Rattle.plain_station.proofs.Common.{AreExpectations, expected_in}
+use Rattle.plain_station.proofs.Common.{AreExpectations, expected_in, take}
 use Rattle.plain_station.proofs.cargo.PlainCargo.expectations.Given as goal
 
 abbrev pub invariant-loop-row : goal.invariant-loop-row

@@ -1,5 +1,4 @@
-use Rattle.std.proofs.Common.{sym, ap}
-use Rattle.plain_station.proofs.Common.{unwrap_or, Declared, undeclared}
+use Rattle.plain_station.proofs.Common.{Declared, ap, sym, undeclared, unwrap_or}
 use Rattle.plain_station.proofs.cargo.PlainCargo.expected_row.Goals as goal
 
 pub returns : goal.returns

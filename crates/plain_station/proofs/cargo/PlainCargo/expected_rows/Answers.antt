@@ -1,5 +1,4 @@
-use Rattle.std.proofs.Common.{arith, ◌≡◌, length, take, ◌∷◌, [], ◌++◌, map, ap, sym, subst, ◌∙◌, IsSome}
-use Rattle.plain_station.proofs.Common.{take_all, Expectation, AreExpectations, expected_row, cargo_of, mapped}
+use Rattle.plain_station.proofs.Common.{AreExpectations, Expectation, IsSome, [], ap, arith, cargo_of, expected_row, length, map, mapped, subst, sym, take, take_all, ◌++◌, ◌∙◌, ◌∷◌, ◌≡◌}
 use Rattle.plain_station.proofs.Listed.{known_asked}
 use Rattle.plain_station.proofs.Walks.{holds_of}
 use Rattle.plain_station.proofs.cargo.PlainCargo.expected_rows.Goals as goal

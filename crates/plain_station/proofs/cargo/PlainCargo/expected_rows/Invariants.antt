@@ -1,5 +1,4 @@
-use Rattle.std.proofs.Common.{◌≡◌, take, map}
-use Rattle.plain_station.proofs.Common.{expected_row, cargo_of}
+use Rattle.plain_station.proofs.Common.{cargo_of, expected_row, map, take, ◌≡◌}
 use Rattle.plain_station.proofs.cargo.PlainCargo.expected_rows.Given as goal
 
 abbrev pub invariant-loop-expectation : goal.invariant-loop-expectation

@@ -1,5 +1,4 @@
-use Rattle.std.proofs.Common.{length, sum_by, ap, ◌∙◌}
-use Rattle.plain_station.proofs.Common.{built}
+use Rattle.plain_station.proofs.Common.{ap, built, length, sum_by, ◌∙◌}
 use Rattle.plain_station.proofs.cargo.PlainCargo.flight_row.Goals as goal
 
 pub returns : goal.returns

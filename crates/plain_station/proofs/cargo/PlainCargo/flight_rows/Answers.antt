@@ -1,5 +1,4 @@
-use Rattle.std.proofs.Common.{◌∷◌, [], ◌++◌, ap, ◌∙◌}
-use Rattle.plain_station.proofs.Common.{flight_row, cargo_of, mapped}
+use Rattle.plain_station.proofs.Common.{[], ap, cargo_of, flight_row, mapped, ◌++◌, ◌∙◌, ◌∷◌}
 use Rattle.plain_station.proofs.cargo.PlainCargo.flight_rows.Goals as goal
 
 pub loop-noted-preserved : goal.loop-noted-preserved

@@ -1,5 +1,4 @@
-use Rattle.std.proofs.Common.{◌≡◌, take, map}
-use Rattle.plain_station.proofs.Common.{flight_row, cargo_of}
+use Rattle.plain_station.proofs.Common.{cargo_of, flight_row, map, take, ◌≡◌}
 use Rattle.plain_station.proofs.cargo.PlainCargo.flight_rows.Given as goal
 
 abbrev pub invariant-loop-noted : goal.invariant-loop-noted

@@ -1,5 +1,4 @@
-use Rattle.std.proofs.Common.{◌∙◌, ap}
-use Rattle.plain_station.proofs.Common.{Balances, store, cargo_of}
+use Rattle.plain_station.proofs.Common.{Balances, ap, cargo_of, store, ◌∙◌}
 use Rattle.plain_station.proofs.Within.{within_places}
 use Rattle.plain_station.proofs.cargo.PlainCargo.known.Goals as goal
 

@@ -1,5 +1,4 @@
-use Rattle.std.proofs.Common.{◌≡◌, take, map}
-use Rattle.plain_station.proofs.Common.{lines_for, line_view_of, cargo_of}
+use Rattle.plain_station.proofs.Common.{cargo_of, line_view_of, lines_for, map, take, ◌≡◌}
 use Rattle.plain_station.proofs.cargo.PlainCargo.line_rows.Given as goal
 
 abbrev pub invariant-loop-line : goal.invariant-loop-line

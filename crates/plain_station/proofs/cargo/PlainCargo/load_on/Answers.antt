@@ -1,4 +1,4 @@
-use Rattle.plain_station.proofs.Common.{held_built, cargo_of}
+use Rattle.plain_station.proofs.Common.{cargo_of, held_built}
 use Rattle.plain_station.proofs.Within.{within_held}
 use Rattle.plain_station.proofs.cargo.PlainCargo.load_on.Goals as goal
 

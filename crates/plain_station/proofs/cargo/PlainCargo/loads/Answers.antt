@@ -1,5 +1,4 @@
-use Rattle.std.proofs.Common.{◌∷◌, [], ◌++◌, ap, ◌∙◌, IsSome}
-use Rattle.plain_station.proofs.Common.{waybills_on, aboard_of, cargo_of, mapped}
+use Rattle.plain_station.proofs.Common.{IsSome, [], aboard_of, ap, cargo_of, mapped, waybills_on, ◌++◌, ◌∙◌, ◌∷◌}
 use Rattle.plain_station.proofs.Known.{known_on}
 use Rattle.plain_station.proofs.Walks.{holds_of}
 use Rattle.plain_station.proofs.cargo.PlainCargo.loads.Goals as goal

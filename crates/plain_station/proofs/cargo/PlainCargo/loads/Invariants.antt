@@ -1,5 +1,4 @@
-use Rattle.std.proofs.Common.{◌≡◌, take, map}
-use Rattle.plain_station.proofs.Common.{aboard_of, cargo_of}
+use Rattle.plain_station.proofs.Common.{aboard_of, cargo_of, map, take, ◌≡◌}
 use Rattle.plain_station.proofs.cargo.PlainCargo.loads.Given as goal
 
 abbrev pub invariant-loop-number : goal.invariant-loop-number

@@ -1,5 +1,4 @@
-use Rattle.std.proofs.Common.{◌≡◌, length, arith}
-use Rattle.plain_station.proofs.Common.{length-map, texts_in}
+use Rattle.plain_station.proofs.Common.{arith, length, length-map, texts_in, ◌≡◌}
 use Rattle.plain_station.proofs.Numbers.{pending_next}
 use Rattle.plain_station.proofs.cargo.PlainCargo.messages_after.Goals as goal
 

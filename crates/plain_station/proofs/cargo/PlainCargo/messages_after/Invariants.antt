@@ -1,5 +1,4 @@
-use Rattle.std.proofs.Common.{◌≡◌, ◌+◌, ◌-◌, take, drop}
-use Rattle.plain_station.proofs.Common.{numbered, message, texts_in}
+use Rattle.plain_station.proofs.Common.{drop, message, numbered, take, texts_in, ◌+◌, ◌-◌, ◌≡◌}
 use Rattle.plain_station.proofs.cargo.PlainCargo.messages_after.Given as goal
 
 abbrev pub invariant-loop-at : goal.invariant-loop-at

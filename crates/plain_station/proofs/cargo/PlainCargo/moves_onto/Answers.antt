@@ -1,5 +1,4 @@
-use Rattle.std.proofs.Common.{◌∙◌, sym, ap}
-use Rattle.plain_station.proofs.Common.{is_onto}
+use Rattle.plain_station.proofs.Common.{ap, is_onto, sym, ◌∙◌}
 use Rattle.plain_station.proofs.Walks.{kept, passed_over}
 use Rattle.plain_station.proofs.cargo.PlainCargo.moves_onto.Goals.{then-is_onto+in_ok-push, else-is_onto}
 use Rattle.plain_station.proofs.cargo.PlainCargo.moves_onto.Goals as goal

@@ -1,5 +1,4 @@
-use Rattle.std.proofs.Common.{◌≡◌, take}
-use Rattle.plain_station.proofs.Common.{filter, is_onto}
+use Rattle.plain_station.proofs.Common.{filter, is_onto, take, ◌≡◌}
 use Rattle.plain_station.proofs.cargo.PlainCargo.moves_onto.Given as goal
 
 abbrev pub invariant-loop-movement : goal.invariant-loop-movement

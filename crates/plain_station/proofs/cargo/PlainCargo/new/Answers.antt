@@ -1,5 +1,4 @@
-use Rattle.std.proofs.Common.{refl, sym, subst}
-use Rattle.plain_station.proofs.Common.{IsSteady}
+use Rattle.plain_station.proofs.Common.{IsSteady, refl, subst, sym}
 use Rattle.plain_station.proofs.cargo.PlainCargo.new.Goals as goal
 
 pub invariant_of-result : goal.invariant_of-result

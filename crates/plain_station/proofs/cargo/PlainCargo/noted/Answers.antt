@@ -1,5 +1,4 @@
-use Rattle.std.proofs.Common.{take, sym, subst}
-use Rattle.plain_station.proofs.Common.{AreNoted, flights_in}
+use Rattle.plain_station.proofs.Common.{AreNoted, flights_in, subst, sym, take}
 use Rattle.plain_station.proofs.Walks.{taken_more}
 use Rattle.plain_station.proofs.cargo.PlainCargo.noted.Goals as goal
 

@@ -1,5 +1,4 @@
-use Rattle.std.proofs.Common.{◌∙◌, sym, ap}
-use Rattle.plain_station.proofs.Common.{filter, take_all, waybills_of, is_built_on}
+use Rattle.plain_station.proofs.Common.{ap, filter, is_built_on, sym, take_all, waybills_of, ◌∙◌}
 use Rattle.plain_station.proofs.Onto.{on_flight}
 use Rattle.plain_station.proofs.Walks.{kept, passed_over}
 use Rattle.plain_station.proofs.cargo.PlainCargo.numbers_on.Goals.{then-is_on+in_ok-push, else-is_on}

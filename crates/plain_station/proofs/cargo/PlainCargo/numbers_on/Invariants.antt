@@ -1,5 +1,4 @@
-use Rattle.std.proofs.Common.{◌≡◌, take}
-use Rattle.plain_station.proofs.Common.{filter, is_built_on}
+use Rattle.plain_station.proofs.Common.{filter, is_built_on, take, ◌≡◌}
 use Rattle.plain_station.proofs.cargo.PlainCargo.numbers_on.Given as goal
 
 abbrev pub invariant-loop-number : goal.invariant-loop-number

@@ -1,6 +1,4 @@
-use Rattle.std.proofs.Common.{◌≡◌, ℕ, Option, Some, sym, ap, ◌∙◌, map}
-use Rattle.plain_station.proofs.Common.{is_some, unwrap_or, cond-true, cond-false, is_day, lines_for, line_view_of, cargo_of, parts_in}
-use Rattle.station_days.specs.Date.{resolved}
+use Rattle.plain_station.proofs.Common.{Option, Some, ap, cargo_of, cond-false, cond-true, is_day, is_some, line_view_of, lines_for, map, parts_in, resolved, sym, unwrap_or, ℕ, ◌∙◌, ◌≡◌}
 use Rattle.shipment_machine.specs.declared.view.Rows.TheVariants as rows
 use Rattle.plain_station.proofs.Meant.{still_some}
 use Rattle.plain_station.proofs.cargo.PlainCargo.part_rows.Goals as goal

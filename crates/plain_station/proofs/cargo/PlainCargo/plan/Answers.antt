@@ -1,6 +1,4 @@
-use Rattle.std.proofs.Common.{ℕ, List}
-use Rattle.plain_station.proofs.Common.{StaysLawful, outcome_of, carried_out, IsLawful, cargo_of, sent}
-use Rattle.station_core.proofs.StepLaw.{sent_lawful}
+use Rattle.plain_station.proofs.Common.{IsLawful, List, StaysLawful, cargo_of, carried_out, outcome_of, sent, sent_lawful, ℕ}
 use Rattle.plain_station.proofs.StillOk.{still_ok}
 use Rattle.plain_station.proofs.cargo.PlainCargo.plan.Goals as goal
 

@@ -1,6 +1,4 @@
-use Rattle.std.proofs.Common.{◌∙◌, sym, ap}
-use Rattle.plain_station.proofs.Common.{unwrap_or, store, Balances, Declared, undeclared}
-use Rattle.shipment_machine.specs.Amount.{less}
+use Rattle.plain_station.proofs.Common.{Balances, Declared, ap, less, store, sym, undeclared, unwrap_or, ◌∙◌}
 use Rattle.plain_station.proofs.cargo.PlainCargo.shed_row.Goals as goal
 
 pub returns : goal.returns

@@ -1,5 +1,4 @@
-use Rattle.std.proofs.Common.{◌∙◌, ap, IsSome}
-use Rattle.plain_station.proofs.Common.{waybills_of, cargo_of}
+use Rattle.plain_station.proofs.Common.{IsSome, ap, cargo_of, waybills_of, ◌∙◌}
 use Rattle.plain_station.proofs.Known.{known_all}
 use Rattle.plain_station.proofs.Walks.{holds_of}
 use Rattle.plain_station.proofs.cargo.PlainCargo.shed_rows.Goals as goal

@@ -1,5 +1,4 @@
-use Rattle.std.proofs.Common.{◌≡◌, [], ◌∷◌, take}
-use Rattle.plain_station.proofs.Common.{if◌then◌else◌, flat_map, is_in_shed, shed_row, cargo_of}
+use Rattle.plain_station.proofs.Common.{[], cargo_of, flat_map, if◌then◌else◌, is_in_shed, shed_row, take, ◌∷◌, ◌≡◌}
 use Rattle.plain_station.proofs.cargo.PlainCargo.shed_rows.Given as goal
 
 abbrev pub invariant-loop-number : goal.invariant-loop-number

@@ -1,5 +1,4 @@
-use Rattle.std.proofs.Common.{◌+◌, ◌++◌, [], ◌∷◌, get_or, take, sym, ap, ◌∙◌, arith}
-use Rattle.plain_station.proofs.Common.{take_all}
+use Rattle.plain_station.proofs.Common.{[], ap, arith, get_or, sym, take, take_all, ◌++◌, ◌+◌, ◌∙◌, ◌∷◌}
 use Rattle.station_core.specs.declared.rows.TrailRow as reader
 use Rattle.plain_station.proofs.Numbers.{line_row, line_rows, numbered_lines, told_next}
 use Rattle.plain_station.proofs.cargo.PlainCargo.trail_lines.Goals as goal

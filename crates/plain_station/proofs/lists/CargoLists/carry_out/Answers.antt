@@ -1,5 +1,4 @@
-use Rattle.std.proofs.Common.{true, map, sym, ap, ◌∙◌}
-use Rattle.plain_station.proofs.Common.{notice_text, outcome_of, cargo_of, texts_in}
+use Rattle.plain_station.proofs.Common.{ap, cargo_of, map, notice_text, outcome_of, sym, texts_in, true, ◌∙◌}
 use Rattle.plain_station.proofs.Carried.{taken_over, room_after, not_carried, carried}
 use Rattle.plain_station.proofs.lists.CargoLists.carry_out.Goals as goal
 

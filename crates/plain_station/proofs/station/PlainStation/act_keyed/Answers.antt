@@ -1,8 +1,5 @@
-use Rattle.std.proofs.Common.{◌≡◌, ◌++◌, ◌∷◌, [], ap, ◌∙◌}
+use Rattle.plain_station.proofs.Common.{KeptKey, Keyed, [], acted, ap, cargo_of, count_under, kept_under, key_answer, state_of, ◌++◌, ◌∙◌, ◌∷◌, ◌≡◌}
 use Rattle.desk_commands.specs.Command.{command_text}
-use Rattle.station_core.specs.declared.input.Input.TheVariants.{Keyed}
-use Rattle.plain_station.proofs.Common.{key_answer, acted, cargo_of, count_under, kept_under, state_of}
-use Rattle.plain_station.specs.declared.kept.KeptKey.{KeptKey}
 use Rattle.plain_station.proofs.Acting.{acts_ok, acts_err, works_err}
 use Rattle.plain_station.proofs.Keeping.{keyed_more}
 use Rattle.plain_station.proofs.station.PlainStation.act_keyed.Goals as goal

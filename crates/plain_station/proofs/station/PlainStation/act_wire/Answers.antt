@@ -1,7 +1,4 @@
-use Rattle.std.proofs.Common.{◌≡◌, ◌++◌, ◌∷◌, [], ap, ◌∙◌}
-use Rattle.station_core.specs.declared.input.Input.TheVariants.{Wire}
-use Rattle.plain_station.proofs.Common.{text_answer, acted, cargo_of, count_under, kept_under, state_of}
-use Rattle.plain_station.specs.declared.kept.KeptText.{KeptText}
+use Rattle.plain_station.proofs.Common.{KeptText, Wire, [], acted, ap, cargo_of, count_under, kept_under, state_of, text_answer, ◌++◌, ◌∙◌, ◌∷◌, ◌≡◌}
 use Rattle.plain_station.proofs.Acting.{acts_ok, acts_err, works_err}
 use Rattle.plain_station.proofs.Keeping.{texts_more}
 use Rattle.plain_station.proofs.station.PlainStation.act_wire.Goals as goal

@@ -1,6 +1,5 @@
-use Rattle.std.proofs.Common.{◌≡◌}
+use Rattle.plain_station.proofs.Common.{AreAnnounced, AreExpectedBy, AreFlightRows, book_by, irregular_rows, messages_by, shed_rows, state_of, trail_by, ◌≡◌}
 use Rattle.agent_stock.specs.Runs.{AreStockRuns}
-use Rattle.plain_station.proofs.Common.{AreAnnounced, AreExpectedBy, AreFlightRows, book_by, irregular_rows, messages_by, shed_rows, trail_by, state_of}
 use Rattle.plain_station.proofs.Handed.{hands_out}
 use Rattle.plain_station.proofs.station.PlainStationKeeper.TheImpl.Goals as goal
 

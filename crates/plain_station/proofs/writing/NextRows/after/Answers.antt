@@ -1,6 +1,4 @@
-use Rattle.std.proofs.Common.{◌+◌, drop, sym, ap, ◌∙◌}
-use Rattle.plain_station.proofs.Common.{written_all}
-use Rattle.plain_station.specs.Next.{cargo_with}
+use Rattle.plain_station.proofs.Common.{ap, cargo_with, drop, sym, written_all, ◌+◌, ◌∙◌}
 use Rattle.plain_station.proofs.Walks.{left_from, none_left}
 use Rattle.plain_station.proofs.writing.NextRows.after.Goals as goal
 

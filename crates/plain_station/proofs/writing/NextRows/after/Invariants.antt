@@ -1,6 +1,4 @@
-use Rattle.std.proofs.Common.{◌≡◌, drop}
-use Rattle.plain_station.proofs.Common.{written_all, cargo_of}
-use Rattle.plain_station.specs.Next.{cargo_with}
+use Rattle.plain_station.proofs.Common.{cargo_of, cargo_with, drop, written_all, ◌≡◌}
 use Rattle.plain_station.proofs.writing.NextRows.after.Given as goal
 
 -- what is still to be written makes the whole

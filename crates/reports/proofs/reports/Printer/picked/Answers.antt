@@ -1,5 +1,4 @@
-use Rattle.std.proofs.Common.{rules, ◌≡◌, ◌∙◌, ap, subst, false, ◌++◌}
-use Rattle.reports.proofs.Common.{filter, HasEndedBy, HasEndedEach, IsTextOf}
+use Rattle.reports.proofs.Common.{HasEndedBy, HasEndedEach, IsTextOf, ap, false, filter, rules, subst, ◌++◌, ◌∙◌, ◌≡◌}
 use Rattle.reports.proofs.Handing.{new_ended, new_ended_each}
 use Rattle.reports.proofs.reports.Printer.picked.Goals as goal
 

@@ -1,6 +1,4 @@
-use Rattle.std.proofs.Common.{arith, rules, ◌∷◌, []}
-use Rattle.std.proofs.lemmas.Grind.{common_steps}
-use Rattle.reports.proofs.Common.{book_by, irregular_rows, messages_by, shed_rows, trail_by, line_by, data_by, book_cells, irregular_cells, shed_cells, summary_cells, message_lines, trail_line, IsWhole, message_data, trail_data}
+use Rattle.reports.proofs.Common.{IsWhole, [], arith, book_by, book_cells, common_steps, data_by, irregular_cells, irregular_rows, line_by, message_data, message_lines, messages_by, rules, shed_cells, shed_rows, summary_cells, trail_by, trail_data, trail_line, ◌∷◌}
 use Rattle.station_core.specs.Told.{summary_of}
 use Rattle.station_core.specs.declared.rows.BookQuery.TheVariants as book
 use Rattle.station_core.specs.declared.rows.ExpectedQuery.TheVariants as expected

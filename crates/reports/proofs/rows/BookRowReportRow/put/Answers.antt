@@ -1,6 +1,4 @@
-use Rattle.std.proofs.Common.{◌≡◌, ◌∙◌, ◌++◌, List, [], ◌∷◌, subst}
-use Rattle.reports.proofs.Common.{OnOk, data_of, line_of, in_form}
-use Rattle.reports.specs.declared.cells.Cell.{Cell}
+use Rattle.reports.proofs.Common.{Cell, List, OnOk, [], data_of, in_form, line_of, subst, ◌++◌, ◌∙◌, ◌∷◌, ◌≡◌}
 use Rattle.reports.specs.declared.cells.Cell.TheVariants as cell
 use Rattle.reports.proofs.rows.BookRowReportRow.put.Goals as goal
 

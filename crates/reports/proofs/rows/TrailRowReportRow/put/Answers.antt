@@ -1,5 +1,4 @@
-use Rattle.std.proofs.Common.{◌≡◌, ◌++◌, sym, subst}
-use Rattle.reports.proofs.Common.{OnOk, trail_line, trail_data, in_form}
+use Rattle.reports.proofs.Common.{OnOk, in_form, subst, sym, trail_data, trail_line, ◌++◌, ◌≡◌}
 use Rattle.reports.proofs.rows.TrailRowReportRow.put.Goals as goal
 
 pub returns-in-Json : goal.returns-in-Json

@@ -1,5 +1,4 @@
-use Rattle.std.proofs.Common.{◌≡◌, ◌++◌}
-use Rattle.reports.proofs.Common.{flat_map, listed}
+use Rattle.reports.proofs.Common.{flat_map, listed, ◌++◌, ◌≡◌}
 use Rattle.reports.proofs.tallies.Tallies.rows.Given as goal
 
 -- the rows so far and those ahead are the rows of all

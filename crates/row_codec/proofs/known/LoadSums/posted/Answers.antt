@@ -1,5 +1,4 @@
-use Rattle.std.proofs.Common.{◌∙◌, sym}
-use Rattle.std.proofs.lemmas.Option.{IfSome_then}
+use Rattle.row_codec.proofs.Common.{IfSome_then, sym, ◌∙◌}
 use Rattle.row_codec.proofs.KnownLaws.{more_posted, none_posted}
 use Rattle.row_codec.proofs.known.LoadSums.posted.Goals as goal
 

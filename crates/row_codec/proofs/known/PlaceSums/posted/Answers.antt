@@ -1,5 +1,4 @@
-use Rattle.std.proofs.Common.{sym, subst, ◌∙◌}
-use Rattle.row_codec.proofs.Common.{AreSumsOf, posting}
+use Rattle.row_codec.proofs.Common.{AreSumsOf, posting, subst, sym, ◌∙◌}
 use Rattle.row_codec.proofs.KnownLaws.{sum_posted}
 use Rattle.row_codec.proofs.known.PlaceSums.posted.Goals as goal
 

@@ -1,5 +1,4 @@
-use Rattle.std.proofs.Common.{◌≡◌, ◌∙◌, rules}
-use Rattle.state_store.proofs.Common.{get, line_of, same_line}
+use Rattle.state_store.proofs.Common.{get, line_of, rules, same_line, ◌∙◌, ◌≡◌}
 use Rattle.state_store.proofs.Keyed.{found_by}
 use Rattle.state_store.proofs.Tied.{by_line, by_line_keyed}
 use Rattle.state_store.proofs.expected_lines.ExpectedLines.get.Goals as goal

@@ -1,5 +1,4 @@
-use Rattle.std.proofs.Common.{◌∙◌, ap, ◌++◌, ◌∷◌, [], ℕ, map}
-use Rattle.state_store.proofs.Common.{Expected, FlightKey}
+use Rattle.state_store.proofs.Common.{Expected, FlightKey, [], ap, map, ℕ, ◌++◌, ◌∙◌, ◌∷◌}
 use Rattle.state_store.proofs.InOrder.{are_expectations, expectation_of, mapped_last, mapped_more}
 use Rattle.state_store.proofs.expected_lines.ExpectedLines.listed.Goals as goal
 

@@ -1,6 +1,5 @@
-use Rattle.std.proofs.Common.{◌≡◌, ◌∙◌, ◌<◌, Some, length, rules, sym, ap, take, get_or}
+use Rattle.state_store.proofs.Common.{Lines, Some, ap, get_or, length, no_lines, rules, sym, take, with_line, ◌<◌, ◌∙◌, ◌≡◌}
 use Rattle.std.proofs.Math.Seq.{take-length}
-use Rattle.state_store.proofs.Common.{Lines, no_lines, with_line}
 use Rattle.state_store.proofs.Filled.{all_filled, filled, filled_next, filled_none}
 use Rattle.state_store.proofs.expected_lines.ExpectedLines.of.Goals as goal
 

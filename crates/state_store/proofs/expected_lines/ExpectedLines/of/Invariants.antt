@@ -1,5 +1,4 @@
-use Rattle.std.proofs.Common.{◌≡◌, take}
-use Rattle.state_store.proofs.Common.{lines_in, no_lines}
+use Rattle.state_store.proofs.Common.{lines_in, no_lines, take, ◌≡◌}
 use Rattle.state_store.proofs.Filled.{filled}
 use Rattle.state_store.proofs.expected_lines.ExpectedLines.of.Given as goal
 

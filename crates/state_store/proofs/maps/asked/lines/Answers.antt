@@ -1,5 +1,4 @@
-use Rattle.std.proofs.Common.{◌≡◌, ◌∙◌, ◌+◌, ◌++◌, drop, sym, ap, arith}
-use Rattle.state_store.proofs.Common.{flat_map, numbered, trail_row, first_line, if_line, trail_in, trail_line}
+use Rattle.state_store.proofs.Common.{ap, arith, drop, first_line, flat_map, if_line, numbered, sym, trail_in, trail_line, trail_row, ◌++◌, ◌+◌, ◌∙◌, ◌≡◌}
 use Rattle.state_store.proofs.BookLists.{row_last, row_more}
 use Rattle.state_store.proofs.Numbered.{ahead_mapped, length-mapped, lines_are, none_ahead_mapped}
 use Rattle.state_store.proofs.maps.asked.lines.Goals as goal

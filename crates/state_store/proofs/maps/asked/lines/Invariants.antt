@@ -1,5 +1,4 @@
-use Rattle.std.proofs.Common.{◌≡◌, ◌+◌, ◌++◌, drop, length}
-use Rattle.state_store.proofs.Common.{flat_map, numbered, trail_row, first_line, if_line, trail_in}
+use Rattle.state_store.proofs.Common.{drop, first_line, flat_map, if_line, length, numbered, trail_in, trail_row, ◌++◌, ◌+◌, ◌≡◌}
 use Rattle.state_store.proofs.maps.asked.lines.Given as goal
 
 -- the lines so far and those ahead are all that are asked for

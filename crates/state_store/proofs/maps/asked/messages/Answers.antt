@@ -1,5 +1,4 @@
-use Rattle.std.proofs.Common.{◌≡◌, ◌∙◌, ◌+◌, ◌++◌, ◌∷◌, [], arith}
-use Rattle.state_store.proofs.Common.{message}
+use Rattle.state_store.proofs.Common.{[], arith, message, ◌++◌, ◌+◌, ◌∙◌, ◌∷◌, ◌≡◌}
 use Rattle.state_store.proofs.BookLists.{listed_more}
 use Rattle.state_store.proofs.Numbered.{ahead_mapped}
 use Rattle.state_store.proofs.maps.asked.messages.Goals as goal

@@ -1,5 +1,4 @@
-use Rattle.std.proofs.Common.{◌≡◌, ◌+◌, ◌++◌, drop}
-use Rattle.state_store.proofs.Common.{message, numbered, texts_in}
+use Rattle.state_store.proofs.Common.{drop, message, numbered, texts_in, ◌++◌, ◌+◌, ◌≡◌}
 use Rattle.state_store.proofs.maps.asked.messages.Given as goal
 
 -- the messages so far and those ahead are all behind the mark

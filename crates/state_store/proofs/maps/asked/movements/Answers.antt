@@ -1,5 +1,4 @@
-use Rattle.std.proofs.Common.{◌∙◌, arith}
-use Rattle.state_store.proofs.Common.{book_row, if_movement}
+use Rattle.state_store.proofs.Common.{arith, book_row, if_movement, ◌∙◌}
 use Rattle.state_store.proofs.BookLists.{row_last}
 use Rattle.state_store.proofs.Numbered.{movements_are, none_ahead}
 use Rattle.state_store.proofs.maps.asked.movements.Goals as goal

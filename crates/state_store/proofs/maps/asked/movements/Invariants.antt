@@ -1,5 +1,4 @@
-use Rattle.std.proofs.Common.{◌≡◌, ◌+◌, ◌++◌, drop, length}
-use Rattle.state_store.proofs.Common.{flat_map, book_row, numbered, first_movement, if_movement}
+use Rattle.state_store.proofs.Common.{book_row, drop, first_movement, flat_map, if_movement, length, numbered, ◌++◌, ◌+◌, ◌≡◌}
 use Rattle.state_store.proofs.maps.asked.movements.Given as goal
 
 -- the movements so far and those ahead are all that are asked for

@@ -1,6 +1,5 @@
-use Rattle.std.proofs.Common.{◌∙◌, ap}
+use Rattle.state_store.proofs.Common.{ap, flow_with, ◌∙◌}
 use Rattle.state_store.proofs.Posting.{posted_flow}
-use Rattle.state_store.proofs.Common.{flow_with}
 use Rattle.state_store.proofs.maps.book.post_flow.Goals as goal
 
 pub returns : goal.returns

@@ -1,5 +1,4 @@
-use Rattle.std.proofs.Common.{◌∙◌, ap, ◌++◌}
-use Rattle.state_store.proofs.Common.{flat_map, loaded}
+use Rattle.state_store.proofs.Common.{ap, flat_map, loaded, ◌++◌, ◌∙◌}
 use Rattle.state_store.proofs.BookLists.{all_loaded, row_last, row_more}
 use Rattle.state_store.proofs.maps.listed.loads_in.Goals as goal
 

@@ -1,5 +1,4 @@
-use Rattle.std.proofs.Common.{◌≡◌, ◌++◌}
-use Rattle.state_store.proofs.Common.{flat_map, loaded}
+use Rattle.state_store.proofs.Common.{flat_map, loaded, ◌++◌, ◌≡◌}
 use Rattle.state_store.proofs.maps.listed.loads_in.Given as goal
 
 -- the loads so far and those ahead are all

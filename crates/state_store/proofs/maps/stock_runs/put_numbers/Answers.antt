@@ -1,6 +1,4 @@
-use Rattle.std.proofs.Common.{◌≡◌, ◌∙◌, ◌≤◌, arith, sym, subst, inl, inr, ap}
-use Rattle.state_store.proofs.Common.{cases_lt, AreStockRuns, with_numbers}
-use Rattle.agent_stock.specs.declared.runs.StockRun.{StockRun}
+use Rattle.state_store.proofs.Common.{AreStockRuns, StockRun, ap, arith, cases_lt, inl, inr, subst, sym, with_numbers, ◌∙◌, ◌≡◌, ◌≤◌}
 use Rattle.state_store.proofs.Ahead.{none_further, some_more, none_yet, none_at_all}
 use Rattle.state_store.proofs.maps.stock_runs.put_numbers.Goals as goal
 

@@ -1,5 +1,4 @@
-use Rattle.std.proofs.Common.{◌-◌, ◌≤◌, ◌<◌}
-use Rattle.state_store.proofs.Common.{AreStockRuns, IsNoneFrom, Holders, with_numbers}
+use Rattle.state_store.proofs.Common.{AreStockRuns, Holders, IsNoneFrom, with_numbers, ◌-◌, ◌<◌, ◌≤◌}
 use Rattle.state_store.proofs.maps.stock_runs.put_numbers.Given as goal
 
 -- the numbers so far are among the runs

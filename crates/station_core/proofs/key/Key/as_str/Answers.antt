@@ -1,5 +1,4 @@
-use Rattle.std.proofs.Common.{subst, sym}
-use Rattle.station_core.proofs.Common.{IsAscii}
+use Rattle.station_core.proofs.Common.{IsAscii, subst, sym}
 use Rattle.station_core.proofs.Keys.{IsAscii-key}
 use Rattle.station_core.proofs.key.Key.as_str.Goals as goal
 

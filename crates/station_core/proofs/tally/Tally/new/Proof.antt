@@ -1,7 +1,6 @@
 -- `new` picks no events. Assumes `Logic`.
-use Rattle.std.proofs.Common.{[], ◌∷◌, refl}
+use Rattle.station_core.proofs.Common.{ !, Logic, Ura, Val, [], done, drop, fjoin, keep, move, nothing, owns, qed, raw, refl, split, suffices, ‵, ◌$◌, ◌∵◌, ◌∷◌, ◌⊛◌}
 use Rattle.station_core.specs.Given.{nothing_given}
-use Rattle.station_core.proofs.Common.{Ura, Val, Logic, ‵, raw, ◌⊛◌, ◌$◌, ◌∵◌, !, qed, move, keep, drop, split, fjoin, suffices, done, owns, nothing}
 use mir.Syntax.{Fn}
 use base.Logic.{SProp, ent}
 use prog.Memory.{Memory}

@@ -1,6 +1,5 @@
 -- `then` picks the events of the new log. Assumes `Logic`.
-use Rattle.std.proofs.Common.{List, [], ◌∷◌, ◌++◌, refl}
-use Rattle.station_core.proofs.Common.{Ura, Val, vptr, Logic, ‵, raw, ◌⊛◌, prop, ◌$◌, ◌∵◌, !, qed, move, keep, drop, split, fsplit, fjoin, feq_l, regoal, suffices, done, owns, nothing}
+use Rattle.station_core.proofs.Common.{ !, List, Logic, Ura, Val, [], done, drop, feq_l, fjoin, fsplit, keep, move, nothing, owns, prop, qed, raw, refl, regoal, split, suffices, vptr, ‵, ◌$◌, ◌++◌, ◌∵◌, ◌∷◌, ◌⊛◌}
 use mir.Syntax.{Fn}
 use base.Logic.{SProp, ent}
 use prog.Memory.{Memory}

@@ -1,5 +1,4 @@
-use Rattle.std.proofs.Common.{subst, ◌∙◌}
-use Rattle.station_engine.proofs.Common.{State, IsLawfulState, at_rest}
+use Rattle.station_engine.proofs.Common.{IsLawfulState, State, at_rest, subst, ◌∙◌}
 use Rattle.station_engine.specs.Laws.{found_is}
 use Rattle.station_engine.proofs.Reading.{one_of_two}
 use Rattle.station_core.proofs.Refusals.{refused_stays}

@@ -1,6 +1,4 @@
-use Rattle.std.proofs.Common.{ap, subst, ◌∙◌, arith}
-use Rattle.sqlite_wal.proofs.StateLemmas.{open_from}
-use Rattle.station_files.proofs.Common.{outcomes, AreClean, Image, clean_is, may_leave_is, no_doubt, Trees, View, IsClean, state, view, own_trees, may_leave_own, HoldsOwnAlone}
+use Rattle.station_files.proofs.Common.{AreClean, HoldsOwnAlone, Image, IsClean, Trees, View, ap, arith, clean_is, may_leave_is, may_leave_own, no_doubt, open_from, outcomes, own_trees, state, subst, view, ◌∙◌}
 use Rattle.sqlite_trees.proofs.Doubt.{clean_of as sure}
 use Rattle.station_files.proofs.OwnFiles.{copied_own}
 use Rattle.station_files.proofs.closing.ConnectionOwnTreesFileStoreFileBackedFilesFileStore.into_files.Goals as goal

@@ -1,5 +1,4 @@
-use Rattle.std.proofs.Common.{◌≢◌, Option, Some, None, IfSome, subst, ◌∙◌}
-use Rattle.station_files.proofs.Common.{AllByRecursion, Text, column, catalog_tree, IsClean}
+use Rattle.station_files.proofs.Common.{AllByRecursion, IfSome, IsClean, None, Option, Some, Text, catalog_tree, column, subst, ◌∙◌, ◌≢◌}
 use Rattle.station_files.proofs.Owning.{all_unnamed}
 use Rattle.station_files.proofs.own_trees.OwnTrees.free_number.Goals as goal
 

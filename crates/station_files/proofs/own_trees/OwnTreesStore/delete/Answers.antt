@@ -1,6 +1,4 @@
-use Rattle.std.proofs.Common.{w64, subst}
-use Rattle.std.proofs.lemmas.Int.{to_z-of_z}
-use Rattle.station_files.proofs.Common.{on_ok_weaker, without_rowid, SetsTree}
+use Rattle.station_files.proofs.Common.{SetsTree, on_ok_weaker, subst, to_z-of_z, w64, without_rowid}
 use Rattle.station_files.proofs.Owning.{sets_inside, shown, stays, stays_after}
 use Rattle.station_files.proofs.own_trees.OwnTreesStore.delete.Goals as goal
 

@@ -1,5 +1,4 @@
-use Rattle.std.proofs.Common.{refl, rules}
-use Rattle.station_files.proofs.Common.{on_ok_weaker}
+use Rattle.station_files.proofs.Common.{on_ok_weaker, refl, rules}
 use Rattle.station_files.proofs.Owning.{shown, stays, stays_after}
 use Rattle.station_files.proofs.Others.{keeps, spares_after}
 use Rattle.station_files.proofs.own_trees.OwnTreesStore.get.Goals as goal

@@ -1,4 +1,4 @@
-use Rattle.station_files.proofs.Common.{on_ok_weaker, order_of, insert_entry}
+use Rattle.station_files.proofs.Common.{insert_entry, on_ok_weaker, order_of}
 use Rattle.station_files.proofs.Owning.{sets_inside, shown, stays, stays_after}
 use Rattle.station_files.proofs.own_trees.OwnTreesStore.insert.Goals as goal
 

@@ -1,5 +1,4 @@
-use Rattle.std.proofs.Common.{Bool, true, false, ap, List, ℕ, refl, rules}
-use Rattle.station_files.proofs.Common.{on_ok_weaker, IfOk-weaker, Row, Advances, View, own_view, Layout}
+use Rattle.station_files.proofs.Common.{Advances, Bool, IfOk-weaker, Layout, List, Row, View, ap, false, on_ok_weaker, own_view, refl, rules, true, ℕ}
 use Rattle.station_files.proofs.Owning.{shown, stays, stays_after}
 use Rattle.station_files.proofs.Others.{keeps, spares_after}
 use Rattle.station_files.proofs.own_trees.OwnTreesStore.next.Goals as goal

@@ -1,5 +1,4 @@
-use Rattle.std.proofs.Common.{refl, rules}
-use Rattle.station_files.proofs.Common.{on_ok_weaker}
+use Rattle.station_files.proofs.Common.{on_ok_weaker, refl, rules}
 use Rattle.station_files.proofs.Owning.{marks_shown, shown, stays, stays_after}
 use Rattle.station_files.proofs.Others.{sets_mark, spares_after}
 use Rattle.station_files.proofs.own_trees.OwnTreesStore.savepoint.Goals as goal

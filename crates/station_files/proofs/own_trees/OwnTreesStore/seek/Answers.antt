@@ -1,5 +1,4 @@
-use Rattle.std.proofs.Common.{ap, ap₂, sym, ◌∙◌, refl, rules}
-use Rattle.station_files.proofs.Common.{on_ok_weaker, order_of, sought, with_cursor, own_view}
+use Rattle.station_files.proofs.Common.{ap, ap₂, on_ok_weaker, order_of, own_view, refl, rules, sought, sym, with_cursor, ◌∙◌}
 use Rattle.station_files.proofs.Owning.{rows_inside, shown, stays, stays_after}
 use Rattle.station_files.proofs.Others.{keeps, spares_after}
 use Rattle.station_files.proofs.own_trees.OwnTreesStore.seek.Goals as goal

@@ -1,5 +1,4 @@
-use Rattle.std.proofs.Common.{◌≡◌, ◌-◌, ◌<◌, ◌∙◌, map, length, slice_index_or, ap, sym, subst, arith, inl, inr, rules}
-use Rattle.station_files.proofs.Common.{cases_eq, Absent, Layout}
+use Rattle.station_files.proofs.Common.{Absent, Layout, ap, arith, cases_eq, inl, inr, length, map, rules, slice_index_or, subst, sym, ◌-◌, ◌<◌, ◌∙◌, ◌≡◌}
 use Rattle.station_files.proofs.Owning.{get_mapped}
 use Rattle.station_files.proofs.own_trees.OwnTreesStore.tree_count.Goals as goal
 

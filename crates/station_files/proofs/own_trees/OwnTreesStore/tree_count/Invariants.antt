@@ -1,5 +1,4 @@
-use Rattle.std.proofs.Common.{◌≡◌, ◌<◌, ◌≤◌, ℕ, length, map, slice_index_or}
-use Rattle.station_files.proofs.Common.{Absent, Layout}
+use Rattle.station_files.proofs.Common.{Absent, Layout, length, map, slice_index_or, ℕ, ◌<◌, ◌≡◌, ◌≤◌}
 use Rattle.station_files.proofs.own_trees.OwnTreesStore.tree_count.Given as goal
 
 abbrev pub invariant-loop-count : goal.invariant-loop-count

@@ -1,5 +1,4 @@
-use Rattle.std.proofs.Common.{refl}
-use Rattle.station_rows.proofs.Common.{build_row, query_survives, build_meant, build_read}
+use Rattle.station_rows.proofs.Common.{build_meant, build_read, build_row, query_survives, refl}
 use Rattle.station_rows.proofs.ReadLemmas.{all_told}
 use Rattle.station_rows.proofs.Texts.{list_build_text, list_build_is}
 use Rattle.station_rows.proofs.BuildLemmas.{lists_build}

@@ -1,5 +1,4 @@
-use Rattle.std.proofs.Common.{refl}
-use Rattle.station_rows.proofs.Common.{count_row, query_survives, count_meant, count_read}
+use Rattle.station_rows.proofs.Common.{count_meant, count_read, count_row, query_survives, refl}
 use Rattle.station_rows.proofs.ReadLemmas.{first_told}
 use Rattle.station_rows.proofs.OneCount.{get_count_text, get_count_is}
 use Rattle.station_rows.proofs.KeyedLemmas.{gets}

@@ -1,5 +1,4 @@
-use Rattle.std.proofs.Common.{refl}
-use Rattle.station_rows.proofs.Common.{expected_row, query_survives, listed_waybill_meant, listed_waybill_read}
+use Rattle.station_rows.proofs.Common.{expected_row, listed_waybill_meant, listed_waybill_read, query_survives, refl}
 use Rattle.station_rows.proofs.ReadLemmas.{all_told}
 use Rattle.station_rows.proofs.Texts.{all_expected_text, all_expected_is}
 use Rattle.station_rows.proofs.ExpectedLemmas.{lists_all_expected}

@@ -1,5 +1,4 @@
-use Rattle.std.proofs.Common.{refl}
-use Rattle.station_rows.proofs.Common.{query_survives, expected_meant, expected_shown, expected_read}
+use Rattle.station_rows.proofs.Common.{expected_meant, expected_read, expected_shown, query_survives, refl}
 use Rattle.station_rows.proofs.ReadLemmas.{first_told}
 use Rattle.station_rows.proofs.Texts.{get_expected_text, get_expected_is}
 use Rattle.station_rows.proofs.KeyedLemmas.{gets_value}

@@ -1,5 +1,4 @@
-use Rattle.std.proofs.Common.{refl}
-use Rattle.station_rows.proofs.Common.{flight_row, query_survives, noted_flight_meant, noted_flight_read}
+use Rattle.station_rows.proofs.Common.{flight_row, noted_flight_meant, noted_flight_read, query_survives, refl}
 use Rattle.station_rows.proofs.ReadLemmas.{all_told}
 use Rattle.station_rows.proofs.Texts.{all_flight_text, all_flight_is}
 use Rattle.station_rows.proofs.FlightLemmas.{lists_all_flights}

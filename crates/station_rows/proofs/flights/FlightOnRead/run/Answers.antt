@@ -1,5 +1,4 @@
-use Rattle.std.proofs.Common.{refl}
-use Rattle.station_rows.proofs.Common.{query_survives, flight_meant, flight_shown, flight_read}
+use Rattle.station_rows.proofs.Common.{flight_meant, flight_read, flight_shown, query_survives, refl}
 use Rattle.station_rows.proofs.ReadLemmas.{first_told}
 use Rattle.station_rows.proofs.Texts.{get_flight_text, get_flight_is}
 use Rattle.station_rows.proofs.KeyedLemmas.{gets_value}

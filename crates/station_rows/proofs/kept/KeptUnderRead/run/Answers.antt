@@ -1,5 +1,4 @@
-use Rattle.std.proofs.Common.{refl}
-use Rattle.station_rows.proofs.Common.{query_survives, kept_meant, kept_shown, kept_read}
+use Rattle.station_rows.proofs.Common.{kept_meant, kept_read, kept_shown, query_survives, refl}
 use Rattle.station_rows.proofs.ReadLemmas.{first_told}
 use Rattle.station_rows.proofs.Texts.{get_kept_text, get_kept_is}
 use Rattle.station_rows.proofs.KeyedLemmas.{gets_value}

@@ -1,5 +1,4 @@
-use Rattle.std.proofs.Common.{[], ◌∷◌}
-use Rattle.station_rows.proofs.Common.{string_bytes, Int, Text, query_survives, move_shown}
+use Rattle.station_rows.proofs.Common.{Int, Text, [], move_shown, query_survives, string_bytes, ◌∷◌}
 use Rattle.station_rows.proofs.MoveLemmas.{lists_after, lists_all_moves, lists_flown, lists_move}
 use Rattle.station_rows.proofs.ReadLemmas.{all_handed}
 use Rattle.station_rows.proofs.Texts.{after_move_is, after_move_text, all_move_is, all_move_text, flown_move_is, flown_move_text, list_move_is, list_move_text}

@@ -1,5 +1,4 @@
-use Rattle.std.proofs.Common.{refl}
-use Rattle.station_rows.proofs.Common.{query_survives, move_meant, move_shown, move_read}
+use Rattle.station_rows.proofs.Common.{move_meant, move_read, move_shown, query_survives, refl}
 use Rattle.station_rows.proofs.ReadLemmas.{all_told}
 use Rattle.station_rows.proofs.Texts.{list_move_text, list_move_is}
 use Rattle.station_rows.proofs.MoveLemmas.{lists_move}

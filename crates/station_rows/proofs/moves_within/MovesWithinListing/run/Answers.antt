@@ -1,5 +1,4 @@
-use Rattle.std.proofs.Common.{[], ◌∷◌}
-use Rattle.station_rows.proofs.Common.{Int, Text, query_survives, move_shown}
+use Rattle.station_rows.proofs.Common.{Int, Text, [], move_shown, query_survives, ◌∷◌}
 use Rattle.station_rows.proofs.FlownLemmas.{lists_within, within_move_is, within_move_text}
 use Rattle.station_rows.proofs.ReadLemmas.{all_handed}
 use Rattle.station_rows.proofs.moves_within.MovesWithinListing.run.Goals as goal

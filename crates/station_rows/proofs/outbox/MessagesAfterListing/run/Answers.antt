@@ -1,5 +1,4 @@
-use Rattle.std.proofs.Common.{[], ◌∷◌}
-use Rattle.station_rows.proofs.Common.{Int, query_survives, message_shown}
+use Rattle.station_rows.proofs.Common.{Int, [], message_shown, query_survives, ◌∷◌}
 use Rattle.station_rows.proofs.MessageLemmas.{lists_message}
 use Rattle.station_rows.proofs.ReadLemmas.{all_handed}
 use Rattle.station_rows.proofs.Texts.{after_message_is, after_message_text}

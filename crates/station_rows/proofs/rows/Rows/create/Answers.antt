@@ -1,5 +1,4 @@
-use Rattle.std.proofs.Common.{sym, ap, subst, ◌∙◌, rules}
-use Rattle.station_rows.proofs.Common.{state, IsSettled, IsOwn, tables_of}
+use Rattle.station_rows.proofs.Common.{IsOwn, IsSettled, ap, rules, state, subst, sym, tables_of, ◌∙◌}
 use Rattle.station_schema.specs.Connection.{IsVacant}
 use Rattle.station_rows.proofs.Views.{not_so, survives_alone}
 use Rattle.station_rows.proofs.rows.Rows.create.Goals as goal

@@ -1,5 +1,4 @@
-use Rattle.std.proofs.Common.{sym, ap, subst, ◌∙◌}
-use Rattle.station_rows.proofs.Common.{IsOwn}
+use Rattle.station_rows.proofs.Common.{IsOwn, ap, subst, sym, ◌∙◌}
 use Rattle.station_rows.proofs.rows.Rows.opened.Goals as goal
 
 pub invariant_of-result : goal.invariant_of-result

@@ -1,5 +1,4 @@
-use Rattle.std.proofs.Common.{refl}
-use Rattle.station_rows.proofs.Common.{query_survives, station_meant, station_shown, station_read}
+use Rattle.station_rows.proofs.Common.{query_survives, refl, station_meant, station_read, station_shown}
 use Rattle.station_rows.proofs.ReadLemmas.{first_told}
 use Rattle.station_rows.proofs.Texts.{get_station_text, get_station_is}
 use Rattle.station_rows.proofs.StationLemmas.{gets_station}

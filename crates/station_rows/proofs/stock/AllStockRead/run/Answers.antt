@@ -1,5 +1,4 @@
-use Rattle.std.proofs.Common.{refl}
-use Rattle.station_rows.proofs.Common.{stock_row, query_survives, stock_meant, stock_read}
+use Rattle.station_rows.proofs.Common.{query_survives, refl, stock_meant, stock_read, stock_row}
 use Rattle.station_rows.proofs.ReadLemmas.{all_told}
 use Rattle.station_rows.proofs.Texts.{all_stock_text, all_stock_is}
 use Rattle.station_rows.proofs.StockLemmas.{lists_all_stock}

@@ -1,5 +1,4 @@
-use Rattle.std.proofs.Common.{Ok, [], refl, reverse}
-use Rattle.station_rows.proofs.Common.{entries, state, query_survives, still_plain, stock_row, tables_of, last_rows_up_to, stock_meant, stock_read}
+use Rattle.station_rows.proofs.Common.{Ok, [], entries, last_rows_up_to, query_survives, refl, reverse, state, still_plain, stock_meant, stock_read, stock_row, tables_of}
 use Rattle.station_rows.proofs.Last.{turned}
 use Rattle.station_rows.proofs.ReadLemmas.{all_told, fails_to_read}
 use Rattle.station_rows.proofs.Texts.{last_stock_rows_text, last_stock_rows_is}

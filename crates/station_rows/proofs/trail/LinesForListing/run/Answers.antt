@@ -1,5 +1,4 @@
-use Rattle.std.proofs.Common.{[], ◌∷◌}
-use Rattle.station_rows.proofs.Common.{Int, query_survives, trail_shown}
+use Rattle.station_rows.proofs.Common.{Int, [], query_survives, trail_shown, ◌∷◌}
 use Rattle.station_rows.proofs.TrailLemmas.{lists_all_trail_lines, lists_trail_after, lists_trail_of}
 use Rattle.station_rows.proofs.ReadLemmas.{all_handed}
 use Rattle.station_rows.proofs.Texts.{after_trail_is, after_trail_text, all_trail_is, all_trail_text, of_trail_is, of_trail_text}

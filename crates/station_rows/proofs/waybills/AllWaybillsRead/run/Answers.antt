@@ -1,5 +1,4 @@
-use Rattle.std.proofs.Common.{refl}
-use Rattle.station_rows.proofs.Common.{state, query_survives, waybill_meant, waybill_shown, waybill_read}
+use Rattle.station_rows.proofs.Common.{query_survives, refl, state, waybill_meant, waybill_read, waybill_shown}
 use Rattle.station_rows.proofs.ReadLemmas.{all_told, read_where}
 use Rattle.station_rows.proofs.Texts.{all_waybill_text, all_waybill_is}
 use Rattle.station_rows.proofs.WaybillLemmas.{lists_all_waybills, waybills_ascend}

@@ -1,5 +1,4 @@
-use Rattle.std.proofs.Common.{refl}
-use Rattle.station_rows.proofs.Common.{query_survives, waybill_meant, waybill_shown, waybill_read}
+use Rattle.station_rows.proofs.Common.{query_survives, refl, waybill_meant, waybill_read, waybill_shown}
 use Rattle.station_rows.proofs.ReadLemmas.{first_told}
 use Rattle.station_rows.proofs.Texts.{get_waybill_text, get_waybill_is}
 use Rattle.station_rows.proofs.WaybillLemmas.{gets_waybill}

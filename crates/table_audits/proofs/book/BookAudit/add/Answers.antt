@@ -1,5 +1,4 @@
-use Rattle.std.proofs.Common.{map}
-use Rattle.table_audits.proofs.Common.{move_by, listed_in}
+use Rattle.table_audits.proofs.Common.{listed_in, map, move_by}
 use Rattle.table_audits.proofs.ClosedLaws.{listed_distinct}
 use Rattle.table_audits.proofs.TakenMoves.{book_more}
 use Rattle.table_audits.proofs.book.BookAudit.add.Goals as goal

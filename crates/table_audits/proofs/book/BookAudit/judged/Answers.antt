@@ -1,5 +1,4 @@
-use Rattle.std.proofs.Common.{◌∙◌, refl, sym, subst, true≢false}
-use Rattle.table_audits.proofs.Common.{listed_in, IsBookAs}
+use Rattle.table_audits.proofs.Common.{IsBookAs, listed_in, refl, subst, sym, true≢false, ◌∙◌}
 use Rattle.table_audits.proofs.Listed.{flights_are}
 use Rattle.table_audits.proofs.TakenMoves.{balances_in, departed_so, good_in, lawful_moves, whole_book}
 use Rattle.table_audits.proofs.book.BookAudit.judged.Goals as goal

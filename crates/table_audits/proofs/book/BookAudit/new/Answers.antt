@@ -1,5 +1,4 @@
-use Rattle.std.proofs.Common.{◌∙◌, refl}
-use Rattle.table_audits.proofs.Common.{listed_in}
+use Rattle.table_audits.proofs.Common.{listed_in, refl, ◌∙◌}
 use Rattle.table_audits.proofs.ClosedLaws.{listed_long}
 use Rattle.table_audits.proofs.TakenMoves.{book_of_none}
 use Rattle.table_audits.proofs.book.BookAudit.new.Goals as goal

@@ -1,5 +1,4 @@
-use Rattle.std.proofs.Common.{◌+◌, pos, sym, ap, subst, ◌∙◌, true≢false, rules, w64}
-use Rattle.table_audits.proofs.Common.{to_z-of_z, move_meant, is_marked, IsNextOr}
+use Rattle.table_audits.proofs.Common.{IsNextOr, ap, is_marked, move_meant, pos, rules, subst, sym, to_z-of_z, true≢false, w64, ◌+◌, ◌∙◌}
 use Rattle.table_audits.proofs.ClosedLaws.{listed_distinct}
 use Rattle.table_audits.proofs.TakenMoves.{read_as, number_next, row_next, builds_late, good_more}
 use Rattle.table_audits.proofs.book.BookAudit.next_posting.Goals as goal

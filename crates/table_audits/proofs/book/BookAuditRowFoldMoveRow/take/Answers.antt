@@ -1,5 +1,4 @@
-use Rattle.std.proofs.Common.{map, subst}
-use Rattle.table_audits.proofs.Common.{move_meant, IsBookAs}
+use Rattle.table_audits.proofs.Common.{IsBookAs, map, move_meant, subst}
 use Rattle.table_audits.proofs.TakenMoves.{bad_before, book_taken}
 use Rattle.table_audits.proofs.book.BookAuditRowFoldMoveRow.take.Goals as goal
 

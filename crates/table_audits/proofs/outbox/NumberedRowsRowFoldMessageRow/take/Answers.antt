@@ -1,5 +1,4 @@
-use Rattle.std.proofs.Common.{rules, w64}
-use Rattle.table_audits.proofs.Common.{to_z-of_z}
+use Rattle.table_audits.proofs.Common.{rules, to_z-of_z, w64}
 use Rattle.table_audits.proofs.Taken.{messages_more}
 use Rattle.table_audits.proofs.outbox.NumberedRowsRowFoldMessageRow.take.Goals as goal
 

@@ -1,5 +1,4 @@
-use Rattle.std.proofs.Common.{◌∙◌, rules, w64}
-use Rattle.table_audits.proofs.Common.{to_z-of_z, on_ok_weaker, running, posting}
+use Rattle.table_audits.proofs.Common.{on_ok_weaker, posting, rules, running, to_z-of_z, w64, ◌∙◌}
 use Rattle.table_audits.proofs.Posted.{moved}
 use Rattle.table_audits.proofs.sums.BookSums.add.Goals as goal
 

@@ -1,5 +1,4 @@
-use Rattle.std.proofs.Common.{refl}
-use Rattle.table_audits.proofs.Common.{on_ok_weaker}
+use Rattle.table_audits.proofs.Common.{on_ok_weaker, refl}
 use Rattle.table_audits.proofs.Posted.{posted_count}
 use Rattle.table_audits.proofs.sums.BookSums.post_count.Goals as goal
 

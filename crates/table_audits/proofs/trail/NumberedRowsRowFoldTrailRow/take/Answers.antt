@@ -1,5 +1,4 @@
-use Rattle.std.proofs.Common.{◌≡◌, map, subst, rules, w64}
-use Rattle.table_audits.proofs.Common.{to_z-of_z, waybill_meant, trail_meant, RisesByNumber, is_lawful_line}
+use Rattle.table_audits.proofs.Common.{RisesByNumber, is_lawful_line, map, rules, subst, to_z-of_z, trail_meant, w64, waybill_meant, ◌≡◌}
 use Rattle.table_audits.proofs.Taken.{lines_more}
 use Rattle.table_audits.proofs.trail.NumberedRowsRowFoldTrailRow.take.Goals as goal
 

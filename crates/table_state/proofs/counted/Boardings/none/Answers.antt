@@ -1,6 +1,4 @@
-use Rattle.std.proofs.Common.{None}
-use Rattle.std.proofs.lemmas.List.Elements.{All-replicate}
-use Rattle.table_state.proofs.Common.{IsBoarded}
+use Rattle.table_state.proofs.Common.{All-replicate, IsBoarded, None}
 use Rattle.table_state.proofs.counted.Boardings.none.Goals as goal
 
 pub returns : goal.returns

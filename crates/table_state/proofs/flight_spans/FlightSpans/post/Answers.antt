@@ -1,5 +1,4 @@
-use Rattle.std.proofs.Common.{rules, ◌≡◌, sym, subst}
-use Rattle.table_state.proofs.Common.{AreCovered}
+use Rattle.table_state.proofs.Common.{AreCovered, rules, subst, sym, ◌≡◌}
 use Rattle.table_state.proofs.Spans.{posted}
 use Rattle.table_state.proofs.flight_spans.FlightSpans.post.Goals as goal
 

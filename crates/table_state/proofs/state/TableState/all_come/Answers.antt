@@ -1,5 +1,4 @@
-use Rattle.std.proofs.Common.{subst, sym}
-use Rattle.table_state.proofs.Common.{AreAllBalances}
+use Rattle.table_state.proofs.Common.{AreAllBalances, subst, sym}
 use Rattle.table_state.proofs.Lifting.{at_rest_of, read_by}
 use Rattle.table_state.proofs.Values.{by_counts}
 use Rattle.table_state.proofs.state.TableState.all_come.Goals as goal

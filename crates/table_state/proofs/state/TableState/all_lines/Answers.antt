@@ -1,6 +1,4 @@
-use Rattle.std.proofs.Common.{ap, map, ◌∙◌}
-use Rattle.station_rows.specs.declared.expected.ListedWaybillRow.{ListedWaybillRow}
-use Rattle.table_state.proofs.Common.{listed_waybill_meant, expectation_by, told_so}
+use Rattle.table_state.proofs.Common.{ListedWaybillRow, ap, expectation_by, listed_waybill_meant, map, told_so, ◌∙◌}
 use Rattle.table_state.proofs.Lifting.{at_rest_of, read_by}
 use Rattle.table_state.proofs.Values.{expectations_are}
 use Rattle.table_state.proofs.state.TableState.all_lines.Goals as goal

@@ -1,4 +1,4 @@
-use Rattle.table_state.proofs.Common.{AreAnnounced, rests_then, in_tables}
+use Rattle.table_state.proofs.Common.{AreAnnounced, in_tables, rests_then}
 use Rattle.table_state.proofs.state.TableState.announced_rows.Goals as goal
 
 pub returns : goal.returns

@@ -1,5 +1,4 @@
-use Rattle.std.proofs.Common.{rules, ◌∙◌}
-use Rattle.table_state.proofs.Common.{asked, survives_then, in_tables}
+use Rattle.table_state.proofs.Common.{asked, in_tables, rules, survives_then, ◌∙◌}
 use Rattle.table_state.proofs.Balances.{all_put, from_numbers, put_next}
 use Rattle.table_state.proofs.state.TableState.asked_in.Goals as goal
 

@@ -1,5 +1,4 @@
-use Rattle.std.proofs.Common.{◌≡◌, ◌++◌, Ok}
-use Rattle.table_state.proofs.Common.{flat_map, ReadsAtRest, asked, in_tables}
+use Rattle.table_state.proofs.Common.{Ok, ReadsAtRest, asked, flat_map, in_tables, ◌++◌, ◌≡◌}
 use Rattle.table_state.proofs.state.TableState.asked_in.Given as goal
 
 -- the rows so far and those ahead are the rows of all

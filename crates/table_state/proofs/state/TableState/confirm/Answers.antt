@@ -1,5 +1,4 @@
-use Rattle.std.proofs.Common.{rules, [], ◌<◌, ◌∙◌, SFits, w64}
-use Rattle.table_state.proofs.Common.{to_z-of_z}
+use Rattle.table_state.proofs.Common.{SFits, [], rules, to_z-of_z, w64, ◌<◌, ◌∙◌}
 use Rattle.table_state.proofs.Changes.{confirms_on, mark_fits}
 use Rattle.table_state.proofs.Lifting.{writes_so}
 use Rattle.table_state.proofs.state.TableState.confirm.Goals as goal

@@ -1,5 +1,5 @@
 use Rattle.std.proofs.Common.{◌∙◌, ap, filter, map, not}
-use Rattle.table_state.proofs.Common.{contains, nat_cmp, AnnouncedRow, WaybillRow, waybill_meant, told_so, announced_by}
+use Rattle.table_state.proofs.Common.{AnnouncedRow, WaybillRow, announced_by, contains, nat_cmp, told_so, waybill_meant}
 use Rattle.table_state.proofs.Lifting.{at_rest_of, read_by}
 use Rattle.table_state.proofs.Values.{announced_are}
 use Rattle.table_state.proofs.state.TableState.declared_except.Goals as goal

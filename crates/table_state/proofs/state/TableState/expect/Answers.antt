@@ -1,5 +1,4 @@
-use Rattle.std.proofs.Common.{refl, rules, [], ◌∙◌, SFits, w64}
-use Rattle.table_state.proofs.Common.{and_from, to_z-of_z, expected_key}
+use Rattle.table_state.proofs.Common.{SFits, [], and_from, expected_key, refl, rules, to_z-of_z, w64, ◌∙◌}
 use Rattle.table_state.proofs.Changes.{expects_on}
 use Rattle.table_state.proofs.Lifting.{writes_so}
 use Rattle.table_state.proofs.state.TableState.expect.Goals as goal

@@ -1,5 +1,4 @@
-use Rattle.std.proofs.Common.{refl}
-use Rattle.table_state.proofs.Common.{book_rows, at_rest}
+use Rattle.table_state.proofs.Common.{at_rest, book_rows, refl}
 use Rattle.table_state.proofs.Lifting.{keeps_number}
 use Rattle.table_state.proofs.Spans.{filled}
 use Rattle.table_state.proofs.state.TableState.fill_spans.Goals as goal

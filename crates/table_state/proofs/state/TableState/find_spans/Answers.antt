@@ -1,5 +1,4 @@
-use Rattle.std.proofs.Common.{refl}
-use Rattle.table_state.proofs.Common.{at_rest}
+use Rattle.table_state.proofs.Common.{at_rest, refl}
 use Rattle.table_state.proofs.Lifting.{keeps_number}
 use Rattle.table_state.proofs.state.TableState.find_spans.Goals as goal
 

@@ -1,5 +1,4 @@
-use Rattle.std.proofs.Common.{rules, ap, sym}
-use Rattle.table_state.proofs.Common.{book_row_by, book_by, Sizes, move_meant, moves_for}
+use Rattle.table_state.proofs.Common.{Sizes, ap, book_by, book_row_by, move_meant, moves_for, rules, sym}
 use Rattle.table_state.proofs.Passing.{handed_so}
 use Rattle.table_state.proofs.state.TableState.hand_book.Goals as goal
 

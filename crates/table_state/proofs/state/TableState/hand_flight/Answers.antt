@@ -1,4 +1,4 @@
-use Rattle.table_state.proofs.Common.{survives_then, in_tables}
+use Rattle.table_state.proofs.Common.{in_tables, survives_then}
 use Rattle.table_state.proofs.state.TableState.hand_flight.Goals as goal
 
 pub returns : goal.returns

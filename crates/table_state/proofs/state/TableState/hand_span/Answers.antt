@@ -1,6 +1,5 @@
 use Rattle.std.proofs.Common.{rules, filter, ◌∙◌, SFits, w64}
-use Rattle.table_state.proofs.Common.{to_z-of_z, book_row_by, book_by, is_flown_within, move_meant}
-use Rattle.station_core.specs.declared.rows.BookQuery.TheVariants.{On}
+use Rattle.table_state.proofs.Common.{On, book_by, book_row_by, is_flown_within, move_meant, to_z-of_z}
 use Rattle.table_state.proofs.Passing.{handed_so}
 use Rattle.table_state.proofs.Spans.{within_span}
 use Rattle.table_state.proofs.state.TableState.hand_span.Goals as goal

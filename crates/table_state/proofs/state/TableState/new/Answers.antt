@@ -1,5 +1,4 @@
-use Rattle.std.proofs.Common.{rules, ◌≡◌, true}
-use Rattle.table_state.proofs.Common.{is_airport, opening}
+use Rattle.table_state.proofs.Common.{is_airport, opening, rules, true, ◌≡◌}
 use Rattle.station_core.specs.Step as step
 use Rattle.table_state.proofs.NewState.{opening_means, new_has, new_knows}
 use Rattle.table_state.proofs.state.TableState.new.Goals as goal

@@ -1,5 +1,4 @@
-use Rattle.std.proofs.Common.{rules, [], ◌∙◌, SFits, w64}
-use Rattle.table_state.proofs.Common.{and_from, to_z-of_z, flight_key}
+use Rattle.table_state.proofs.Common.{SFits, [], and_from, flight_key, rules, to_z-of_z, w64, ◌∙◌}
 use Rattle.table_state.proofs.Changes.{notes_flight_on}
 use Rattle.table_state.proofs.Lifting.{on_answer, writes_so}
 use Rattle.table_state.proofs.state.TableState.note_flight.Goals as goal

@@ -1,7 +1,5 @@
-use Rattle.std.proofs.Common.{rules, ◌≡◌, ◌∙◌, ap, pos, SFits, w64, IsTrue, List, ℕ, subst}
-use Rattle.table_state.proofs.Common.{IsUtf8, is_utf8, to_z-of_z, is_utf8-from_IsUtf8, is_airport}
+use Rattle.table_state.proofs.Common.{IsTrue, IsUtf8, List, SFits, ap, is_airport, is_utf8, is_utf8-from_IsUtf8, part_fits, pos, rules, subst, to_z-of_z, w64, ℕ, ◌∙◌, ◌≡◌}
 use Rattle.imp_fields.specs.Amount.{IsPartNumber}
-use Rattle.row_codec.proofs.Fits.{part_fits}
 use Rattle.table_state.proofs.Changes.{notes_part_on}
 use Rattle.table_state.proofs.Lifting.{on_answer, writes_so}
 use Rattle.table_state.proofs.state.TableState.note_part.Goals as goal

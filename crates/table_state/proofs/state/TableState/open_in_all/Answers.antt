@@ -1,6 +1,4 @@
-use Rattle.std.proofs.Common.{refl, subst, sym}
-use Rattle.table_state.proofs.Common.{AreExpectations, expected_for, at_rest}
-use Rattle.station_core.specs.declared.rows.ExpectedQuery.TheVariants.{Open}
+use Rattle.table_state.proofs.Common.{AreExpectations, Open, at_rest, expected_for, refl, subst, sym}
 use Rattle.table_state.proofs.Lifting.{keeps_number}
 use Rattle.table_state.proofs.state.TableState.open_in_all.Goals as goal
 

@@ -1,5 +1,4 @@
-use Rattle.std.proofs.Common.{◌≡◌, Some, rules, subst}
-use Rattle.table_state.proofs.Common.{AreExpectations, Lines, told_so, HasOpen}
+use Rattle.table_state.proofs.Common.{AreExpectations, HasOpen, Lines, Some, rules, subst, told_so, ◌≡◌}
 use Rattle.table_state.proofs.state.TableState.open_lines.Goals as goal
 
 pub returns-in-Some : goal.returns-in-Some

@@ -1,5 +1,4 @@
-use Rattle.std.proofs.Common.{◌≡◌, ℕ, Option, None, Some, false, ap}
-use Rattle.table_state.proofs.Common.{is_run, run_of}
+use Rattle.table_state.proofs.Common.{None, Option, Some, ap, false, is_run, run_of, ℕ, ◌≡◌}
 use Rattle.table_state.proofs.Changes.{orders_on, due_on, of_refusal, on_refusal, refusal_on, stays_on}
 use Rattle.table_state.proofs.Lifting.{of_answer}
 use Rattle.table_state.proofs.state.TableStateStateStore.carry_out_order.Goals as goal

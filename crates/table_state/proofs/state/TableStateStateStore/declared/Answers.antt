@@ -1,5 +1,5 @@
 use Rattle.std.proofs.Common.{rules, ap, sym, Some, option_map, ◌∙◌, SFits, w64}
-use Rattle.table_state.proofs.Common.{to_z-of_z, WaybillRow, waybill_meant, declared_by}
+use Rattle.table_state.proofs.Common.{WaybillRow, declared_by, to_z-of_z, waybill_meant}
 use Rattle.table_state.proofs.Lifting.{read_by}
 use Rattle.table_state.proofs.Values.{declared_is}
 use Rattle.table_state.proofs.state.TableStateStateStore.declared.Goals as goal

@@ -1,5 +1,5 @@
 use Rattle.std.proofs.Common.{rules, ap, sym, Some, option_map, ◌∙◌, SFits, w64}
-use Rattle.table_state.proofs.Common.{to_z-of_z, ExpectedRow, expected_meant, expected_by}
+use Rattle.table_state.proofs.Common.{ExpectedRow, expected_by, expected_meant, to_z-of_z}
 use Rattle.table_state.proofs.Lifting.{read_by}
 use Rattle.table_state.proofs.Values.{expected_is}
 use Rattle.table_state.proofs.state.TableStateStateStore.expected.Goals as goal

@@ -1,5 +1,4 @@
-use Rattle.std.proofs.Common.{rules, ◌≡◌, ap, ◌∙◌, SFits, w64, length, not}
-use Rattle.table_state.proofs.Common.{nat_lt, to_z-of_z}
+use Rattle.table_state.proofs.Common.{SFits, ap, length, nat_lt, not, rules, to_z-of_z, w64, ◌∙◌, ◌≡◌}
 use Rattle.table_state.proofs.HasMoves.{has_items}
 use Rattle.table_state.proofs.Lifting.{read_by}
 use Rattle.table_state.proofs.Values.{moves_are}

@@ -1,5 +1,4 @@
-use Rattle.std.proofs.Common.{rules, ◌≡◌, ◌∙◌, ap, pos, SFits, w64}
-use Rattle.table_state.proofs.Common.{string_bytes, to_z-of_z}
+use Rattle.table_state.proofs.Common.{SFits, ap, pos, rules, string_bytes, to_z-of_z, w64, ◌∙◌, ◌≡◌}
 use Rattle.table_state.proofs.Lifting.{read_by}
 use Rattle.table_state.proofs.Values.{part_is}
 use Rattle.table_state.proofs.state.TableStateStateStore.has_part.Goals as goal

@@ -1,5 +1,4 @@
-use Rattle.std.proofs.Common.{rules, ◌<◌, ◌∙◌, SFits, w64}
-use Rattle.table_state.proofs.Common.{IsUtf8, to_z-of_z, is_utf8-from_IsUtf8}
+use Rattle.table_state.proofs.Common.{IsUtf8, SFits, is_utf8-from_IsUtf8, rules, to_z-of_z, w64, ◌<◌, ◌∙◌}
 use Rattle.table_state.proofs.Changes.{keeps_key_on, mark_fits}
 use Rattle.table_state.proofs.Lifting.{of_answer}
 use Rattle.table_state.proofs.state.TableStateStateStore.keep_key.Goals as goal

@@ -1,6 +1,5 @@
 use Rattle.std.proofs.Common.{rules, ◌≡◌, ap, sym, Some, option_map, ◌∙◌}
-use Rattle.station_rows.specs.declared.kept.KeptRow.{KeptRow}
-use Rattle.table_state.proofs.Common.{kept_meant, kept_by}
+use Rattle.table_state.proofs.Common.{KeptRow, kept_by, kept_meant}
 use Rattle.table_state.proofs.Lifting.{read_by}
 use Rattle.table_state.proofs.Values.{kept_key_is}
 use Rattle.table_state.proofs.state.TableStateStateStore.kept_key.Goals as goal

@@ -1,5 +1,5 @@
 use Rattle.std.proofs.Common.{rules, ◌≡◌, ap, sym, Some, option_map, ◌∙◌, SFits, w64}
-use Rattle.table_state.proofs.Common.{to_z-of_z, natural}
+use Rattle.table_state.proofs.Common.{natural, to_z-of_z}
 use Rattle.table_state.proofs.Lifting.{read_by}
 use Rattle.table_state.proofs.Values.{kept_text_is}
 use Rattle.table_state.proofs.state.TableStateStateStore.kept_text.Goals as goal

@@ -1,6 +1,5 @@
 use Rattle.std.proofs.Common.{rules, ap, map, filter, pos, ◌∙◌, SFits, w64}
-use Rattle.table_state.proofs.Common.{to_z-of_z, begins_after, messages_by, is_message_after, message_meant}
-use Rattle.row_codec.proofs.Handing.{message_of, messages_handed}
+use Rattle.table_state.proofs.Common.{begins_after, is_message_after, message_meant, message_of, messages_by, messages_handed, to_z-of_z}
 use Rattle.table_state.proofs.Passing.{handed_so}
 use Rattle.table_state.proofs.state.TableStateStateStore.messages_by.Goals as goal
 

@@ -1,6 +1,4 @@
-use Rattle.std.proofs.Common.{ap, map, ◌∙◌}
-use Rattle.station_rows.specs.declared.flights.NotedFlightRow.{NotedFlightRow}
-use Rattle.table_state.proofs.Common.{noted_flight_meant, noted_by, told_so}
+use Rattle.table_state.proofs.Common.{NotedFlightRow, ap, map, noted_by, noted_flight_meant, told_so, ◌∙◌}
 use Rattle.table_state.proofs.Lifting.{at_rest_of, read_by}
 use Rattle.table_state.proofs.Values.{noted_are}
 use Rattle.table_state.proofs.state.TableStateStateStore.noted.Goals as goal

@@ -1,6 +1,4 @@
-use Rattle.std.proofs.Common.{rules, ap, sym}
-use Rattle.row_codec.specs.Logs.{trail_row_by}
-use Rattle.table_state.proofs.Common.{trail_by, Sizes, lines_for, trail_meant}
+use Rattle.table_state.proofs.Common.{Sizes, ap, lines_for, rules, sym, trail_by, trail_meant, trail_row_by}
 use Rattle.table_state.proofs.Passing.{handed_so}
 use Rattle.table_state.proofs.state.TableStateStateStore.trail_by.Goals as goal
 

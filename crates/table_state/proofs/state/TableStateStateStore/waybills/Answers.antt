@@ -1,5 +1,4 @@
-use Rattle.std.proofs.Common.{map, refl, ap, ◌∙◌}
-use Rattle.table_state.proofs.Common.{is_in, WaybillBalances, at_rest}
+use Rattle.table_state.proofs.Common.{WaybillBalances, ap, at_rest, is_in, map, refl, ◌∙◌}
 use Rattle.table_state.proofs.Balances.{all_listed}
 use Rattle.table_state.proofs.Lifting.{keeps_number}
 use Rattle.table_state.proofs.state.TableStateStateStore.waybills.Goals as goal

@@ -1,5 +1,4 @@
-use Rattle.std.proofs.Common.{refl}
-use Rattle.table_state.proofs.Common.{unread, in_tables}
+use Rattle.table_state.proofs.Common.{in_tables, refl, unread}
 use Rattle.table_state.proofs.Lifting.{counted_by}
 use Rattle.table_state.proofs.Values.{by_builds}
 use Rattle.table_state.proofs.state.TableStateStateStore.waybills_on.Goals as goal

@@ -1,5 +1,4 @@
-use Rattle.std.proofs.Common.{◌∙◌, ap}
-use Rattle.state_store.proofs.Common.{FlightDate, Built, flow_of, flow_by}
+use Rattle.state_store.proofs.Common.{Built, FlightDate, ap, flow_by, flow_of, ◌∙◌}
 use Rattle.state_store.proofs.BookLists.{none_loaded}
 use Rattle.state_store.proofs.maps.book.MovementBook.aboard.Goals as goal
 

@@ -1,5 +1,4 @@
-use Rattle.std.proofs.Common.{◌≡◌, ◌∙◌, ◌∷◌, [], ◌++◌, ◌==◌, ℕ, ap, sym, subst}
-use Rattle.state_store.proofs.Common.{if◌then◌else◌, Built, flow_of, flow_with, IsWaybillSummed, flow_at, FlightKey}
+use Rattle.state_store.proofs.Common.{Built, FlightKey, IsWaybillSummed, [], ap, flow_at, flow_of, flow_with, if◌then◌else◌, subst, sym, ℕ, ◌++◌, ◌==◌, ◌∙◌, ◌∷◌, ◌≡◌}
 use Rattle.state_store.specs.declared.maps.book.MovementBook.{MovementBook}
 use Rattle.state_store.proofs.Posting.{flight_summed, posted_both, posted_first}
 use Rattle.state_store.proofs.maps.book.MovementBook.add.Goals.{then-not-is_same+in_ok-post_load-2, else-not-is_same}

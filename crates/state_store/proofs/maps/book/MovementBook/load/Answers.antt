@@ -1,5 +1,4 @@
-use Rattle.std.proofs.Common.{◌≡◌, ◌∙◌, ap}
-use Rattle.state_store.proofs.Common.{built, Amount, FlightDate, held_of}
+use Rattle.state_store.proofs.Common.{Amount, FlightDate, ap, built, held_of, ◌∙◌, ◌≡◌}
 use Rattle.state_store.proofs.StillOk.{still_ok}
 use Rattle.state_store.proofs.maps.book.MovementBook.load.Goals as goal
 

@@ -1,5 +1,4 @@
-use Rattle.std.proofs.Common.{◌∙◌, ap, sym, nat_cmp}
-use Rattle.state_store.proofs.Common.{get, unwrap_or, flows_with, no_flows}
+use Rattle.state_store.proofs.Common.{ap, flows_with, get, nat_cmp, no_flows, sym, unwrap_or, ◌∙◌}
 use Rattle.state_store.proofs.Posting.{posted_waybill}
 use Rattle.state_store.proofs.maps.book.MovementBook.post_flows.Goals as goal
 

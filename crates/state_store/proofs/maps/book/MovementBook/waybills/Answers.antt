@@ -1,5 +1,4 @@
-use Rattle.std.proofs.Common.{◌∙◌, ap, ◌++◌}
-use Rattle.state_store.proofs.Common.{flat_map, asked_by}
+use Rattle.state_store.proofs.Common.{ap, asked_by, flat_map, ◌++◌, ◌∙◌}
 use Rattle.state_store.proofs.BookLists.{all_asked, row_last, row_more}
 use Rattle.state_store.proofs.maps.book.MovementBook.waybills.Goals as goal
 

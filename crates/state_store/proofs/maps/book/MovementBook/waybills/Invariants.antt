@@ -1,5 +1,4 @@
-use Rattle.std.proofs.Common.{◌≡◌, ◌++◌}
-use Rattle.state_store.proofs.Common.{flat_map, asked_by}
+use Rattle.state_store.proofs.Common.{asked_by, flat_map, ◌++◌, ◌≡◌}
 use Rattle.state_store.proofs.maps.book.MovementBook.waybills.Given as goal
 
 -- the waybills so far and those ahead are all that are asked for

@@ -1,5 +1,4 @@
-use Rattle.std.proofs.Common.{◌≡◌, ◌∙◌, [], ◌∷◌, ◌++◌, ap, arith, rules}
-use Rattle.state_store.proofs.Common.{written, Trail, cargo_of, trail_in, state_of}
+use Rattle.state_store.proofs.Common.{Trail, [], ap, arith, cargo_of, rules, state_of, trail_in, written, ◌++◌, ◌∙◌, ◌∷◌, ◌≡◌}
 use Rattle.state_store.proofs.Writing.{room_line, shows_more, trail_more}
 use Rattle.state_store.proofs.maps.state.MapState.add_line.Goals as goal
 

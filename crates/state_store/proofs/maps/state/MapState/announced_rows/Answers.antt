@@ -1,5 +1,4 @@
-use Rattle.std.proofs.Common.{◌∙◌, ap, ◌++◌}
-use Rattle.state_store.proofs.Common.{flat_map, announced_by}
+use Rattle.state_store.proofs.Common.{announced_by, ap, flat_map, ◌++◌, ◌∙◌}
 use Rattle.state_store.proofs.AnnouncedOrder.{are_announced}
 use Rattle.state_store.proofs.BookLists.{row_last, row_more}
 use Rattle.state_store.proofs.maps.state.MapState.announced_rows.Goals as goal

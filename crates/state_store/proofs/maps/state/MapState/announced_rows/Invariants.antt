@@ -1,5 +1,4 @@
-use Rattle.std.proofs.Common.{◌≡◌, ◌++◌}
-use Rattle.state_store.proofs.Common.{flat_map, announced_by, IsSummed}
+use Rattle.state_store.proofs.Common.{IsSummed, announced_by, flat_map, ◌++◌, ◌≡◌}
 use Rattle.state_store.proofs.maps.state.MapState.announced_rows.Given as goal
 
 -- the rows so far and those ahead are all

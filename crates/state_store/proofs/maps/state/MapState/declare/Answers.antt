@@ -1,5 +1,4 @@
-use Rattle.std.proofs.Common.{[]}
-use Rattle.state_store.proofs.Common.{written, Declare, cargo_of, state_of}
+use Rattle.state_store.proofs.Common.{Declare, [], cargo_of, state_of, written}
 use Rattle.state_store.proofs.Writing.{put_declared, shows_more}
 use Rattle.state_store.proofs.maps.state.MapState.declare.Goals as goal
 

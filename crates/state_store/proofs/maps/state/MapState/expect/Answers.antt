@@ -1,5 +1,4 @@
-use Rattle.std.proofs.Common.{[]}
-use Rattle.state_store.proofs.Common.{written, Expect, cargo_of, state_of}
+use Rattle.state_store.proofs.Common.{Expect, [], cargo_of, state_of, written}
 use Rattle.state_store.proofs.Writing.{shows_more}
 use Rattle.state_store.proofs.maps.state.MapState.expect.Goals as goal
 

@@ -1,5 +1,4 @@
-use Rattle.std.proofs.Common.{◌≡◌, ◌∙◌, ap, rules}
-use Rattle.state_store.proofs.Common.{with_text, state_of}
+use Rattle.state_store.proofs.Common.{ap, rules, state_of, with_text, ◌∙◌, ◌≡◌}
 use Rattle.state_store.proofs.KeptRows.{texts_kept}
 use Rattle.state_store.proofs.maps.state.MapState.keep_count.Goals as goal
 

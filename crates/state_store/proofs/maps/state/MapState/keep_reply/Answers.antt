@@ -1,6 +1,4 @@
-use Rattle.std.proofs.Common.{◌≡◌, ◌∙◌, ap, rules}
-use Rattle.state_store.proofs.Common.{string_bytes, with_key, state_of}
-use Rattle.station_core.specs.declared.stored.KeptReply.{KeptReply}
+use Rattle.state_store.proofs.Common.{KeptReply, ap, rules, state_of, string_bytes, with_key, ◌∙◌, ◌≡◌}
 use Rattle.state_store.proofs.KeptRows.{keyed_more}
 use Rattle.state_store.proofs.maps.state.MapState.keep_reply.Goals as goal
 

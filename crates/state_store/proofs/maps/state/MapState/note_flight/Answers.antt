@@ -1,5 +1,4 @@
-use Rattle.std.proofs.Common.{◌≡◌, [], Some}
-use Rattle.state_store.proofs.Common.{written, same_flight_date, if◌then◌else◌, FlightDate, NoteFlight, by_key, cargo_of, flights_in, state_of, FlightKey}
+use Rattle.state_store.proofs.Common.{FlightDate, FlightKey, NoteFlight, Some, [], by_key, cargo_of, flights_in, if◌then◌else◌, same_flight_date, state_of, written, ◌≡◌}
 use Rattle.state_store.proofs.Keyed.{put_in}
 use Rattle.state_store.proofs.Tied.{by_flight_keyed}
 use Rattle.state_store.proofs.Writing.{shows_more}

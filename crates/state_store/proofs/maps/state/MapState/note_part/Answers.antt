@@ -1,6 +1,5 @@
 use Rattle.std.proofs.Common.{◌≡◌, ◌∙◌, Some, ap, cond, option_map}
-use Rattle.state_store.proofs.Common.{if◌then◌else◌, lookup, same_part, written, NotePart, cargo_of, part_of, parts_in, state_of}
-use Rattle.shipment_machine.specs.declared.moves.Part.{Part}
+use Rattle.state_store.proofs.Common.{NotePart, Part, cargo_of, if◌then◌else◌, lookup, part_of, parts_in, same_part, state_of, written}
 use Rattle.state_store.proofs.Keyed.{put_in}
 use Rattle.state_store.proofs.KeptRows.{mapped}
 use Rattle.state_store.proofs.Writing.{by_part, by_part_keyed, shows_more}

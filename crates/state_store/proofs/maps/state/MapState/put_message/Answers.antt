@@ -1,5 +1,4 @@
-use Rattle.std.proofs.Common.{◌≡◌, ◌∙◌, [], ◌∷◌, ◌++◌, ap, arith, rules}
-use Rattle.state_store.proofs.Common.{sent, cargo_of, texts_in, state_of}
+use Rattle.state_store.proofs.Common.{[], ap, arith, cargo_of, rules, sent, state_of, texts_in, ◌++◌, ◌∙◌, ◌∷◌, ◌≡◌}
 use Rattle.state_store.proofs.Writing.{room_message, shows_more, texts_more}
 use Rattle.state_store.proofs.maps.state.MapState.put_message.Goals as goal
 

@@ -1,5 +1,4 @@
-use Rattle.std.proofs.Common.{[], ◌∷◌, ◌++◌, arith}
-use Rattle.state_store.proofs.Common.{Cargo, cargo_of, state_of}
+use Rattle.state_store.proofs.Common.{Cargo, [], arith, cargo_of, state_of, ◌++◌, ◌∷◌}
 use Rattle.state_store.proofs.StillOk.{told_both}
 use Rattle.state_store.proofs.Writing.{room_move, shows_more}
 use Rattle.state_store.proofs.maps.state.MapState.put_move.Goals as goal

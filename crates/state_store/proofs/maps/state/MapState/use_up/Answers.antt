@@ -1,5 +1,4 @@
-use Rattle.std.proofs.Common.{[]}
-use Rattle.state_store.proofs.Common.{written, UseUp, cargo_of, state_of, holders_of}
+use Rattle.state_store.proofs.Common.{UseUp, [], cargo_of, holders_of, state_of, written}
 use Rattle.state_store.proofs.Writing.{put_used, shows_more}
 use Rattle.state_store.proofs.maps.state.MapState.use_up.Goals as goal
 

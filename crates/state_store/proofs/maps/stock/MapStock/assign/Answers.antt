@@ -1,5 +1,4 @@
-use Rattle.std.proofs.Common.{◌≡◌, ℕ, ◌+◌, ◌<◌, cond, ◌&&◌, nat_lt, nat_le, nat_eq, Some, ap, ◌∙◌, arith}
-use Rattle.state_store.proofs.Common.{holders_of}
+use Rattle.state_store.proofs.Common.{Some, ap, arith, cond, holders_of, nat_eq, nat_le, nat_lt, ℕ, ◌&&◌, ◌+◌, ◌<◌, ◌∙◌, ◌≡◌}
 use Rattle.state_store.proofs.Named.{rises, begins, is_key}
 use Rattle.state_store.proofs.Steps.{given}
 use Rattle.state_store.proofs.Serials.{not_empty}

@@ -1,5 +1,4 @@
-use Rattle.std.proofs.Common.{◌≡◌, ℕ, cond, ◌&&◌, nat_lt, None}
-use Rattle.state_store.proofs.Common.{nat_cmp, get, btree_map_len}
+use Rattle.state_store.proofs.Common.{None, btree_map_len, cond, get, nat_cmp, nat_lt, ℕ, ◌&&◌, ◌≡◌}
 use Rattle.state_store.proofs.maps.stock.MapStock.join_between.Given as goal
 
 -- what is gone lies between the two keys

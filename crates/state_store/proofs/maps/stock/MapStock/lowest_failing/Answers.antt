@@ -1,5 +1,4 @@
-use Rattle.std.proofs.Common.{◌≡◌, ℕ, ◌+◌, ◌-◌, ◌≤◌, ◌<◌, ◌∙◌, Bool, true, false, not, suc, sym, ap, arith, subst}
-use Rattle.state_store.proofs.Common.{find, range_with_len, passes, holders_of}
+use Rattle.state_store.proofs.Common.{Bool, ap, arith, false, find, holders_of, not, passes, range_with_len, subst, suc, sym, true, ℕ, ◌+◌, ◌-◌, ◌<◌, ◌∙◌, ◌≡◌, ◌≤◌}
 use Rattle.awb_number.specs.Number.{IsNumber}
 use Rattle.state_store.proofs.Ahead.{named_alike}
 use Rattle.state_store.proofs.Named.{rises}

@@ -1,5 +1,4 @@
-use Rattle.std.proofs.Common.{◌≡◌, ◌-◌, not}
-use Rattle.state_store.proofs.Common.{find, range_with_len, lowest_failing, passes, holders_of}
+use Rattle.state_store.proofs.Common.{find, holders_of, lowest_failing, not, passes, range_with_len, ◌-◌, ◌≡◌}
 use Rattle.state_store.proofs.maps.stock.MapStock.lowest_failing.Given as goal
 
 -- what is looked for lies ahead

@@ -1,5 +1,4 @@
-use Rattle.std.proofs.Common.{◌≡◌, ◌+◌, ◌<◌, ◌≤◌, IfSome, arith, rules, subst, false}
-use Rattle.state_store.proofs.Common.{slice_get, nat_cmp, is_gt}
+use Rattle.state_store.proofs.Common.{IfSome, arith, false, is_gt, nat_cmp, rules, slice_get, subst, ◌+◌, ◌<◌, ◌≡◌, ◌≤◌}
 use Rattle.state_store.proofs.Named.{Entries, begins, le_by, le_is, less_by, none_unless}
 use Rattle.state_store.proofs.maps.stock.MapStock.next_from.Goals as goal
 

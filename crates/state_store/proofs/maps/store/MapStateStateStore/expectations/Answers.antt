@@ -1,5 +1,4 @@
-use Rattle.std.proofs.Common.{ap, subst, sym}
-use Rattle.state_store.proofs.Common.{Cargo, AreExpectations, expected_for, Lines, lines_in}
+use Rattle.state_store.proofs.Common.{AreExpectations, Cargo, Lines, ap, expected_for, lines_in, subst, sym}
 use Rattle.state_store.proofs.Surviving.{cargo_is, survives_so}
 use Rattle.state_store.proofs.maps.store.MapStateStateStore.expectations.Goals as goal
 

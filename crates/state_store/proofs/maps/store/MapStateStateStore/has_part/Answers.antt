@@ -1,5 +1,4 @@
-use Rattle.std.proofs.Common.{◌≡◌, ◌∙◌, ap, is_some, rules}
-use Rattle.state_store.proofs.Common.{get, lookup, Cargo, same_part, part_of}
+use Rattle.state_store.proofs.Common.{Cargo, ap, get, is_some, lookup, part_of, rules, same_part, ◌∙◌, ◌≡◌}
 use Rattle.state_store.proofs.Keyed.{found_by, some_mapped}
 use Rattle.state_store.proofs.Surviving.{cargo_is, reads_so}
 use Rattle.state_store.proofs.Writing.{by_part, by_part_keyed}

@@ -1,7 +1,5 @@
 use Rattle.std.proofs.Common.{◌≡◌, ◌∙◌, Some, ap, option_map, rules}
-use Rattle.std.specs.HashMap.{get_by}
-use Rattle.state_store.proofs.Common.{string_bytes, State, kept_of}
-use Rattle.std.specs.Str.{bytes_eq}
+use Rattle.state_store.proofs.Common.{State, bytes_eq, get_by, kept_of, string_bytes}
 use Rattle.state_store.proofs.Surviving.{reads_so}
 use Rattle.state_store.proofs.maps.store.MapStateStateStore.kept_key.Goals as goal
 

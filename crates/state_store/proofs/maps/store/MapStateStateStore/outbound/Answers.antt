@@ -1,5 +1,4 @@
-use Rattle.std.proofs.Common.{◌≡◌, ◌∙◌, ap, rules}
-use Rattle.state_store.proofs.Common.{get, Cargo, same_flight_date, by_key, FlightKey}
+use Rattle.state_store.proofs.Common.{Cargo, FlightKey, ap, by_key, get, rules, same_flight_date, ◌∙◌, ◌≡◌}
 use Rattle.state_store.proofs.Keyed.{found_by}
 use Rattle.state_store.proofs.Surviving.{cargo_is, reads_so}
 use Rattle.state_store.proofs.Tied.{by_flight_keyed}
