@@ -1,16 +1,7 @@
 -- The end of a call over a file.
 use Rattle.std.specs.Prelude.{◌≡◌, ◌<◌, ◌≤◌, ◌↔◌, ℕ, IsTrue, Result, Err, IfOk, IfErr, OnErr, OnOk}
-use Rattle.sqlite.specs.Held.{state, Held}
-use Rattle.sqlite_trees.specs.declared.store.Store.{Ghosts}
-use Rattle.station_schema.specs.Schema.{station_schema}
-use Rattle.station_core.specs.Given.{Given}
-use Rattle.station_core.specs.Keeping.{Keeping}
-use Rattle.station_days.specs.Date.{LocalMinute}
-use Rattle.station_files.specs.Backing.{Backing, HasEnded}
-use Rattle.station_tables.specs.declared.station.Station.{Station}
+use Rattle.cli_call.specs.Common.{state, Held, Ghosts, station_schema, Given, Keeping, LocalMinute, Backing, HasEnded, Station, Line, Ends, Reached}
 use Rattle.cli_run.specs.declared.fault.RunFault.TheVariants as run
-use Rattle.cli_words.specs.declared.line.Line.{Line}
-use Rattle.cli_run.specs.Ends.{Ends, Reached}
 use Rattle.cli_call.specs.declared.closing.FileEnd.{FileEnd}
 use Rattle.cli_call.specs.declared.ended.DeskFault.TheVariants as fault
 use Rattle.cli_call.specs.Ended.{HasTold}

@@ -1,16 +1,10 @@
 -- The exit status of a call, and its fault line.
 use Rattle.std.specs.Prelude.{◌≡◌, ℕ, Bool, true, false, List, ◌++◌, codes, Result, Ok, Err, IfErr, OnOk}
-use Rattle.std.specs.Fmt.{signed_decimal}
-use Rattle.table_audits.specs.Names.{name_text}
-use Rattle.station_core.specs.Given.{Given}
-use Rattle.cli_run.specs.declared.fault.RunFault.{RunFault}
+use Rattle.cli_call.specs.Common.{signed_decimal, name_text, Given, RunFault, AttachFault, SendsLine, Reached}
 use Rattle.cli_run.specs.declared.fault.RunFault.TheVariants as run
-use Rattle.station_tables.specs.declared.fault.AttachFault.{AttachFault}
 use Rattle.station_tables.specs.declared.fault.AttachFault.TheVariants as attach
-use Rattle.station_core.specs.Ends.{SendsLine}
 use Rattle.cli_call.specs.declared.ended.DeskFault.{DeskFault}
 use Rattle.cli_call.specs.declared.ended.DeskFault.TheVariants as fault
-use Rattle.cli_run.specs.Ends.{Reached}
 
 abbrev pub run_line : RunFault → List ℕ
 run_line run.Read = codes "fault read\n"

@@ -1,15 +1,6 @@
 -- What a command or a service leaves, however it ends.
 use Rattle.std.specs.Prelude.{◌≡◌, ℕ, Bool, false, Result, List}
-use Rattle.station_days.specs.Date.{LocalMinute}
-use Rattle.station_core.specs.Keeping.{Keeping}
-use Rattle.station_core.specs.Step.{State}
-use Rattle.cli_run.specs.declared.fault.RunFault.{RunFault}
-use Rattle.cli_words.specs.declared.line.LineCommand.{LineCommand}
-use Rattle.cli_run.specs.Done.{HasDone}
-use Rattle.cli_run.specs.Ends.{Ends, Reached}
-use Rattle.cli_run.specs.Left.{AsksAt, HasLeft}
-use Rattle.desk_server.specs.Asked.{HasServedInputs}
-use Rattle.desk_server.specs.Served.{Exchange, HaveServed}
+use Rattle.cli_call.specs.Common.{LocalMinute, Keeping, State, RunFault, LineCommand, HasDone, Ends, Reached, AsksAt, HasLeft, HasServedInputs, Exchange, HaveServed}
 
 -- Reopening finds the state after the inputs that a command answered and, if the store failed,
 -- perhaps one more.

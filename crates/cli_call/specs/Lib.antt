@@ -1,3 +1,4 @@
+pub mod Common
 pub mod Closed
 pub mod Ended
 pub mod Leaving

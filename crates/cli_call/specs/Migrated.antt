@@ -1,14 +1,7 @@
 -- Upgrades of files from version 1 to version 2.
 use Rattle.std.specs.Prelude.{◌≡◌, ℕ, Bool, true, Result, Ok, Err, IfOk, IfErr, OnErr, OnOk, List, ◌++◌, codes}
-use Rattle.sqlite.specs.Held.{Held}
-use Rattle.sqlite_trees.specs.declared.store.Store.{Ghosts}
-use Rattle.station_core.specs.Ends.{HasCause, HasSent}
-use Rattle.station_core.specs.Given.{Given}
-use Rattle.station_tables.specs.declared.fault.AttachFault.{AttachFault}
-use Rattle.station_tables.specs.Called.{HasMoved}
-use Rattle.cli_run.specs.declared.fault.RunFault.{RunFault}
+use Rattle.cli_call.specs.Common.{Held, Ghosts, HasCause, HasSent, Given, AttachFault, HasMoved, RunFault, Reached}
 use Rattle.cli_run.specs.declared.fault.RunFault.TheVariants as run
-use Rattle.cli_run.specs.Ends.{Reached}
 use Rattle.cli_call.specs.Ended.{HasNoStation, HasToldEnd}
 
 -- the line with the version of the file

@@ -1,31 +1,10 @@
 -- Calls of the program over one file, one after another.
 use Rattle.std.specs.Prelude.{◌≤◌, ◌≡◌, ◌≢◌, ◌⊎◌, ℕ, zero, suc, Bool, true, false, Result, Ok, Err, IfErr, OnErr, Option, Some, None, length, List, [], ◌∷◌, ◌++◌, All, Contains}
-use Rattle.std.specs.List.{AllByRecursion}
-use Rattle.sqlite.specs.Held.{state, Held}
-use Rattle.sqlite.specs.State.{IsLive, Opens}
-use Rattle.sqlite_trees.specs.declared.schema.Object.{Object}
-use Rattle.sqlite_trees.specs.declared.store.Store.{Ghosts}
-use Rattle.station_days.specs.Date.{LocalMinute}
+use Rattle.cli_call.specs.Common.{AllByRecursion, state, Held, IsLive, Opens, Object, Ghosts, LocalMinute, Input, Keeping, RetryEvent, sent, cut_after, reopened, started, ActsOnce, committed, State, IsLawfulState, after_all, opening, Backing, IsVacant, IsOldOwn, IsOldStateIn, Life, IsAfterLives, AttachFault, Station, Line, Ends, Reached, AsksAt, here_of, is_migration, is_new, AreAskedBy, WasWritten}
 use Rattle.station_core.specs.declared.answer.ActFault.TheVariants as fault
-use Rattle.station_core.specs.declared.input.Input.{Input}
-use Rattle.station_core.specs.Keeping.{Keeping}
-use Rattle.station_core.specs.Retries.{RetryEvent, sent, cut_after, reopened, started, ActsOnce, committed}
-use Rattle.station_core.specs.Step.{State, IsLawfulState, after_all, opening}
-use Rattle.station_files.specs.Backing.{Backing}
-use Rattle.station_schema.specs.Connection.{IsVacant}
-use Rattle.station_schema.specs.Own.{IsOldOwn}
-use Rattle.station_tables.specs.Attached.{IsOldStateIn}
-use Rattle.station_tables.specs.Lives.{Life, IsAfterLives}
-use Rattle.station_tables.specs.declared.fault.AttachFault.{AttachFault}
 use Rattle.station_tables.specs.declared.fault.AttachFault.TheVariants as attach
-use Rattle.station_tables.specs.declared.station.Station.{Station}
-use Rattle.cli_words.specs.declared.line.Line.{Line}
 use Rattle.cli_words.specs.declared.line.LineCommand.TheVariants as command
-use Rattle.cli_run.specs.Ends.{Ends, Reached}
-use Rattle.cli_run.specs.Left.{AsksAt}
-use Rattle.cli_run.specs.Place.{here_of, is_migration, is_new}
 use Rattle.cli_call.specs.declared.closing.FileEnd.{FileEnd}
-use Rattle.desk_server.specs.Asked.{AreAskedBy, WasWritten}
 use Rattle.cli_call.specs.Closed.{HasCalledFile}
 use Rattle.cli_call.specs.Service.{HasServedFile}
 

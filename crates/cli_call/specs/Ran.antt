@@ -1,25 +1,9 @@
 -- The effect of a call of the program.
 use Rattle.std.specs.Prelude.{◌≡◌, ◌⊎◌, ℕ, Bool, true, false, Result, Ok, Err}
-use Rattle.sqlite.specs.Held.{Held}
-use Rattle.sqlite_trees.specs.declared.store.Store.{Ghosts}
-use Rattle.station_days.specs.Date.{LocalMinute}
-use Rattle.station_tables.specs.declared.fault.AttachFault.{AttachFault}
-use Rattle.station_tables.specs.declared.station.Station.{Station}
-use Rattle.station_tables.specs.Called.{HasReleased}
-use Rattle.cli_run.specs.declared.fault.RunFault.{RunFault}
+use Rattle.cli_call.specs.Common.{Held, Ghosts, LocalMinute, AttachFault, Station, HasReleased, RunFault, Line, HasDone, NoneFailed, OneFailed, begun, BeginsWith, Given, Keeping, StaysInService, ends, reached, Ends, Reached, here_of, is_migration, is_new, HasGivenReasons, HasOpened}
 use Rattle.cli_run.specs.declared.fault.RunFault.TheVariants as fault
-use Rattle.cli_words.specs.declared.line.Line.{Line}
-use Rattle.cli_run.specs.Done.{HasDone}
-use Rattle.station_core.specs.Ends.{NoneFailed, OneFailed}
-use Rattle.station_core.specs.Gathered.{begun, BeginsWith}
-use Rattle.station_core.specs.Given.{Given}
-use Rattle.station_core.specs.Keeping.{Keeping, StaysInService}
-use Rattle.cli_run.specs.Ends.{ends, reached, Ends, Reached}
-use Rattle.cli_run.specs.Place.{here_of, is_migration, is_new}
-use Rattle.cli_run.specs.Reasons.{HasGivenReasons}
 use Rattle.cli_call.specs.Ended.{HasNoStation, HasToldEnd}
 use Rattle.cli_call.specs.Migrated.{HasMigrated}
-use Rattle.line_opening.specs.Opened.{HasOpened}
 
 -- The command ran over a keeper, and wrote the reasons why inputs can't be read; then its end was
 -- reported.

@@ -1,23 +1,8 @@
 -- The service of a command line.
 use Rattle.std.specs.Prelude.{◌≡◌, ◌≤◌, ◌↔◌, ℕ, Bool, true, false, IsTrue, MatchOption, Option, Result, Ok, Err, IfErr, IfOk, OnOk, List, [], ◌++◌, ◌∷◌, length, All, codes, ⊤}
-use Rattle.sqlite.specs.Held.{state, Held}
-use Rattle.sqlite_trees.specs.declared.store.Store.{Ghosts}
-use Rattle.station_schema.specs.Schema.{station_schema}
-use Rattle.station_core.specs.Ends.{HasSent, SendsLine}
-use Rattle.station_core.specs.Given.{Given}
-use Rattle.station_core.specs.Keeping.{Keeping, OnlyReads}
-use Rattle.station_files.specs.Backing.{Backing}
-use Rattle.station_tables.specs.declared.fault.AttachFault.{AttachFault}
-use Rattle.station_tables.specs.declared.station.Station.{Station}
-use Rattle.station_tables.specs.Called.{HasReleased}
+use Rattle.cli_call.specs.Common.{state, Held, Ghosts, station_schema, HasSent, SendsLine, Given, Keeping, OnlyReads, Backing, AttachFault, Station, HasReleased, Line, reached, Reached, here_of, is_new, Exchange, GoesOn, HaveServed, ServerFault, HasOpened}
 use Rattle.cli_run.specs.declared.fault.RunFault.TheVariants as run
-use Rattle.cli_words.specs.declared.line.Line.{Line}
-use Rattle.cli_run.specs.Ends.{reached, Reached}
-use Rattle.cli_run.specs.Place.{here_of, is_new}
-use Rattle.desk_server.specs.Served.{Exchange, GoesOn, HaveServed}
-use Rattle.desk_server.specs.declared.server.ServerFault.{ServerFault}
 use Rattle.desk_server.specs.declared.server.ServerFault.TheVariants as server
-use Rattle.line_opening.specs.Opened.{HasOpened}
 use Rattle.cli_call.specs.declared.closing.FileEnd.{FileEnd}
 use Rattle.cli_call.specs.declared.ended.DeskFault.{DeskFault}
 use Rattle.cli_call.specs.declared.ended.DeskFault.TheVariants as fault

@@ -1,8 +1,6 @@
 -- The output of `--version`.
 use Rattle.std.specs.Prelude.{ℕ, List, [], ◌++◌, codes}
-use Rattle.std.specs.Fmt.{signed_decimal}
-use Rattle.station_schema.specs.Calls.{new_station}
-use Rattle.reports.specs.Version.{program_version}
+use Rattle.cli_call.specs.Common.{signed_decimal, new_station, program_version}
 
 -- the kit with which the program is proved
 abbrev pub kit : List ℕ

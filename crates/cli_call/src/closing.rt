@@ -1,6 +1,6 @@
 //! A call over a file, from its command to closing the file.
 ghost use Rattle.cli_call.specs.Closed.{HasCalledFile, HasClosed};
-ghost use Rattle.cli_run.specs.Ends.{ends, reached};
+ghost use Rattle.cli_call.specs.Common.{ends, reached};
 
 use crate::ended::{DeskFault, end};
 use crate::run::run_line;

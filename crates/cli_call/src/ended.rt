@@ -1,7 +1,7 @@
 //! The exit status of a call, and its fault line.
 ghost use Rattle.std.specs.Prelude.{◌≡◌, IfErr, OnOk};
 ghost use Rattle.cli_call.specs.Ended.{attach_status, run_ended, run_line, status_of, HasNoStation, HasTold, HasToldEnd};
-ghost use Rattle.cli_run.specs.Ends.{reached};
+ghost use Rattle.cli_call.specs.Common.{reached};
 ghost use Rattle.cli_call.specs.Service.{HasWarned};
 
 use cli_run::{RunFault, tell_line, tell_word};

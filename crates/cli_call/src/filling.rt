@@ -1,5 +1,5 @@
 //! Reading the lists that a service is asked for again and again, before its first connection.
-ghost use Rattle.station_core.specs.Keeping.{OnlyReads};
+ghost use Rattle.cli_call.specs.Common.{OnlyReads};
 
 use station_core::{ExpectedQuery, Keeper, Sink};
 

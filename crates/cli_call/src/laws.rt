@@ -1,7 +1,5 @@
 //! Laws about the calls of the program over one file.
-ghost use Rattle.station_files.specs.Backing.{own_files, whole_files, EndsLeadOn};
-ghost use Rattle.station_schema.specs.Own.{LiesInOrder};
-ghost use Rattle.cli_run.specs.Ends.{ends};
+ghost use Rattle.cli_call.specs.Common.{own_files, whole_files, EndsLeadOn, LiesInOrder, ends};
 ghost use Rattle.cli_call.specs.Leaving.{LeavesInputs, LeavesServed};
 ghost use Rattle.cli_call.specs.OneFile.{CallsLead};
 

@@ -1,5 +1,5 @@
 //! The upgrade of a file.
-ghost use Rattle.cli_run.specs.Ends.{reached};
+ghost use Rattle.cli_call.specs.Common.{reached};
 ghost use Rattle.cli_call.specs.Migrated.{HasEndedMigration, HasMigrated, HasToldMoved, HasToldVersion};
 
 use crate::ended::{end_run, refuse_line};

@@ -1,6 +1,5 @@
 //! Running a command line over a connection, or over a keeper without one.
-ghost use Rattle.cli_run.specs.Ends.{ends, reached};
-ghost use Rattle.station_core.specs.Gathered.{taken_of};
+ghost use Rattle.cli_call.specs.Common.{ends, reached, taken_of};
 ghost use Rattle.cli_call.specs.Ran.{HasCalled, HasCalledStation, HasEndedCall, HasFlushed, HasRunGathered, HasRunKept, HasRunLine};
 
 use crate::ended::{end_run, refuse_line};

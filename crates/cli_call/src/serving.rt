@@ -1,6 +1,6 @@
 //! The service of a command line, over a keeper or over a file.
 ghost use Rattle.std.specs.Prelude.{◌≡◌, true, false, List};
-ghost use Rattle.desk_server.specs.Served.{Exchange};
+ghost use Rattle.cli_call.specs.Common.{Exchange};
 ghost use Rattle.cli_call.specs.Service.{server_fault, HasEndedService, HasListened, HasServedFile, HasServedKept, HasServedLine, HasServedStation, HasWarned};
 
 use crate::closing::{FileEnd, close_file};

@@ -1,17 +1,6 @@
 -- Requests in lines of `acts`.
 use Rattle.std.specs.Prelude.{◌≡◌, ◌≤◌, ℕ, ◌+◌, List, length, take, codes, Some, IsTrue, IsUtf8}
-use Rattle.serde_json.specs.Data.{Data, string}
-use Rattle.serde_json.specs.Find.{get}
-use Rattle.serde_json.specs.Read.{read}
-use Rattle.imp_fields.specs.TextSize.{most_bytes}
-use Rattle.imp_fields.specs.declared.fault.TextFault.{TextFault}
-use Rattle.desk_commands.specs.Body.{IsBodyOf, member_count}
-use Rattle.desk_commands.specs.Verb.{word}
-use Rattle.desk_commands.specs.declared.command.Command.{Command}
-use Rattle.desk_commands.specs.declared.verb.Verb.{Verb}
-use Rattle.telegrams.specs.Meaning.{IsTelegram, telegram_fault, refusal_of}
-use Rattle.station_core.specs.Key.{is_key}
-use Rattle.station_core.specs.declared.input.Input.TheVariants.{Keyed, Wire}
+use Rattle.cli_run.specs.Common.{Data, string, get, read, most_bytes, TextFault, IsBodyOf, member_count, word, Command, Verb, IsTelegram, telegram_fault, refusal_of, is_key, Keyed, Wire}
 use Rattle.cli_run.specs.declared.request.Request.{Request}
 use Rattle.cli_run.specs.declared.request.Request.TheVariants as asked
 

@@ -1,9 +1,6 @@
 -- The effect of a line of `acts`.
 use Rattle.std.specs.Prelude.{◌≡◌, ◌⊎◌, ◌||◌, ℕ, Bool, true, false, Some, Result, Ok, Err, List, codes}
-use Rattle.std.specs.Str.{bytes_eq}
-use Rattle.station_days.specs.Date.{LocalMinute}
-use Rattle.station_core.specs.Given.{Given}
-use Rattle.station_core.specs.Keeping.{Keeping}
+use Rattle.cli_run.specs.Common.{bytes_eq, LocalMinute, Given, Keeping}
 use Rattle.cli_run.specs.declared.fault.RunFault.{RunFault}
 use Rattle.cli_run.specs.declared.fault.RunFault.TheVariants as fault
 use Rattle.cli_run.specs.Ends.{Call}

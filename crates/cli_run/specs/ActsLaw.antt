@@ -1,7 +1,6 @@
 -- The answered lines of `acts` together: a run of the station over their requests.
 use Rattle.std.specs.Prelude.{◌≡◌, ◌⊎◌, ℕ, ◌+◌, Bool, true, false, ◌&&◌, Some, List, [], ◌∷◌, ◌++◌}
-use Rattle.station_days.specs.Date.{LocalMinute}
-use Rattle.station_core.specs.Step.{State}
+use Rattle.cli_run.specs.Common.{LocalMinute, State}
 use Rattle.cli_run.specs.ActLine.{IsActAsked}
 use Rattle.cli_run.specs.Acts.{is_blank}
 use Rattle.cli_run.specs.Requests.{asked_after, asked_good, asked_line}

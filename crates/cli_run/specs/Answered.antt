@@ -1,9 +1,6 @@
 -- The effect of a request, and of a command that reads one.
 use Rattle.std.specs.Prelude.{◌≡◌, ◌⊎◌, Bool, true, false, None, Option, Result, Err, IfErr, IfOk, List, ℕ}
-use Rattle.station_days.specs.Date.{LocalMinute}
-use Rattle.imp_fields.specs.TextSize.{most_bytes}
-use Rattle.station_core.specs.Given.{Given}
-use Rattle.station_core.specs.Keeping.{IfWorks, Keeping, StaysIfBroken, StaysInService}
+use Rattle.cli_run.specs.Common.{LocalMinute, most_bytes, Given, IfWorks, Keeping, StaysIfBroken, StaysInService}
 use Rattle.cli_run.specs.declared.fault.RunFault.{RunFault}
 use Rattle.cli_run.specs.declared.fault.RunFault.TheVariants as fault
 use Rattle.cli_run.specs.Ends.{Call}

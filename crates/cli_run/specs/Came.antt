@@ -1,7 +1,6 @@
 -- The bytes received of a command's input.
 use Rattle.std.specs.Prelude.{◌≡◌, ◌⊎◌, ℕ, ◌+◌, ◌<◌, ◌≤◌, List, ◌++◌, length}
-use Rattle.imp_fields.specs.TextSize.{most_bytes}
-use Rattle.station_core.specs.Given.{Given}
+use Rattle.cli_run.specs.Common.{most_bytes, Given}
 
 abbrev pub most_read : ℕ
 most_read = 4_096

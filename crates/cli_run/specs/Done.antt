@@ -1,9 +1,6 @@
 -- The effect of each command.
 use Rattle.std.specs.Prelude.{◌≡◌, ℕ, Bool, true, None, Result, Ok, OnOk, OnErr, IfOk, IfErr, List, length, ◌++◌, codes}
-use Rattle.station_days.specs.Date.{LocalMinute}
-use Rattle.station_core.specs.Ends.{HasCause, HasSent}
-use Rattle.station_core.specs.Keeping.{Keeping}
-use Rattle.reports.specs.Listings.{IsListing}
+use Rattle.cli_run.specs.Common.{LocalMinute, HasCause, HasSent, Keeping, IsListing, LineCommand}
 use Rattle.reports.specs.declared.listing.Listing.TheVariants as listing
 use Rattle.reports.specs.declared.report.Report.TheVariants as report
 use Rattle.cli_run.specs.declared.fault.RunFault.{RunFault}
@@ -19,7 +16,6 @@ use Rattle.cli_run.specs.Takes.{HasTakenNext}
 use Rattle.cli_run.specs.Ends.{call_to, printed_to, Ends, Reached, Printed}
 use Rattle.cli_run.specs.History.{HasReadHistory}
 use Rattle.cli_run.specs.Reported.{HasReportedGood}
-use Rattle.cli_words.specs.declared.line.LineCommand.{LineCommand}
 use Rattle.cli_words.specs.declared.line.LineCommand.TheVariants as command
 use Rattle.cli_run.specs.Looked.{holder_found, waybill_found, HasLookedUp}
 

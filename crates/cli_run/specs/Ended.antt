@@ -1,8 +1,6 @@
 -- The outcome of a request or a row, whether it was answered or not.
 use Rattle.std.specs.Prelude.{◌≡◌, ◌⊎◌, ℕ, Bool, Option, Some, List, ◌++◌, take}
-use Rattle.station_core.specs.Given.{Given}
-use Rattle.station_core.specs.Ends.{HasCause}
-use Rattle.station_core.specs.Step.{State}
+use Rattle.cli_run.specs.Common.{Given, HasCause, State}
 use Rattle.cli_run.specs.declared.fault.RunFault.{RunFault}
 use Rattle.cli_run.specs.declared.fault.RunFault.TheVariants as fault
 use Rattle.cli_run.specs.Faults.{Kept}

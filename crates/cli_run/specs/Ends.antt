@@ -1,6 +1,6 @@
 -- The parts of a call that contracts see: its keeper's state, and what it reads and writes.
 use Rattle.std.specs.Prelude.{Option, List, ℕ}
-use Rattle.station_core.specs.Given.{Given}
+use Rattle.cli_run.specs.Common.{Given}
 
 -- the state of a call: its station, its output, and its errors
 pub record Call (K E : Type 0) : Type 0 where

@@ -1,17 +1,9 @@
 -- Standard error after the line of a command.
 use Rattle.std.specs.Prelude.{◌≡◌, ℕ, Bool, true, false, Option, Some, None, Result, Ok, Err, OnOk, List, codes}
-use Rattle.station_days.specs.Date.{LocalMinute}
-use Rattle.station_core.specs.declared.answer.Answer.{Answer}
-use Rattle.station_core.specs.declared.answer.Answer.TheVariants.{Done, Refused}
-use Rattle.station_core.specs.declared.input.Input.{Input}
-use Rattle.station_core.specs.declared.input.Input.TheVariants.{Keyed, Wire}
-use Rattle.station_core.specs.Given.{Given}
-use Rattle.station_core.specs.Step.{State, step}
-use Rattle.input_reasons.specs.Reason.{HasReason, is_unread, numbered_head}
+use Rattle.cli_run.specs.Common.{LocalMinute, Answer, Done, Refused, Input, Keyed, Wire, Given, State, step, HasReason, is_unread, numbered_head, Keeping}
 use Rattle.cli_run.specs.declared.fault.RunFault.{RunFault}
 use Rattle.cli_run.specs.declared.request.Request.{Request}
 use Rattle.cli_run.specs.declared.request.Request.TheVariants as asked
-use Rattle.station_core.specs.Keeping.{Keeping}
 use Rattle.cli_run.specs.Ends.{Call}
 
 -- true if an answer says that a telegram can't be read

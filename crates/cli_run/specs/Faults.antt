@@ -1,13 +1,8 @@
 -- Faults of a run: their causes, and what they leave.
 use Rattle.std.specs.Prelude.{◌≡◌, ◌<◌, ◌⊎◌, Bool, true, false, if◌then◌else◌, Result, Ok, Err, Option, OnOk, IfErr}
-use Rattle.csv.specs.declared.error.ErrorKind.{ErrorKind}
+use Rattle.cli_run.specs.Common.{ErrorKind, Given, HasCause, NoneFailed, Keeping, ActFault, State}
 use Rattle.csv.specs.declared.error.ErrorKind.TheVariants as kind
-use Rattle.station_core.specs.Given.{Given}
-use Rattle.station_core.specs.Ends.{HasCause, NoneFailed}
-use Rattle.station_core.specs.Keeping.{Keeping}
-use Rattle.station_core.specs.declared.answer.ActFault.{ActFault}
 use Rattle.station_core.specs.declared.answer.ActFault.TheVariants as act
-use Rattle.station_core.specs.Step.{State}
 use Rattle.cli_run.specs.declared.fault.RunFault.{RunFault}
 use Rattle.cli_run.specs.declared.fault.RunFault.TheVariants as fault
 

@@ -1,12 +1,6 @@
 -- The output of a waybill's history.
 use Rattle.std.specs.Prelude.{◌≡◌, ℕ, true, Bool, Option, Some, None, is_some, List, ◌++◌, codes, take, Result, Ok, Err}
-use Rattle.http_desk.specs.Reply.{IsHistory}
-use Rattle.station_core.specs.Ends.{HasCause}
-use Rattle.station_core.specs.Given.{Given}
-use Rattle.station_core.specs.Keeping.{IfSound, IfWorks, Keeping, OnlyReads}
-use Rattle.station_core.specs.Readers.{waybill_of}
-use Rattle.station_core.specs.Step.{State}
-use Rattle.station_core.specs.declared.rows.Waybill.{Waybill}
+use Rattle.cli_run.specs.Common.{IsHistory, HasCause, Given, IfSound, IfWorks, Keeping, OnlyReads, waybill_of, State, Waybill}
 use Rattle.cli_run.specs.declared.fault.RunFault.{RunFault}
 use Rattle.cli_run.specs.declared.fault.RunFault.TheVariants as fault
 use Rattle.cli_run.specs.Ends.{Printed}

@@ -1,18 +1,11 @@
 -- The inputs that acted in a run of a command, whatever it returns.
 use Rattle.std.specs.Prelude.{◌≡◌, ℕ, Bool, Option, Some, None, Result, Err, OnOk, List, length}
-use Rattle.std.specs.List.{AllByRecursion}
-use Rattle.station_days.specs.Date.{LocalMinute}
-use Rattle.agent_stock.specs.declared.stock.Order.{Order}
-use Rattle.station_core.specs.declared.answer.ActFault.{ActFault}
+use Rattle.cli_run.specs.Common.{AllByRecursion, LocalMinute, Order, ActFault, Input, IsAfterAnswered, State, LineCommand}
 use Rattle.station_core.specs.declared.answer.ActFault.TheVariants as act
-use Rattle.station_core.specs.declared.input.Input.{Input}
-use Rattle.station_core.specs.Keeping.{IsAfterAnswered}
-use Rattle.station_core.specs.Step.{State}
 use Rattle.cli_run.specs.declared.fault.RunFault.{RunFault}
 use Rattle.cli_run.specs.declared.fault.RunFault.TheVariants as fault
 use Rattle.cli_run.specs.Rows.{input_of, Row}
 use Rattle.cli_run.specs.Row.{row_asks}
-use Rattle.cli_words.specs.declared.line.LineCommand.{LineCommand}
 use Rattle.cli_words.specs.declared.line.LineCommand.TheVariants as command
 use Rattle.cli_run.specs.declared.request.Request.TheVariants as asked
 use Rattle.cli_run.specs.ActLine.{IsActAsked}

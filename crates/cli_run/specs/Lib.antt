@@ -1,3 +1,4 @@
+pub mod Common
 pub mod ActLine
 pub mod Acts
 pub mod ActsLaw

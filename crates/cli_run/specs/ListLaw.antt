@@ -1,12 +1,6 @@
 -- A stock list as a run of the station: the orders of its rows, and their answers.
 use Rattle.std.specs.Prelude.{◌≡◌, ℕ, ◌+◌, Bool, ◌&&◌, is_some, Option, Some, None, List, [], ◌∷◌, ◌++◌}
-use Rattle.std.specs.List.{list_all}
-use Rattle.station_days.specs.Date.{LocalMinute}
-use Rattle.agent_stock.specs.declared.stock.Order.{Order}
-use Rattle.station_core.specs.declared.answer.Answer.{Answer}
-use Rattle.station_core.specs.declared.input.Input.{Input}
-use Rattle.station_core.specs.Retries.{is_done}
-use Rattle.station_core.specs.Step.{State, after_all, answers_of}
+use Rattle.cli_run.specs.Common.{list_all, LocalMinute, Order, Answer, Input, is_done, State, after_all, answers_of}
 use Rattle.cli_run.specs.Requests.{answer_text, keyed}
 use Rattle.cli_run.specs.Rows.{bad_line, input_of}
 

@@ -1,13 +1,6 @@
 -- The output of a look-up.
 use Rattle.std.specs.Prelude.{◌≡◌, ℕ, Bool, true, false, Option, Some, None, Result, Ok, Err, List, [], ◌∷◌, ◌++◌, take, codes, is_some, option_map}
-use Rattle.serde_json.specs.Data.{Data}
-use Rattle.serde_json.specs.Written.{compact_text}
-use Rattle.station_core.specs.Ends.{HasCause}
-use Rattle.station_core.specs.Given.{Given}
-use Rattle.station_core.specs.Keeping.{OnlyReads, Keeping}
-use Rattle.station_core.specs.Readers.{waybill_of}
-use Rattle.station_core.specs.Step.{State}
-use Rattle.http_desk.specs.Reply.{holder_data, waybill_data}
+use Rattle.cli_run.specs.Common.{Data, compact_text, HasCause, Given, OnlyReads, Keeping, waybill_of, State, holder_data, waybill_data}
 use Rattle.cli_run.specs.declared.fault.RunFault.{RunFault}
 use Rattle.cli_run.specs.declared.fault.RunFault.TheVariants as fault
 use Rattle.cli_run.specs.Ends.{Printed}

@@ -1,6 +1,6 @@
 -- The station of a command line.
 use Rattle.std.specs.Prelude.{ℕ, Bool, true, false, Option, Some, None, List, codes}
-use Rattle.cli_words.specs.declared.line.LineCommand.{LineCommand}
+use Rattle.cli_run.specs.Common.{LineCommand}
 use Rattle.cli_words.specs.declared.line.LineCommand.TheVariants as command
 
 -- its airport: XXX if the line names none

@@ -1,10 +1,8 @@
 -- The reasons on standard error, by command.
 use Rattle.std.specs.Prelude.{◌≡◌, Bool, Result}
-use Rattle.station_days.specs.Date.{LocalMinute}
+use Rattle.cli_run.specs.Common.{LocalMinute, Keeping, LineCommand}
 use Rattle.cli_run.specs.declared.fault.RunFault.{RunFault}
-use Rattle.station_core.specs.Keeping.{Keeping}
 use Rattle.cli_run.specs.Ends.{Ends, Reached}
-use Rattle.cli_words.specs.declared.line.LineCommand.{LineCommand}
 use Rattle.cli_words.specs.declared.line.LineCommand.TheVariants as command
 
 -- For a command that reads inputs the reasons are described with each input, and the other commands

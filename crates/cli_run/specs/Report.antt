@@ -1,10 +1,7 @@
 -- The output of a report.
 use Rattle.std.specs.Prelude.{◌≡◌, ℕ, Result, Ok, Err, List, ◌++◌, take}
-use Rattle.station_core.specs.Given.{Given}
-use Rattle.station_core.specs.Ends.{HasCause, NoneFailed, OneFailed}
-use Rattle.reports.specs.declared.fault.ReportCause.{ReportCause}
+use Rattle.cli_run.specs.Common.{Given, HasCause, NoneFailed, OneFailed, ReportCause, ReportFault}
 use Rattle.reports.specs.declared.fault.ReportCause.TheVariants as cause
-use Rattle.reports.specs.declared.fault.ReportFault.{ReportFault}
 use Rattle.cli_run.specs.declared.fault.RunFault.{RunFault}
 use Rattle.cli_run.specs.declared.fault.RunFault.TheVariants as fault
 use Rattle.cli_run.specs.Faults.{run_fault}

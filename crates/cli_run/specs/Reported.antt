@@ -1,7 +1,6 @@
 -- The output of a report, as the result of a command.
 use Rattle.std.specs.Prelude.{◌≡◌, Bool, true, false, Result, Ok, Err, OnOk, List, ℕ}
-use Rattle.station_core.specs.Keeping.{OnlyReads, Keeping}
-use Rattle.station_core.specs.Step.{State}
+use Rattle.cli_run.specs.Common.{OnlyReads, Keeping, State}
 use Rattle.cli_run.specs.declared.fault.RunFault.{RunFault}
 use Rattle.cli_run.specs.declared.fault.RunFault.TheVariants as fault
 use Rattle.cli_run.specs.Ends.{Printed}

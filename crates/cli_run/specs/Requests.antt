@@ -1,20 +1,6 @@
 -- Requests in the input of a command, and the answers to them.
 use Rattle.std.specs.Prelude.{◌≡◌, ℕ, ◌≤◌, Bool, false, List, [], ◌∷◌, ◌++◌, length, codes, decimal, Option, Some, None, IsUtf8}
-use Rattle.serde_json.specs.Data.{Data}
-use Rattle.serde_json.specs.Read.{read}
-use Rattle.station_days.specs.Date.{LocalMinute}
-use Rattle.imp_fields.specs.TextSize.{most_bytes}
-use Rattle.imp_fields.specs.declared.fault.TextFault.{TextFault}
-use Rattle.desk_commands.specs.Body.{IsBodyOf}
-use Rattle.desk_commands.specs.declared.command.Command.{Command}
-use Rattle.desk_commands.specs.declared.verb.Verb.{Verb}
-use Rattle.telegrams.specs.Meaning.{Meant, IsTelegram, telegram_fault, refusal_of}
-use Rattle.station_core.specs.declared.answer.Answer.{Answer}
-use Rattle.station_core.specs.declared.answer.Answer.TheVariants.{Done, Refused}
-use Rattle.station_core.specs.declared.input.Input.TheVariants.{Keyed, Wire}
-use Rattle.station_core.specs.Retries.{is_done}
-use Rattle.station_core.specs.Step.{State, step}
-use Rattle.station_core.specs.Texts.{reply_text, refusal_text}
+use Rattle.cli_run.specs.Common.{Data, read, LocalMinute, most_bytes, TextFault, IsBodyOf, Command, Verb, Meant, IsTelegram, telegram_fault, refusal_of, Answer, Done, Refused, Keyed, Wire, is_done, State, step, reply_text, refusal_text}
 use Rattle.cli_run.specs.declared.request.Request.{Request}
 use Rattle.cli_run.specs.declared.request.Request.TheVariants as asked
 

@@ -1,15 +1,6 @@
 -- Rows of a stock list: key, verb, prefix, serial, count and agent.
 use Rattle.std.specs.Prelude.{ℕ, ◌&&◌, ◌==◌, nat_le, if◌then◌else◌, Option, Some, None, List, [], ◌∷◌, length, codes}
-use Rattle.std.specs.Option.{option_map, option_and_then}
-use Rattle.std.specs.List.{list_all}
-use Rattle.std.specs.Str.{bytes_eq}
-use Rattle.awb_number.specs.Digits.{is_digit, decimal_value}
-use Rattle.awb_number.specs.Number.{key_of}
-use Rattle.agent_stock.specs.Code.{is_agent_code}
-use Rattle.agent_stock.specs.declared.stock.Run.{Run}
-use Rattle.agent_stock.specs.declared.stock.Order.{Order}
-use Rattle.agent_stock.specs.declared.stock.Order.TheVariants.{TakeIn, Issue, GiveBack, Void}
-use Rattle.station_core.specs.Key.{is_key}
+use Rattle.cli_run.specs.Common.{option_map, option_and_then, list_all, bytes_eq, is_digit, decimal_value, key_of, is_agent_code, Run, Order, TakeIn, Issue, GiveBack, Void, is_key}
 
 -- a number of `least` to `most` digits
 abbrev pub digits_of : ℕ → ℕ → List ℕ → Option ℕ

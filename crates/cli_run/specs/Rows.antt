@@ -1,10 +1,6 @@
 -- The rows of a stock list, and their inputs.
 use Rattle.std.specs.Prelude.{ℕ, decimal, List, ◌++◌, codes}
-use Rattle.csv.specs.Reading.{default_config, records, strip_bom}
-use Rattle.agent_stock.specs.declared.stock.Order.{Order}
-use Rattle.desk_commands.specs.declared.command.Command.TheVariants.{Stock}
-use Rattle.station_core.specs.declared.input.Input.{Input}
-use Rattle.station_core.specs.declared.input.Input.TheVariants.{Keyed}
+use Rattle.cli_run.specs.Common.{default_config, records, strip_bom, Order, Stock, Input, Keyed}
 
 abbrev pub Row : Type 0
 Row = List (List ℕ)

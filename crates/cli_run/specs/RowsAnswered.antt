@@ -1,9 +1,6 @@
 -- The effect of a row of a stock list.
 use Rattle.std.specs.Prelude.{◌≡◌, ℕ, Bool, true, Option, Some, None, Result, List}
-use Rattle.agent_stock.specs.declared.stock.Order.{Order}
-use Rattle.station_days.specs.Date.{LocalMinute}
-use Rattle.station_core.specs.Given.{Given}
-use Rattle.station_core.specs.Keeping.{Keeping}
+use Rattle.cli_run.specs.Common.{Order, LocalMinute, Given, Keeping}
 use Rattle.cli_run.specs.declared.fault.RunFault.{RunFault}
 use Rattle.cli_run.specs.declared.request.Request.TheVariants as asked
 use Rattle.cli_run.specs.Answered.{HasAnswered, HasToldUnread}

@@ -1,15 +1,6 @@
 -- The output of a dry run.
 use Rattle.std.specs.Prelude.{◌≡◌, ◌⊎◌, ℕ, Bool, false, not, Option, Some, None, List, [], ◌∷◌, ◌++◌}
-use Rattle.imp_fields.specs.TextSize.{most_bytes}
-use Rattle.imp_fields.specs.declared.fault.TextFault.{TextFault}
-use Rattle.shipment_machine.specs.declared.plans.Refusal.{Refusal}
-use Rattle.telegrams.specs.Meaning.{refusal_of}
-use Rattle.input_reasons.specs.Look.{IsLook, IsLookFault, has_doubt}
-use Rattle.input_reasons.specs.LookText.{look_text}
-use Rattle.input_reasons.specs.declared.look.Look.{Look}
-use Rattle.station_core.specs.Given.{Given}
-use Rattle.station_core.specs.Texts.{refusal_text}
-use Rattle.input_reasons.specs.Reason.{is_unread}
+use Rattle.cli_run.specs.Common.{most_bytes, TextFault, Refusal, refusal_of, IsLook, IsLookFault, has_doubt, look_text, Look, Given, refusal_text, is_unread}
 use Rattle.cli_run.specs.declared.fault.RunFault.{RunFault}
 use Rattle.cli_run.specs.declared.fault.RunFault.TheVariants as run_fault
 use Rattle.cli_run.specs.Faults.{IsReadersFault}

@@ -1,7 +1,6 @@
 -- A request on a broken station, which isn't called.
 use Rattle.std.specs.Prelude.{◌≡◌, ℕ, Bool, false, Option, Result, Ok, Err, List, [], ◌∷◌, ◌++◌, codes}
-use Rattle.station_core.specs.Given.{Given}
-use Rattle.station_core.specs.Texts.{refusal_text}
+use Rattle.cli_run.specs.Common.{Given, refusal_text}
 use Rattle.cli_run.specs.declared.fault.RunFault.{RunFault}
 use Rattle.cli_run.specs.declared.fault.RunFault.TheVariants as fault
 use Rattle.cli_run.specs.declared.request.Request.{Request}

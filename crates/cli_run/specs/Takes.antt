@@ -1,6 +1,6 @@
 -- The effect of several telegrams.
 use Rattle.std.specs.Prelude.{◌≡◌, Bool, List, Result, ℕ}
-use Rattle.station_core.specs.Given.{Given}
+use Rattle.cli_run.specs.Common.{Given}
 use Rattle.cli_run.specs.declared.fault.RunFault.{RunFault}
 use Rattle.cli_run.specs.declared.request.Request.{Request}
 use Rattle.cli_run.specs.Answered.{HasRunInput}

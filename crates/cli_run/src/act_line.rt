@@ -1,11 +1,7 @@
 //! Reading a line of `acts`.
 ghost use Rattle.std.specs.Prelude.{◌≡◌, List, ℕ, IfOk, IfSome, None, option_map};
-ghost use Rattle.std.specs.Option.{option_and_then};
-ghost use Rattle.desk_commands.specs.Body.{member_count};
+ghost use Rattle.cli_run.specs.Common.{option_and_then, member_count, Data, as_str, get, view};
 ghost use Rattle.desk_commands.specs.declared.verb.Verb.{Verb as AnyVerb};
-ghost use Rattle.serde_json.specs.Data.{Data};
-ghost use Rattle.serde_json.specs.Find.{as_str, get};
-ghost use Rattle.serde_json.specs.View.{view};
 ghost use Rattle.cli_run.specs.ActLine.{Asks, IsActAsked, IsFrame, IsWired, IsWritten};
 
 use crate::request::Request;

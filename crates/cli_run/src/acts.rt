@@ -1,6 +1,6 @@
 //! Commands and telegrams, one a line.
 ghost use Rattle.std.specs.Prelude.{◌≡◌, ◌<◌, Err, IfOk};
-ghost use Rattle.std.specs.Io.Buffered.{reader_remaining};
+ghost use Rattle.cli_run.specs.Common.{reader_remaining};
 ghost use Rattle.cli_run.specs.Ends.{call};
 ghost use Rattle.cli_run.specs.Faults.{IsReadersFault, IsReadToEnd};
 ghost use Rattle.cli_run.specs.InTurn.{HaveBeenAnswered, kept_lines};

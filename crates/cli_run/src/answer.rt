@@ -1,9 +1,8 @@
 //! Answers to the input of a command.
 ghost use Rattle.std.specs.Prelude.{◌≡◌, ◌++◌, ◌∷◌, [], true, false, IfOk, codes, decimal, string_bytes};
-ghost use Rattle.station_core.specs.Texts.{refusal_text};
+ghost use Rattle.cli_run.specs.Common.{refusal_text, is_unread};
 ghost use Rattle.cli_run.specs.Ends.{call};
 ghost use Rattle.cli_run.specs.Requests.{answer_text, keyed, named, numbered};
-ghost use Rattle.input_reasons.specs.Reason.{is_unread};
 ghost use Rattle.cli_run.specs.Answered.{HasAnswered, HasToldUnread};
 ghost use Rattle.cli_run.specs.Explained.{line_head, reason_head};
 

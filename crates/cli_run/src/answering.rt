@@ -1,6 +1,6 @@
 //! The desk that answers the inputs of a command line: a station, or a service.
 ghost use Rattle.std.specs.Prelude.{◌≡◌, ℕ, Bool, Err, List, None, Option, Result};
-ghost use Rattle.csv.specs.Records.{fields_of};
+ghost use Rattle.cli_run.specs.Common.{fields_of};
 ghost use Rattle.desk_commands.specs.declared.verb.Verb.{Verb as AnyVerb};
 ghost use Rattle.cli_run.specs.declared.fault.RunFault.{RunFault as Fault};
 ghost use Rattle.cli_run.specs.RowsAnswered.{HasAnsweredRow};

@@ -1,6 +1,6 @@
 //! Reading a list line by line, so that the line of each record is known.
 ghost use Rattle.std.specs.Prelude.{◌≡◌, ◌<◌, IfOk};
-ghost use Rattle.std.specs.Io.Buffered.{reader_remaining};
+ghost use Rattle.cli_run.specs.Common.{reader_remaining};
 
 use csv::ByteRecord;
 use std::alloc::{AllocError, Global};

@@ -1,6 +1,6 @@
 //! Faults of a run.
 ghost use Rattle.std.specs.Prelude.{◌≡◌};
-ghost use Rattle.csv.specs.Reading.{error_kind};
+ghost use Rattle.cli_run.specs.Common.{error_kind};
 ghost use Rattle.cli_run.specs.Faults.{reader_fault, run_fault, told_by};
 
 use csv::{Error, ErrorKind};

@@ -1,10 +1,5 @@
 ghost use Rattle.std.specs.Prelude.{◌≡◌, ◌↔◌, ◌<◌, true};
-ghost use Rattle.std.specs.Io.{ReadsAtMost};
-ghost use Rattle.std.specs.Io.KnownBytes.{ReadConsumes};
-ghost use Rattle.station_core.specs.Ends.{ReadStep};
-ghost use Rattle.station_core.specs.Given.{nothing_given};
-ghost use Rattle.station_core.specs.Counted.{given_of, inner_of};
-ghost use Rattle.station_core.specs.declared.ends.Counted.{Counted};
+ghost use Rattle.cli_run.specs.Common.{ReadsAtMost, ReadConsumes, ReadStep, nothing_given, given_of, inner_of, Counted};
 
 use crate::inputs::{Inputs, Watched};
 use station_core::{ByteIn, Counted, InputReader, ReadFault};

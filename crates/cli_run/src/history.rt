@@ -1,6 +1,6 @@
 //! Histories of waybills.
 ghost use Rattle.std.specs.Prelude.{◌≡◌, Err, Some};
-ghost use Rattle.station_core.specs.Keeping.{IfSound, IfWorks, OnlyReads, StaysInService};
+ghost use Rattle.cli_run.specs.Common.{IfSound, IfWorks, OnlyReads, StaysInService};
 ghost use Rattle.cli_run.specs.History.{HasReadHistory, HasToldHistory};
 
 use crate::fault::{RunFault, keeper_fault};

@@ -1,8 +1,6 @@
 //! Reading a line of `acts`, as far as it is kept.
 ghost use Rattle.std.specs.Prelude.{◌≡◌, ◌≢◌, ◌≤◌, ◌<◌, ◌+◌, ◌++◌, List, ℕ, All, length, true, false, IfOk, IfSome, OnSome, Some};
-ghost use Rattle.std.specs.Io.{IsEmptyOrEndsWith, StopsAt};
-ghost use Rattle.std.specs.Io.BufRead.{drop_through, take_through};
-ghost use Rattle.std.specs.Io.KnownBytes.{Consumes, IsAtEnd};
+ghost use Rattle.cli_run.specs.Common.{IsEmptyOrEndsWith, StopsAt, drop_through, take_through, Consumes, IsAtEnd};
 ghost use Rattle.cli_run.specs.ActLine.{kept, most_line};
 
 use input_reasons::MOST_LINE;

@@ -1,7 +1,6 @@
 //! Laws about stock lists, the lines of `acts` together, and the inputs of each command.
 ghost use Rattle.std.specs.Prelude.{◌≡◌, ℕ, Bool, false, List, Result, map};
-ghost use Rattle.station_days.specs.Date.{LocalMinute};
-ghost use Rattle.station_core.specs.Step.{State};
+ghost use Rattle.cli_run.specs.Common.{LocalMinute, State};
 ghost use Rattle.cli_run.specs.ListLaw.{HasRunList};
 ghost use Rattle.cli_run.specs.Rows.{Row};
 ghost use Rattle.cli_run.specs.RowsAnswered.{HasAnsweredRow};

@@ -1,10 +1,7 @@
 //! Look-ups of numbers.
 ghost use Rattle.std.specs.Prelude.{◌≡◌, ◌++◌, ◌∷◌, [], false, Err, IfOk, OnOk, Some, None};
 ghost use Rattle.std.specs.Prelude.{option_map, string_bytes};
-ghost use Rattle.serde_json.specs.Data.{Data};
-ghost use Rattle.serde_json.specs.Written.{compact_text};
-ghost use Rattle.http_desk.specs.Reply.{holder_data, waybill_data};
-ghost use Rattle.station_core.specs.Keeping.{StaysInService};
+ghost use Rattle.cli_run.specs.Common.{Data, compact_text, holder_data, waybill_data, StaysInService};
 ghost use Rattle.cli_run.specs.Looked.{holder_found, waybill_found, HasLookedUp, HasToldFound};
 
 use crate::fault::{RunFault, keeper_fault};

@@ -1,6 +1,6 @@
 //! Reading the input of a command.
 ghost use Rattle.std.specs.Prelude.{◌≡◌, ◌⊎◌, ◌+◌, ◌<◌, true, Err, IfOk, IfErr, OnOk};
-ghost use Rattle.imp_fields.specs.TextSize.{most_bytes};
+ghost use Rattle.cli_run.specs.Common.{most_bytes};
 ghost use Rattle.cli_run.specs.Faults.{IsReadersFault};
 ghost use Rattle.cli_run.specs.Came.{HasGrown, HasCome, HasFailed, IsWithin, most_come, most_read};
 

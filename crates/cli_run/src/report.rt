@@ -1,7 +1,6 @@
 //! Reports.
 ghost use Rattle.std.specs.Prelude.{◌≡◌};
-ghost use Rattle.station_core.specs.Keeping.{StaysInService};
-ghost use Rattle.reports.specs.Listings.{IsListing};
+ghost use Rattle.cli_run.specs.Common.{StaysInService, IsListing};
 ghost use Rattle.cli_run.specs.Reported.{good_of, HasReportedGood, HasToldReport};
 ghost use Rattle.cli_run.specs.Report.{cause_fault, run_ended};
 

@@ -1,5 +1,5 @@
 ghost use Rattle.std.specs.Prelude.{◌≡◌, ◌^◌, ◌<◌, ◌≤◌, length, Some, IfSome};
-ghost use Rattle.csv.specs.Records.{fields_of, field_at};
+ghost use Rattle.cli_run.specs.Common.{fields_of, field_at};
 ghost use Rattle.cli_run.specs.Row.{digits_of, run_of, order_of, asked_by, row_asks};
 
 use agent_stock::{AgentCode, Order, Run, RunCount};

@@ -1,7 +1,6 @@
 //! The rows of a stock list, one after another.
 ghost use Rattle.std.specs.Prelude.{◌≡◌, ◌<◌, true, Err, IfOk, OnOk, string_bytes};
-ghost use Rattle.csv.specs.Records.{fields_of};
-ghost use Rattle.input_reasons.specs.Reason.{HasReason, numbered_head};
+ghost use Rattle.cli_run.specs.Common.{fields_of, HasReason, numbered_head};
 ghost use Rattle.cli_run.specs.Ends.{call};
 ghost use Rattle.cli_run.specs.Answered.{HasToldUnread};
 ghost use Rattle.cli_run.specs.Faults.{IsReadToEnd};

@@ -1,6 +1,6 @@
 //! Running a command over its station.
 ghost use Rattle.std.specs.Prelude.{◌≡◌, false, None, OnOk};
-ghost use Rattle.station_core.specs.Keeping.{StaysInService};
+ghost use Rattle.cli_run.specs.Common.{StaysInService};
 ghost use Rattle.cli_run.specs.Rows.{stock_rows};
 ghost use Rattle.cli_run.specs.RowsAnswered.{HasAnsweredRow};
 ghost use Rattle.cli_run.specs.Ends.{call, ends, reached};

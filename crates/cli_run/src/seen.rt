@@ -1,10 +1,7 @@
 //! Dry runs of telegrams.
 ghost use Rattle.std.specs.Prelude.{◌≡◌, ◌⊎◌, ◌++◌, ◌∷◌, [], None, Some, false, not, Err, IfOk, IfErr, OnOk, OnErr, string_bytes};
-ghost use Rattle.station_core.specs.Texts.{refusal_text};
-ghost use Rattle.station_core.specs.Ends.{NoneFailed};
+ghost use Rattle.cli_run.specs.Common.{refusal_text, NoneFailed, has_doubt, look_text};
 ghost use Rattle.cli_run.specs.Faults.{TellsWriting, WriteHasCause};
-ghost use Rattle.input_reasons.specs.Look.{has_doubt};
-ghost use Rattle.input_reasons.specs.LookText.{look_text};
 ghost use Rattle.cli_run.specs.Came.{HasFailed, IsWithin, most_come};
 ghost use Rattle.cli_run.specs.Ended.{HasToldPart};
 ghost use Rattle.cli_run.specs.Explained.{telegram_head, HasToldWhy};

@@ -1,6 +1,6 @@
 //! Lines written in parts.
 ghost use Rattle.std.specs.Prelude.{◌≡◌, ◌++◌, ◌∷◌, [], IfErr, OnErr, OnOk};
-ghost use Rattle.station_core.specs.Ends.{HasCause, HasSent, NoneFailed, SendsLine};
+ghost use Rattle.cli_run.specs.Common.{HasCause, HasSent, NoneFailed, SendsLine};
 
 use crate::fault::RunFault;
 use station_core::{ByteOut, send};

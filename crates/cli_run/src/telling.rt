@@ -1,6 +1,6 @@
 //! Reasons on standard error why an input can't be read.
 ghost use Rattle.std.specs.Prelude.{codes};
-ghost use Rattle.input_reasons.specs.Reason.{HasReason, is_unread};
+ghost use Rattle.cli_run.specs.Common.{HasReason, is_unread};
 ghost use Rattle.cli_run.specs.Explained.{answered_unread, line_head, reason_head, HasToldWhy};
 
 use crate::request::Request;

@@ -1,7 +1,6 @@
 -- Questions in several tries.
 use Rattle.std.specs.Prelude.{◌≡◌, ◌⊎◌, ℕ, ◌+◌, Bool, true, false, List, Result, Ok, Err}
-use Rattle.station_core.specs.Given.{Given}
-use Rattle.cli_run.specs.Ends.{call, Call}
+use Rattle.desk_client.specs.Common.{Given, call, Call}
 use Rattle.desk_client.specs.Try.{HasAsked}
 use Rattle.desk_client.specs.Count.{one_more}
 use Rattle.desk_client.specs.declared.ask.Response.{Response}

@@ -1,6 +1,6 @@
 -- The bytes received of an answer.
 use Rattle.std.specs.Prelude.{◌≡◌, ℕ, List, ◌++◌, Result, Ok, Err, ⊤}
-use Rattle.station_core.specs.Given.{Given}
+use Rattle.desk_client.specs.Common.{Given}
 use Rattle.desk_client.specs.declared.ask.AskFault.{AskFault}
 use Rattle.desk_client.specs.declared.ask.AskFault.TheVariants as fault
 

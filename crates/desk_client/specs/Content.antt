@@ -1,10 +1,6 @@
 -- The content of an answer to a command or a telegram.
 use Rattle.std.specs.Prelude.{◌≡◌, ◌==◌, ◌&&◌, ◌||◌, ℕ, ◌^◌, nat_lt, List, [], ◌∷◌, ◌++◌, codes, decimal, Option, Some, None, option_map, option_and_then, if◌then◌else◌, string_bytes, IsUtf8}
-use Rattle.std.specs.Str.{bytes_eq}
-use Rattle.station_days.specs.Steps.{where_true}
-use Rattle.serde_json.specs.Data.{Data}
-use Rattle.serde_json.specs.Find.{get, as_number, as_u64, as_str}
-use Rattle.serde_json.specs.Read.{read}
+use Rattle.desk_client.specs.Common.{bytes_eq, where_true, Data, get, as_number, as_u64, as_str, read}
 use Rattle.desk_client.specs.declared.content.Content.{Content}
 use Rattle.desk_client.specs.declared.content.Content.TheVariants as content
 

@@ -2,24 +2,14 @@
 use Rattle.std.specs.Prelude.{◌≡◌, ℕ, Bool, true, List, [], ◌++◌, length, None, Option, Result, Ok, Some}
 use Rattle.reports.specs.declared.listing.Listing.TheVariants as listing
 use Rattle.reports.specs.declared.report.Report.TheVariants as report
-use Rattle.station_core.specs.Given.{Given}
-use Rattle.cli_run.specs.declared.fault.RunFault.{RunFault}
-use Rattle.cli_run.specs.Ends.{Call}
-use Rattle.cli_run.specs.Faults.{IsReadToEnd}
-use Rattle.cli_run.specs.InTurn.{HaveBeenAnswered, kept_lines, HaveBeenMade}
-use Rattle.cli_run.specs.Rows.{stock_rows}
-use Rattle.cli_words.specs.declared.line.LineCommand.{LineCommand}
+use Rattle.desk_client.specs.Common.{Given, RunFault, Call, IsReadToEnd, HaveBeenAnswered, kept_lines, HaveBeenMade, stock_rows, LineCommand, HasRunInput, IsCommandAsked, HasTakenNext, rows_path}
 use Rattle.cli_words.specs.declared.line.LineCommand.TheVariants as command
-use Rattle.cli_run.specs.Answered.{HasRunInput}
-use Rattle.cli_run.specs.Requests.{IsCommandAsked}
-use Rattle.cli_run.specs.Takes.{HasTakenNext}
 use Rattle.desk_client.specs.Again.{talked, Talk}
 use Rattle.desk_client.specs.ListRows.{HasAnsweredRow}
 use Rattle.desk_client.specs.Looks.{shown, Shown, HasAskedRows, HasLooked, HasShownFound, history_look, object_look}
 use Rattle.desk_client.specs.Posted.{HasAnsweredLine}
 use Rattle.desk_client.specs.Ran.{HasAnsweredText}
 use Rattle.desk_client.specs.Request.{get_request, history_path, holder_path, most_answer, most_row_bytes, waybill_path}
-use Rattle.http_desk.specs.Paths.{rows_path}
 
 abbrev pub shown_at : {S E : Type 0} → (S → Talk) → Call S E → Shown
 shown_at talk c = shown (talk c.keeper) c.sent

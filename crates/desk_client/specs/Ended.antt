@@ -1,11 +1,6 @@
 -- The end of a report: the line with the number of its rows, or the end of the JSON object.
 use Rattle.std.specs.Prelude.{◌==◌, ◌||◌, ◌&&◌, ◌-◌, ℕ, Bool, false, nat_lt, List, [], ◌∷◌, length, take, drop, reverse, codes, Option, Some, None, if◌then◌else◌}
-use Rattle.std.specs.List.{ends_with}
-use Rattle.std.specs.Cmp.Lexicographic.{pointwise}
-use Rattle.std.specs.Str.{bytes_eq}
-use Rattle.station_days.specs.Steps.{where_true}
-use Rattle.awb_number.specs.Digits.{is_digit}
-use Rattle.reports.specs.declared.form.Form.{Form}
+use Rattle.desk_client.specs.Common.{ends_with, pointwise, bytes_eq, where_true, is_digit, Form}
 use Rattle.reports.specs.declared.form.Form.TheVariants as form
 
 -- the text after the leading digits

@@ -1,6 +1,6 @@
 -- The prefix of a report that can be printed before the rest is received.
 use Rattle.std.specs.Prelude.{◌≡◌, ◌≤◌, ℕ, ◌+◌, ◌-◌, false, List, [], ◌∷◌, ◌++◌, drop, length, take}
-use Rattle.reports.specs.declared.form.Form.{Form}
+use Rattle.desk_client.specs.Common.{Form}
 use Rattle.reports.specs.declared.form.Form.TheVariants as form
 use Rattle.desk_client.specs.Ended.{has_end}
 use Rattle.desk_client.specs.Whole.{IsReport}

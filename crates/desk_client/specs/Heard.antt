@@ -1,19 +1,8 @@
 -- The line in an answer, and its effect.
 use Rattle.std.specs.Prelude.{◌≡◌, ◌⊎◌, ℕ, Bool, true, false, List, [], ◌∷◌, ◌++◌, drop, codes, string_bytes, Option, Result, Ok, Err}
-use Rattle.std.specs.Str.{bytes_eq}
-use Rattle.station_core.specs.Given.{Given}
-use Rattle.station_core.specs.declared.input.Input.{Input}
-use Rattle.station_core.specs.declared.input.Input.TheVariants.{Keyed, Wire}
-use Rattle.cli_run.specs.declared.fault.RunFault.{RunFault}
+use Rattle.desk_client.specs.Common.{bytes_eq, Given, Input, Keyed, Wire, RunFault, is_unread, Request, named, HasToldPart, reason_head, HasGivenReason, HasToldWhy, Call, IsAnsweredShut}
 use Rattle.cli_run.specs.declared.fault.RunFault.TheVariants as fault
-use Rattle.input_reasons.specs.Reason.{is_unread}
-use Rattle.cli_run.specs.declared.request.Request.{Request}
 use Rattle.cli_run.specs.declared.request.Request.TheVariants as asked
-use Rattle.cli_run.specs.Requests.{named}
-use Rattle.cli_run.specs.Ended.{HasToldPart}
-use Rattle.cli_run.specs.Explained.{reason_head, HasGivenReason, HasToldWhy}
-use Rattle.cli_run.specs.Ends.{Call}
-use Rattle.cli_run.specs.Shut.{IsAnsweredShut}
 use Rattle.desk_client.specs.Again.{Talk, IsAnswered}
 use Rattle.desk_client.specs.Content.{HasContent}
 use Rattle.desk_client.specs.declared.ask.Response.{Response}

@@ -1,10 +1,7 @@
 -- The line in a reply.
 use Rattle.std.specs.Prelude.{ℕ, ◌<◌, ◌^◌, List, Option, None, ⊤}
-use Rattle.shipment_machine.specs.declared.plans.Detail.{Detail}
+use Rattle.desk_client.specs.Common.{Detail, Answer, Done, Refused, Reply, history_reply, json_reply, look_reply, report_reply}
 use Rattle.shipment_machine.specs.declared.plans.Detail.TheVariants as detail
-use Rattle.station_core.specs.declared.answer.Answer.{Answer}
-use Rattle.station_core.specs.declared.answer.Answer.TheVariants.{Done, Refused}
-use Rattle.http_desk.specs.Reply.{Reply, history_reply, json_reply, look_reply, report_reply}
 use Rattle.desk_client.specs.Content.{told_line}
 
 abbrev pub reply_line : Reply → Option (List ℕ)

@@ -1,3 +1,4 @@
+pub mod Common
 pub mod Request
 pub mod Came
 pub mod Ended

@@ -1,18 +1,7 @@
 -- The effect of a stock list's rows.
 use Rattle.std.specs.Prelude.{◌≡◌, ◌⊎◌, ℕ, Bool, List, Option, Some, None, Result, Err}
-use Rattle.serde_json.specs.Written.{compact_text}
-use Rattle.agent_stock.specs.declared.stock.Order.{Order}
-use Rattle.desk_commands.specs.Command.{order_verb}
-use Rattle.desk_commands.specs.Verb.{word}
-use Rattle.desk_commands.specs.declared.command.Command.TheVariants.{Stock}
-use Rattle.http_desk.specs.Request.{IsSaid}
-use Rattle.station_core.specs.Given.{Given}
-use Rattle.cli_run.specs.declared.fault.RunFault.{RunFault}
+use Rattle.desk_client.specs.Common.{compact_text, Order, order_verb, word, Stock, IsSaid, Given, RunFault, input_of, Row, HasToldBadRow, row_asks, Call}
 use Rattle.cli_run.specs.declared.fault.RunFault.TheVariants as fault
-use Rattle.cli_run.specs.Rows.{input_of, Row}
-use Rattle.cli_run.specs.RowsAnswered.{HasToldBadRow}
-use Rattle.cli_run.specs.Row.{row_asks}
-use Rattle.cli_run.specs.Ends.{Call}
 use Rattle.desk_client.specs.Again.{Talk}
 use Rattle.desk_client.specs.Heard.{HasAnsweredInput}
 use Rattle.desk_client.specs.Orders.{order_data}

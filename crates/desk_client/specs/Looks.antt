@@ -1,13 +1,6 @@
 -- Reports and look-ups with a service.
 use Rattle.std.specs.Prelude.{◌≡◌, ◌⊎◌, ◌==◌, ◌&&◌, ◌||◌, ℕ, Bool, true, false, List, [], ◌∷◌, ◌++◌, codes, is_some, Option, Some, None, Result, Ok, Err, option_and_then, ⊤}
-use Rattle.std.specs.List.{list_all}
-use Rattle.std.specs.Str.{bytes_eq}
-use Rattle.awb_number.specs.Number.{number_text}
-use Rattle.imp_fields.specs.Characters.{is_printable}
-use Rattle.reports.specs.declared.form.Form.{Form}
-use Rattle.station_core.specs.Ends.{HasCause, HasSent}
-use Rattle.station_core.specs.Given.{Given}
-use Rattle.cli_run.specs.declared.fault.RunFault.{RunFault}
+use Rattle.desk_client.specs.Common.{list_all, bytes_eq, number_text, is_printable, Form, HasCause, HasSent, Given, RunFault}
 use Rattle.cli_run.specs.declared.fault.RunFault.TheVariants as fault
 use Rattle.desk_client.specs.Again.{Talk, IsAnswered, IsAskedUntil}
 use Rattle.desk_client.specs.Ended.{behind, ends_in}

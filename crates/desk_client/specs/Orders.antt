@@ -1,16 +1,6 @@
 -- The JSON body of a stock order.
 use Rattle.std.specs.Prelude.{◌≡◌, ℕ, List, codes, Some}
-use Rattle.serde_json.specs.Data.{Data, number, unsigned, string, object, member, no_members}
-use Rattle.serde_json.specs.Read.{read}
-use Rattle.serde_json.specs.Written.{compact_text}
-use Rattle.awb_number.specs.Digits.{padded}
-use Rattle.awb_number.specs.Number.{prefix_of, serial_of}
-use Rattle.agent_stock.specs.declared.stock.Run.{Run}
-use Rattle.agent_stock.specs.declared.stock.Order.{Order}
-use Rattle.agent_stock.specs.declared.stock.Order.TheVariants.{TakeIn, Issue, GiveBack, Void}
-use Rattle.desk_commands.specs.Body.{IsBodyOf}
-use Rattle.desk_commands.specs.Command.{order_verb}
-use Rattle.desk_commands.specs.declared.command.Command.TheVariants.{Stock}
+use Rattle.desk_client.specs.Common.{Data, number, unsigned, string, object, member, no_members, read, compact_text, padded, prefix_of, serial_of, Run, Order, TakeIn, Issue, GiveBack, Void, IsBodyOf, order_verb, Stock}
 
 -- the count, and the prefix and the serial of the first number
 abbrev pub run_object : ℕ → List ℕ → List ℕ → Data

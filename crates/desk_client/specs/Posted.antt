@@ -1,15 +1,6 @@
 -- The content of a line of `acts` for a service.
 use Rattle.std.specs.Prelude.{◌≡◌, ◌⊎◌, ◌≤◌, ℕ, Bool, false, List, Option, Some, None, Result, string_bytes}
-use Rattle.serde_json.specs.Data.{Data, depth}
-use Rattle.serde_json.specs.Read.{read, max_depth}
-use Rattle.desk_commands.specs.Verb.{word}
-use Rattle.desk_commands.specs.declared.verb.Verb.{Verb}
-use Rattle.station_core.specs.Given.{Given}
-use Rattle.cli_run.specs.declared.fault.RunFault.{RunFault}
-use Rattle.cli_run.specs.ActLine.{IsActAsked, IsFrame, IsWired, IsWritten}
-use Rattle.cli_run.specs.Acts.{is_blank, HasNotHeard, HasSkipped}
-use Rattle.cli_run.specs.declared.request.Request.{Request}
-use Rattle.cli_run.specs.Ends.{Call}
+use Rattle.desk_client.specs.Common.{Data, depth, read, max_depth, word, Verb, Given, RunFault, IsActAsked, IsFrame, IsWired, IsWritten, is_blank, HasNotHeard, HasSkipped, Request, Call}
 use Rattle.desk_client.specs.Again.{Talk}
 use Rattle.desk_client.specs.Heard.{HasAnswered}
 use Rattle.desk_client.specs.Request.{command_request, most_answer, telegram_request}

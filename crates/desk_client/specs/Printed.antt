@@ -1,12 +1,8 @@
 -- Reports printed as they arrive.
 use Rattle.std.specs.Prelude.{◌≡◌, ◌⊎◌, ◌<◌, ◌≤◌, ℕ, Bool, true, false, List, [], ◌∷◌, ◌++◌, drop, length, Result, Ok, Err, ⊤}
-use Rattle.station_core.specs.Ends.{HasCause, HasSent, NoneFailed}
-use Rattle.station_core.specs.Given.{Given}
-use Rattle.cli_run.specs.declared.fault.RunFault.{RunFault}
+use Rattle.desk_client.specs.Common.{HasCause, HasSent, NoneFailed, Given, RunFault, Form, HasFailed, HasGrown}
 use Rattle.cli_run.specs.declared.fault.RunFault.TheVariants as run
-use Rattle.reports.specs.declared.form.Form.{Form}
 use Rattle.desk_client.specs.Again.{Talk}
-use Rattle.cli_run.specs.Came.{HasFailed, HasGrown}
 use Rattle.desk_client.specs.Ended.{has_end}
 use Rattle.desk_client.specs.Front.{mark_of, IsFront}
 use Rattle.desk_client.specs.Heard.{body_of, service_fault}

@@ -1,10 +1,6 @@
 -- The effect of a request that is sent to a service.
 use Rattle.std.specs.Prelude.{Bool, List, None, Option, Result, ℕ}
-use Rattle.desk_commands.specs.declared.verb.Verb.{Verb}
-use Rattle.station_core.specs.Given.{Given}
-use Rattle.cli_run.specs.declared.fault.RunFault.{RunFault}
-use Rattle.cli_run.specs.Ends.{Call}
-use Rattle.cli_run.specs.declared.request.Request.{Request}
+use Rattle.desk_client.specs.Common.{Verb, Given, RunFault, Call, Request}
 use Rattle.desk_client.specs.Again.{talked, Talk}
 use Rattle.desk_client.specs.Heard.{HasAnswered}
 use Rattle.desk_client.specs.Posted.{request_by}

@@ -1,8 +1,6 @@
 -- A desk's reading of a request.
 use Rattle.std.specs.Prelude.{◌≡◌, ℕ, Option, List, drop, length}
-use Rattle.httparse.specs.Grammar.{RequestHead, print_request}
-use Rattle.http_desk.specs.Request.{HeadAsks, head_asks, key_of}
-use Rattle.http_desk.specs.Answer.{head_of, HasHead}
+use Rattle.desk_client.specs.Common.{RequestHead, print_request, HeadAsks, head_asks, key_of, head_of, HasHead}
 
 -- the bytes begin with a head of this request and this key, and this body follows
 pub record IsRead (bytes : List ℕ) (asks : HeadAsks) (key : Option (List ℕ)) (body : List ℕ) : Type 0 where

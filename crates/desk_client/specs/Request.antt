@@ -1,10 +1,6 @@
 -- The bytes sent for a question.
 use Rattle.std.specs.Prelude.{ℕ, List, [], ◌++◌, length, codes, decimal}
-use Rattle.awb_number.specs.Number.{number_text}
-use Rattle.desk_commands.specs.Verb.{word}
-use Rattle.http_desk.specs.Paths.{rows_path, segments}
-use Rattle.http_desk.specs.Routes.{gets, got_history, got_holder, got_waybill}
-use Rattle.http_desk.specs.Segments.{path_text}
+use Rattle.desk_client.specs.Common.{number_text, word, rows_path, segments, gets, got_history, got_holder, got_waybill, path_text}
 use Rattle.desk_client.specs.declared.question.Question.{Question}
 use Rattle.desk_client.specs.declared.question.Question.TheVariants as question
 

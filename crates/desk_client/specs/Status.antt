@@ -1,6 +1,6 @@
 -- The exit status of a call to a service, and its fault line.
 use Rattle.std.specs.Prelude.{ℕ, ◌==◌, Bool, true, false, List, [], ◌∷◌, ◌++◌, codes, decimal, Option, Some, None, Result, Ok, Err, if◌then◌else◌}
-use Rattle.cli_run.specs.declared.fault.RunFault.{RunFault}
+use Rattle.desk_client.specs.Common.{RunFault}
 use Rattle.cli_run.specs.declared.fault.RunFault.TheVariants as fault
 use Rattle.desk_client.specs.declared.ask.AskFault.{AskFault}
 use Rattle.desk_client.specs.declared.ask.AskFault.TheVariants as vain

@@ -1,9 +1,6 @@
 -- The effect of one question over one connection.
 use Rattle.std.specs.Prelude.{◌≡◌, ◌≤◌, ◌<◌, ℕ, Bool, true, List, [], ◌++◌, drop, length, take, Option, Some, None, Result, Ok, Err, ⊤}
-use Rattle.reports.specs.declared.form.Form.{Form}
-use Rattle.station_core.specs.Given.{Given}
-use Rattle.station_core.specs.Ends.{HasCause}
-use Rattle.cli_run.specs.Came.{HasCome, HasFailed, HasGrown}
+use Rattle.desk_client.specs.Common.{Form, Given, HasCause, HasCome, HasFailed, HasGrown}
 use Rattle.desk_client.specs.Front.{IsBegun}
 use Rattle.desk_client.specs.Request.{most_row_bytes}
 use Rattle.desk_client.specs.Whole.{IsCutShort, IsNeverWhole, IsNotWhole, IsWhole}

@@ -1,11 +1,6 @@
 -- Whole answers.
 use Rattle.std.specs.Prelude.{◌≡◌, ◌⊎◌, ◌≤◌, ◌<◌, ◌==◌, ◌||◌, ℕ, Bool, true, false, Option, Some, None, List, [], ◌∷◌, ◌++◌, drop, length, map, codes}
-use Rattle.httparse.specs.Grammar.{ResponseHead, ReadsResponse, HasNoResponse, MayBecomeResponse, status_code}
-use Rattle.httparse.specs.Spans.{name_and_value}
-use Rattle.http_desk.specs.Digits.{number_told}
-use Rattle.http_desk.specs.Reply.{media_type}
-use Rattle.http_desk.specs.Request.{values_of}
-use Rattle.reports.specs.declared.form.Form.{Form}
+use Rattle.desk_client.specs.Common.{ResponseHead, ReadsResponse, HasNoResponse, MayBecomeResponse, status_code, name_and_value, number_told, media_type, values_of, Form}
 use Rattle.reports.specs.declared.form.Form.TheVariants as form
 use Rattle.desk_client.specs.Ended.{behind, has_end}
 use Rattle.desk_client.specs.declared.whole.Extent.{Extent}

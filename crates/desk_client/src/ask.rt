@@ -4,7 +4,7 @@ ghost use Rattle.desk_client.specs.Try.{by_time, HasAsked, HasRead, HasSent, Has
 ghost use Rattle.desk_client.specs.Again.{is_vain, last_of, talk, Talk, IsRefusedOrTalked, HasTried, HasTriedTwice, HasTriedThrice, IsAnswered};
 ghost use Rattle.desk_client.specs.Looks.{shown, HasAskedRows};
 ghost use Rattle.desk_client.specs.Request.{most_of, request_of};
-ghost use Rattle.http_desk.specs.Paths.{rows_path};
+ghost use Rattle.desk_client.specs.Common.{rows_path};
 
 use crate::connect::{Connect, LastTry, RemoteDesk};
 use crate::front::begun_in;

@@ -1,6 +1,6 @@
 //! The line in an answer, as the command line prints it.
 ghost use Rattle.std.specs.Prelude.{◌≡◌, IfOk, option_map, string_bytes, Some, None};
-ghost use Rattle.serde_json.specs.View.{view};
+ghost use Rattle.desk_client.specs.Common.{view};
 ghost use Rattle.desk_client.specs.Content.{count_told, ok_line, refused_line, refusal_told, told_line, HasContent};
 
 use serde_json::Value;

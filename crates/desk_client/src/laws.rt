@@ -1,25 +1,11 @@
 //! Laws of the lines, and of whole answers.
 ghost use Rattle.std.specs.Prelude.{◌≡◌, ◌⊎◌, ◌++◌, ◌≤◌, [], ℕ, List, Some, None, length, true, false};
-ghost use Rattle.station_core.specs.declared.answer.Answer.{Answer};
-ghost use Rattle.cli_run.specs.Requests.{answer_text};
-ghost use Rattle.http_desk.specs.Reply.{answer_reply};
+ghost use Rattle.desk_client.specs.Common.{Answer, answer_text, answer_reply, number_of, number_text, IsNumber, word, Verb, looks_up, sends, most_bytes, IsListed, report_path, rows_path, Form, Listing, Report, as_text, in_form, posted_command, posted_telegram, got_history, got_holder, got_report, got_waybill, is_key};
 ghost use Rattle.desk_client.specs.Law.{HasFew, reply_line};
 ghost use Rattle.desk_client.specs.Ended.{has_end};
 ghost use Rattle.desk_client.specs.Whole.{IsCutShort, IsReport, IsWhole};
 ghost use Rattle.desk_client.specs.Read.{IsRead};
 ghost use Rattle.desk_client.specs.Request.{command_head, telegram_head, get_request, history_path, holder_path, waybill_path};
-ghost use Rattle.awb_number.specs.Number.{number_of, number_text, IsNumber};
-ghost use Rattle.desk_commands.specs.Verb.{word};
-ghost use Rattle.desk_commands.specs.declared.verb.Verb.{Verb};
-ghost use Rattle.http_desk.specs.Request.{looks_up, sends};
-ghost use Rattle.imp_fields.specs.TextSize.{most_bytes};
-ghost use Rattle.http_desk.specs.Paths.{IsListed, report_path, rows_path};
-ghost use Rattle.reports.specs.declared.form.Form.{Form};
-ghost use Rattle.reports.specs.declared.listing.Listing.{Listing};
-ghost use Rattle.reports.specs.declared.report.Report.{Report};
-ghost use Rattle.http_desk.specs.Printouts.{as_text, in_form};
-ghost use Rattle.http_desk.specs.Routes.{posted_command, posted_telegram, got_history, got_holder, got_report, got_waybill};
-ghost use Rattle.station_core.specs.Key.{is_key};
 
 /// The reply of a desk to an input has the line that the command line prints for the same answer.
 pub fn lines_law()

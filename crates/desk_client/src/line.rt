@@ -1,7 +1,6 @@
 //! The line of an answer.
 ghost use Rattle.std.specs.Prelude.{◌≡◌, Err};
-ghost use Rattle.cli_run.specs.Explained.{reason_head, HasToldWhy};
-ghost use Rattle.cli_run.specs.Ends.{call};
+ghost use Rattle.desk_client.specs.Common.{reason_head, HasToldWhy, call};
 ghost use Rattle.cli_run.specs.declared.request.Request.{Request as AnyRequest};
 ghost use Rattle.desk_client.specs.Heard.{body_of, is_late, service_fault, HasAnswered, HasAnsweredInput, HasHeard, HasUnderstoodLine};
 ghost use Rattle.desk_client.specs.Request.{most_of, request_of};

@@ -1,10 +1,6 @@
 //! The lines of `acts`, each a command or a telegram.
 ghost use Rattle.std.specs.Prelude.{◌≡◌, Err, IfOk, IfSome, None, string_bytes};
-ghost use Rattle.desk_commands.specs.Verb.{word};
-ghost use Rattle.serde_json.specs.Data.{Data};
-ghost use Rattle.serde_json.specs.View.{view};
-ghost use Rattle.cli_run.specs.Ends.{call};
-ghost use Rattle.cli_run.specs.ActLine.{IsWritten};
+ghost use Rattle.desk_client.specs.Common.{word, Data, view, call, IsWritten};
 ghost use Rattle.desk_client.specs.Posted.{posted_request, request_by, HasAnsweredLine, HasHeardValue, IsPosted};
 ghost use Rattle.desk_client.specs.Request.{command_request, most_answer, most_of, request_of};
 

@@ -1,7 +1,6 @@
 //! Look-ups of numbers, and histories of waybills.
 ghost use Rattle.std.specs.Prelude.{◌≡◌, ◌++◌, []};
-ghost use Rattle.std.specs.List.{list_all};
-ghost use Rattle.imp_fields.specs.Characters.{is_printable};
+ghost use Rattle.desk_client.specs.Common.{list_all, is_printable};
 ghost use Rattle.desk_client.specs.Looks.{has_found, has_object_front, history_look, is_history_of, is_object_of, is_text_byte, is_unknown, object_look, shown, HasLooked, HasShownFound, HasShownUnknown};
 ghost use Rattle.desk_client.specs.Request.{get_request, history_path, most_of, most_row_bytes, request_of};
 

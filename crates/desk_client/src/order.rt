@@ -1,8 +1,6 @@
 //! The JSON body of a stock order.
 ghost use Rattle.std.specs.Prelude.{◌≡◌, IfOk, IsTrue, string_bytes};
-ghost use Rattle.serde_json.specs.View.{view};
-ghost use Rattle.agent_stock.specs.Code.{is_agent_code};
-ghost use Rattle.desk_commands.specs.Command.{order_verb, IsRun};
+ghost use Rattle.desk_client.specs.Common.{view, is_agent_code, order_verb, IsRun};
 ghost use Rattle.desk_client.specs.Orders.{agents_data, agents_object, run_data, run_object, IsOrderText, IsTextOf};
 
 use agent_stock::{AgentCode, Order, Run};

@@ -1,6 +1,6 @@
 //! Questions to a service, and their requests.
 ghost use Rattle.std.specs.Prelude.{◌≡◌, ◌++◌, IfOk, length, string_bytes};
-ghost use Rattle.http_desk.specs.Paths.{rows_path};
+ghost use Rattle.desk_client.specs.Common.{rows_path};
 ghost use Rattle.desk_client.specs.Request.{command_lines, key_line, command_head, get_request, history_path, holder_path, length_line, most_of, request_of, telegram_head, waybill_path};
 
 use awb_number::Awb;

@@ -1,7 +1,7 @@
 //! Reading an answer to its end.
 ghost use Rattle.std.specs.Prelude.{◌≡◌, ◌<◌, ◌+◌, true, Err, IfOk, OnOk};
 ghost use Rattle.desk_client.specs.Came.{HasGiven, IsReadersFault};
-ghost use Rattle.cli_run.specs.Came.{HasCome, HasFailed, HasGrown};
+ghost use Rattle.desk_client.specs.Common.{HasCome, HasFailed, HasGrown};
 
 use crate::ask::AskFault;
 use station_core::{ByteIn, ReadFault};

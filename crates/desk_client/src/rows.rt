@@ -1,7 +1,6 @@
 //! The rows of a stock list.
 ghost use Rattle.std.specs.Prelude.{◌≡◌, Err};
-ghost use Rattle.csv.specs.Records.{fields_of};
-ghost use Rattle.cli_run.specs.Ends.{call};
+ghost use Rattle.desk_client.specs.Common.{fields_of, call};
 ghost use Rattle.desk_client.specs.ListRows.{HasAnsweredOrder, HasAnsweredRow};
 
 use crate::ask::Ask;

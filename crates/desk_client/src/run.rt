@@ -1,5 +1,5 @@
 //! Running a command of the command line with a service.
-ghost use Rattle.cli_run.specs.Ends.{call};
+ghost use Rattle.desk_client.specs.Common.{call};
 ghost use Rattle.desk_client.specs.Done.{HasDone};
 
 use crate::answering::ByService;

@@ -1,6 +1,6 @@
 //! The exit status of a call to a service, and its fault line.
 ghost use Rattle.std.specs.Prelude.{◌≡◌, ◌++◌, ◌∷◌, [], Some, decimal, IfErr, OnOk, option_map};
-ghost use Rattle.station_core.specs.Ends.{SendsLine};
+ghost use Rattle.desk_client.specs.Common.{SendsLine};
 ghost use Rattle.desk_client.specs.Status.{fault_line, fault_text, fault_why, last_why, service_text, status_of};
 
 use crate::ask::AskFault;

@@ -1,8 +1,6 @@
 //! Recognising whole answers.
 ghost use Rattle.std.specs.Prelude.{◌≡◌, ◌≤◌, ◌∷◌, [], codes, drop, false, length, map, true, All, IfSome};
-ghost use Rattle.httparse.specs.Spans.{header_bytes, IsHeaderWithin};
-ghost use Rattle.http_desk.specs.Reply.{media_type};
-ghost use Rattle.http_desk.specs.Request.{values_of};
+ghost use Rattle.desk_client.specs.Common.{header_bytes, IsHeaderWithin, media_type, values_of};
 ghost use Rattle.desk_client.specs.Whole.{has_media, is_media, is_type_end, IsExtent, IsExtentOf, IsFound, IsOfForm, IsReport};
 
 use crate::ended::{behind, has_end};

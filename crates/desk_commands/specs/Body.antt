@@ -1,9 +1,6 @@
 -- Commands in JSON bodies.
 use Rattle.std.specs.Prelude.{◌≡◌, ℕ, suc, ◌==◌, nat_lt, List, [], ◌∷◌, Option, Some, None, option_map, option_and_then, count_by, ⊤}
-use Rattle.serde_json.specs.Data.{Data, Members, number, unsigned, string, member, no_members}
-use Rattle.serde_json.specs.Find.{as_object, as_str, as_number, as_u64, get}
-use Rattle.station_days.specs.Steps.{◌>>=◌, where_true}
-use Rattle.imp_fields.specs.Flight.{flight_of}
+use Rattle.desk_commands.specs.Common.{Data, Members, number, unsigned, string, member, no_members, as_object, as_str, as_number, as_u64, get, ◌>>=◌, where_true, flight_of}
 use Rattle.desk_commands.specs.declared.command.Command.{Command}
 use Rattle.desk_commands.specs.declared.verb.Verb.{Verb}
 use Rattle.desk_commands.specs.declared.verb.Field.{Field}

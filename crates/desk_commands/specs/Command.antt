@@ -1,25 +1,7 @@
 -- Commands: their verbs, fields, ranges and texts.
 use Rattle.std.specs.Prelude.{◌≡◌, ◌<◌, ℕ, Option, Some, None, Result, String, List, [], ◌∷◌, map, string_bytes, IsTrue, IfSome, IfOk}
-use Rattle.std.specs.declared.alloc.Global.{Global}
-use Rattle.std.specs.List.{join_with_byte}
-use Rattle.awb_number.specs.Digits.{padded}
-use Rattle.awb_number.specs.Number.{IsNumber, number_text, prefix_of, serial_of}
-use Rattle.imp_fields.specs.Airport.{is_airport}
-use Rattle.imp_fields.specs.Amount.{IsPieces, IsTenths}
-use Rattle.station_days.specs.Date.{IsMomentDay}
-use Rattle.imp_fields.specs.Flight.{IsDesignator, is_carrier}
-use Rattle.imp_fields.specs.Name.{is_name, is_goods}
-use Rattle.station_days.specs.Steps.{◌>>=◌}
-use Rattle.agent_stock.specs.Code.{is_agent_code}
-use Rattle.agent_stock.specs.Count.{IsRunCount}
-use Rattle.shipment_machine.specs.Amount.{IsCount}
+use Rattle.desk_commands.specs.Common.{Global, join_with_byte, padded, IsNumber, number_text, prefix_of, serial_of, is_airport, IsPieces, IsTenths, IsMomentDay, IsDesignator, is_carrier, is_name, is_goods, ◌>>=◌, is_agent_code, IsRunCount, IsCount, Run, Order, TakeIn, Issue, GiveBack, Void, FlightDate, DeskCommand, Book, Amend, Receive, Withdraw, Manifest, Offload, Reroute, Depart, CheckIn, Strike, Notify, Deliver, Transfer, Missing, Found, Confirm}
 use Rattle.desk_commands.specs.Day.{day_line}
-use Rattle.agent_stock.specs.declared.stock.Run.{Run}
-use Rattle.agent_stock.specs.declared.stock.Order.{Order}
-use Rattle.agent_stock.specs.declared.stock.Order.TheVariants.{TakeIn, Issue, GiveBack, Void}
-use Rattle.shipment_machine.specs.declared.flight.FlightDate.{FlightDate}
-use Rattle.shipment_machine.specs.declared.command.DeskCommand.{DeskCommand}
-use Rattle.shipment_machine.specs.declared.command.DeskCommand.TheVariants.{Book, Amend, Receive, Withdraw, Manifest, Offload, Reroute, Depart, CheckIn, Strike, Notify, Deliver, Transfer, Missing, Found, Confirm}
 use Rattle.desk_commands.specs.declared.command.Command.{Command}
 use Rattle.desk_commands.specs.declared.command.Command.TheVariants.{Stock, Cargo}
 use Rattle.desk_commands.specs.declared.verb.Verb.{Verb}

@@ -1,10 +1,6 @@
 -- Days in texts of commands: `2026-01-12`.
 use Rattle.std.specs.Prelude.{ℕ, Bool, ◌&&◌, ◌==◌, nat_le, List, length, take, drop, slice_range, Option}
-use Rattle.std.specs.List.{list_all}
-use Rattle.std.specs.Str.{bytes_eq}
-use Rattle.awb_number.specs.Digits.{is_digit, decimal_value}
-use Rattle.station_days.specs.Steps.{◌>>=◌, where_true}
-use Rattle.station_days.specs.Date.{CalendarDay, day_in_year, is_moment_day}
+use Rattle.desk_commands.specs.Common.{list_all, bytes_eq, is_digit, decimal_value, ◌>>=◌, where_true, CalendarDay, day_in_year, is_moment_day}
 unfoldable pub use Rattle.station_days.specs.Date.{day_line}
 
 -- the digits of the year, the month and the day

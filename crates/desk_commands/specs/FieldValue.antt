@@ -1,22 +1,9 @@
 -- Values of fields: their written form and their meaning.
 use Rattle.std.specs.Prelude.{ℕ, ◌&&◌, ◌==◌, nat_le, decimal, Bool, true, false, List, [], length, Option, Some, None}
-use Rattle.std.specs.List.{list_all}
-use Rattle.std.specs.Result.{result_ok}
-use Rattle.awb_number.specs.Digits.{is_digit, decimal_value}
-use Rattle.awb_number.specs.Number.{key_of, number_of}
-use Rattle.imp_fields.specs.Airport.{airport_of}
-use Rattle.imp_fields.specs.Flight.{Designator, flight_text}
-use Rattle.imp_fields.specs.Name.{is_name, is_goods}
-use Rattle.station_days.specs.Steps.{◌>>=◌, where_true}
-use Rattle.agent_stock.specs.Code.{is_agent_code}
-use Rattle.agent_stock.specs.declared.stock.Run.{Run}
-use Rattle.shipment_machine.specs.Airline.{airline_of}
-use Rattle.shipment_machine.specs.declared.flight.FlightDate.{FlightDate}
+use Rattle.desk_commands.specs.Common.{list_all, result_ok, is_digit, decimal_value, key_of, number_of, airport_of, Designator, flight_text, is_name, is_goods, ◌>>=◌, where_true, is_agent_code, Run, airline_of, FlightDate, most_pieces, most_message_tenths, largest_count}
 use Rattle.desk_commands.specs.Day.{day_of}
 use Rattle.desk_commands.specs.declared.field_value.FieldValue.{FieldValue}
 use Rattle.desk_commands.specs.declared.field_value.FieldValue.TheVariants.{Text, Number, Flight, Absent}
-use Rattle.imp_fields.specs.Amount.{most_pieces, most_message_tenths}
-use Rattle.agent_stock.specs.Count.{largest_count}
 
 -- numbers without leading zeros, flights in their written form, and an empty text for absent values
 abbrev pub line_of : FieldValue → List ℕ

@@ -1,3 +1,4 @@
+pub mod Common
 pub mod Body
 pub mod Command
 pub mod Day

@@ -1,10 +1,6 @@
 -- The lines of a command's text.
 use Rattle.std.specs.Prelude.{◌≡◌, ℕ, zero, suc, ◌==◌, Bool, ◌&&◌, ◌||◌, not, nat_le, nat_lt, List, [], ◌∷◌, length, slice_index, Option, Some, None}
-use Rattle.std.specs.List.{slice_split, list_all}
-use Rattle.std.specs.Str.{bytes_eq}
-use Rattle.awb_number.specs.Digits.{is_digit, decimal_value}
-use Rattle.station_days.specs.Steps.{◌>>=◌, where_true}
-use Rattle.imp_fields.specs.Flight.{flight_of, flight_text, Designator}
+use Rattle.desk_commands.specs.Common.{slice_split, list_all, bytes_eq, is_digit, decimal_value, ◌>>=◌, where_true, flight_of, flight_text, Designator}
 use Rattle.desk_commands.specs.declared.verb.Field.{Field}
 use Rattle.desk_commands.specs.declared.verb.Kind.{Kind}
 use Rattle.desk_commands.specs.declared.verb.Kind.TheVariants as kind

@@ -1,7 +1,6 @@
 -- The verbs of commands: the word of each, and its fields with their keys in a body.
 use Rattle.std.specs.Prelude.{ℕ, Bool, List, [], ◌∷◌, codes, map, Option, slice_get}
-use Rattle.std.specs.List.{find}
-use Rattle.std.specs.Str.{bytes_eq}
+use Rattle.desk_commands.specs.Common.{find, bytes_eq}
 use Rattle.desk_commands.specs.declared.verb.Verb.{Verb}
 use Rattle.desk_commands.specs.declared.verb.Verb.TheVariants as verb
 use Rattle.desk_commands.specs.declared.verb.Field.{Field}

@@ -1,7 +1,7 @@
 //! Commands as JSON bodies.
 
 ghost use Rattle.std.specs.Prelude.{◌≡◌, Ok, IfOk, IfErr, count_by};
-ghost use Rattle.serde_json.specs.View.{view};
+ghost use Rattle.desk_commands.specs.Common.{view};
 ghost use Rattle.desk_commands.specs.Body.{IsBodyOf, member_says, field_says, fields_say, body_says};
 ghost use Rattle.desk_commands.specs.FieldValue.{is_present};
 ghost use Rattle.desk_commands.specs.declared.command.Command.{Command as AnyCommand};

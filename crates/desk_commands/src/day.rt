@@ -1,9 +1,7 @@
 //! Days of commands, such as `2026-01-12`.
 
 ghost use Rattle.std.specs.Prelude.{◌≡◌, ◌≤◌, option_map, IfSome};
-ghost use Rattle.std.specs.Str.{IsAscii};
-ghost use Rattle.awb_number.specs.Digits.{decimal_value};
-ghost use Rattle.station_days.specs.Steps.{where_true};
+ghost use Rattle.desk_commands.specs.Common.{IsAscii, decimal_value, where_true};
 ghost use Rattle.desk_commands.specs.Day.{is_calendar_day, day_line, date_in, year_part, if_written, day_of};
 
 use awb_number::decimal;

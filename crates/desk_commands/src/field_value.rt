@@ -1,8 +1,7 @@
 //! Values of fields, before the command is known.
 
 ghost use Rattle.std.specs.Prelude.{◌≡◌, ◌≤◌, ◌<◌, ◌^◌, IfSome, option_map};
-ghost use Rattle.std.specs.Result.{result_ok};
-ghost use Rattle.awb_number.specs.Number.{number_of};
+ghost use Rattle.desk_commands.specs.Common.{result_ok, number_of};
 ghost use Rattle.desk_commands.specs.FieldValue.{text_in, number_in, digits_of, digits_in, awb_of, awb_in, airport_in, airline_in, pieces_in, tenths_in, name_in, goods_in, agent_in, counted_in, count_in, flight_in, day_in, flight_date_in, flight_if_any_in, run_in};
 
 use crate::day::read_day;

@@ -1,7 +1,7 @@
 //! The lines of a text, one for each field.
 
 ghost use Rattle.std.specs.Prelude.{◌≡◌, ◌≤◌, ◌∷◌, [], length};
-ghost use Rattle.std.specs.List.{position_or_len};
+ghost use Rattle.desk_commands.specs.Common.{position_or_len};
 ghost use Rattle.desk_commands.specs.Lines.{IsNext, is_end, lines_left, lines_of, line_says, place_says, places_say, written_flight_of, number_of};
 
 use crate::field_value::FieldValue;

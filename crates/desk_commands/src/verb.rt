@@ -1,7 +1,7 @@
 //! The verbs of commands: the word of each, and its fields with their keys in a body.
 
 ghost use Rattle.std.specs.Prelude.{◌≡◌, IfSome, option_map};
-ghost use Rattle.std.specs.List.{find};
+ghost use Rattle.desk_commands.specs.Common.{find};
 ghost use Rattle.desk_commands.specs.Verb.{is_word, kind_of, name, places, row, verb_called, word};
 ghost use Rattle.desk_commands.specs.declared.verb.Verb.{Verb};
 

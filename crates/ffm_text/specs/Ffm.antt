@@ -1,20 +1,7 @@
 -- Flight manifest messages: a head, a flight line, lines of cargo, and a last line.
 use Rattle.std.specs.Prelude.{filter, ◌≡◌, ℕ, Bool, false, ◌&&◌, ◌||◌, ◌==◌, not, nat_eq, is_some, if◌then◌else◌, MatchBool, List, [], ◌∷◌, ◌++◌, length, take, drop, map, filter_map, slice_get, slice_index, slice_range, Option, Some, None, Result, Ok, Err, IsTrue, codes, option_and_then}
-use Rattle.std.specs.List.{AllZip, list_all, list_any, starts_with, last_or}
-use Rattle.std.specs.Str.{bytes_eq}
-use Rattle.awb_number.specs.Digits.{is_digit}
-use Rattle.imp_fields.specs.Characters.{fields}
-use Rattle.imp_fields.specs.Amount.{count_of}
-use Rattle.imp_fields.specs.Quantity.{written_code}
-use Rattle.imp_fields.specs.Flight.{Designator, flight_of, flight_text}
-use Rattle.imp_fields.specs.Airport.{is_airport, airport_of}
-use Rattle.station_days.specs.Date.{CalendarDay, optional_time_of, two_digits_of, month_of, date_text}
-use Rattle.imp_fields.specs.Consignment.{Shipment, WrittenLine, consignment_of, consignment_text, shipment_written, shipment_of, HasSpans}
-use Rattle.imp_fields.specs.Message.{is_head, unless_true, err_of, fault_in}
-use Rattle.imp_fields.specs.Checks.{◌>>=◌, need}
-use Rattle.imp_fields.specs.declared.fault.Why.{Why}
+use Rattle.ffm_text.specs.Common.{AllZip, list_all, list_any, starts_with, last_or, bytes_eq, is_digit, fields, count_of, written_code, Designator, flight_of, flight_text, is_airport, airport_of, CalendarDay, optional_time_of, two_digits_of, month_of, date_text, Shipment, WrittenLine, consignment_of, consignment_text, shipment_written, shipment_of, HasSpans, is_head, unless_true, err_of, fault_in, ◌>>=◌, need, Why, TextFault}
 use Rattle.imp_fields.specs.declared.fault.Why.TheVariants as why
-use Rattle.imp_fields.specs.declared.fault.TextFault.{TextFault}
 use Rattle.ffm_text.specs.declared.Ffm.{Ffm}
 use Rattle.ffm_text.specs.declared.FfmLine.{FfmLine}
 use Rattle.ffm_text.specs.declared.Load.{Load}

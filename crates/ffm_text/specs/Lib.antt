@@ -1,3 +1,4 @@
+pub mod Common
 pub mod Ffm
 pub mod Scan
 pub mod Written

@@ -1,8 +1,6 @@
 -- The state of a scan over the lines after a manifest's flight line.
 use Rattle.std.specs.Prelude.{filter, ◌≡◌, ℕ, List, [], map}
-use Rattle.std.specs.List.{AllZip}
-use Rattle.imp_fields.specs.Consignment.{HasSpans}
-use Rattle.imp_fields.specs.declared.token.Token.{Token}
+use Rattle.ffm_text.specs.Common.{AllZip, HasSpans, Token}
 use Rattle.ffm_text.specs.Ffm.{last_point, is_cargo_line, IsCargo, unloaded_of}
 use Rattle.ffm_text.specs.declared.FfmLine.{FfmLine}
 use Rattle.ffm_text.specs.declared.cargo.ManifestScan.{ManifestScan}

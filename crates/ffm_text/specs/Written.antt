@@ -1,13 +1,6 @@
 -- The text that writing a manifest appends.
 use Rattle.std.specs.Prelude.{◌≡◌, ℕ, ◌≤◌, true, List, [], ◌∷◌, ◌++◌, length, take}
-use Rattle.awb_number.specs.Number.{IsNumber, number_text}
-use Rattle.imp_fields.specs.Amount.{IsPieces, IsBookTenths}
-use Rattle.imp_fields.specs.Airport.{is_airport}
-use Rattle.imp_fields.specs.Name.{is_goods}
-use Rattle.imp_fields.specs.Flight.{Designator, IsDesignator, most_waybills}
-use Rattle.station_days.specs.Date.{CalendarDay, IsCalendarDay}
-use Rattle.imp_fields.specs.Quantity.{quantity_text}
-use Rattle.imp_fields.specs.Consignment.{consignment_text}
+use Rattle.ffm_text.specs.Common.{IsNumber, number_text, IsPieces, IsBookTenths, is_airport, is_goods, Designator, IsDesignator, most_waybills, CalendarDay, IsCalendarDay, quantity_text, consignment_text}
 use Rattle.ffm_text.specs.declared.Load.{Load}
 use Rattle.ffm_text.specs.Ffm.{cargo_of}
 

@@ -1,9 +1,7 @@
 //! The lines after the flight line: points of unloading, consignment lines, and ignored lines.
 
 ghost use Rattle.std.specs.Prelude.{◌≡◌, ◌∷◌, ◌++◌, ◌≤◌, ◌<◌, ◌^◌, ℕ, List, [], length, map, Some, Ok, IfOk, IfErr, OnOk, option_map};
-ghost use Rattle.imp_fields.specs.Consignment.{consignment_of, shipment_of, HasSpans};
-ghost use Rattle.imp_fields.specs.NormalText.{fault_at, first_fault, IsFaultOf};
-ghost use Rattle.imp_fields.specs.TextSize.{most_lines};
+ghost use Rattle.ffm_text.specs.Common.{consignment_of, shipment_of, HasSpans, fault_at, first_fault, IsFaultOf, most_lines};
 ghost use Rattle.ffm_text.specs.Ffm.{is_cargo_line, ordered_fault, cargo_fault, cargo_faults};
 ghost use Rattle.ffm_text.specs.Scan.{IsScan, AreCargo, texts_of};
 

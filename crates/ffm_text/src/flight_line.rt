@@ -1,7 +1,7 @@
 //! The flight line of a manifest: `1/LH400/12JAN/FRA`.
 
 ghost use Rattle.std.specs.Prelude.{◌≡◌, Ok, Err, Some, None, IfOk, IfErr, IfSome, option_copied, option_and_then};
-ghost use Rattle.imp_fields.specs.Airport.{airport_of};
+ghost use Rattle.ffm_text.specs.Common.{airport_of};
 ghost use Rattle.ffm_text.specs.Ffm.{field, date_in, flight_line_of, part_of};
 
 use imp_fields::{Airport, Flight, PartNumber, Why, cut_at_slash, first_field};

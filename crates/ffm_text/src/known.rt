@@ -3,7 +3,7 @@
 
 ghost use Rattle.std.specs.Prelude.{◌≤◌, All, length};
 ghost use Rattle.ffm_text.specs.Written.{IsLoad, AreWritten};
-ghost use Rattle.imp_fields.specs.Flight.{most_waybills};
+ghost use Rattle.ffm_text.specs.Common.{most_waybills};
 
 use crate::Load;
 use imp_fields::{Airport, Flight};

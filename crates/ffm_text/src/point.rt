@@ -1,7 +1,7 @@
 //! Points of unloading: `JFK`, `JFK/NIL` or `JFK/13JAN1430`.
 
 ghost use Rattle.std.specs.Prelude.{◌≡◌, is_some, length, slice_index, slice_range, ◌&&◌, ◌==◌};
-ghost use Rattle.station_days.specs.Date.{month_of, two_digits_of};
+ghost use Rattle.ffm_text.specs.Common.{month_of, two_digits_of};
 ghost use Rattle.ffm_text.specs.Ffm.{is_remark, may_follow_point, unloading_point};
 
 use imp_fields::Airport;

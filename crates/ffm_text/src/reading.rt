@@ -1,7 +1,7 @@
 //! The reader of manifests.
 
 ghost use Rattle.std.specs.Prelude.{◌≡◌, IfOk, IfErr};
-ghost use Rattle.imp_fields.specs.NormalText.{line_texts, IsFaultOf};
+ghost use Rattle.ffm_text.specs.Common.{line_texts, IsFaultOf};
 ghost use Rattle.ffm_text.specs.Ffm.{IsFfm, ffm_fault, manifest_of, HasFfmSpans, has_last_line};
 ghost use Rattle.ffm_text.specs.Scan.{texts_of};
 

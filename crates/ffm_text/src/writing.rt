@@ -1,12 +1,8 @@
 //! The writer of manifests.
 
 ghost use Rattle.std.specs.Prelude.{◌≡◌, ◌≤◌, ◌++◌, ℕ, List, Ok, length, take, map, OnOk, OnErr};
-ghost use Rattle.imp_fields.specs.NormalText.{normal_lines};
-ghost use Rattle.imp_fields.specs.Message.{sent_text};
-ghost use Rattle.imp_fields.specs.Consignment.{goods_text, consignment_text};
+ghost use Rattle.ffm_text.specs.Common.{normal_lines, sent_text, goods_text, consignment_text, Designator, most_waybills, CalendarDay};
 ghost use Rattle.ffm_text.specs.Ffm.{IsFfm, cargo_of, flight_line_text, ffm_lines, manifest_written};
-ghost use Rattle.imp_fields.specs.Flight.{Designator, most_waybills};
-ghost use Rattle.station_days.specs.Date.{CalendarDay};
 ghost use Rattle.ffm_text.specs.declared.Load.{Load};
 ghost use Rattle.ffm_text.specs.Written.{AreWritten, Begins, line_text, load_line, route_text, amount_text};
 

@@ -1,19 +1,7 @@
 -- Status update messages: a head, a consignment line, and at least one further line.
 use Rattle.std.specs.Prelude.{unwrap_or, slice_get, drop, All, ◌≡◌, ℕ, nat_le, List, [], ◌∷◌, ◌++◌, length, map, option_map, Option, Some, None, Ok, IsTrue, codes}
-use Rattle.std.specs.List.{join_with_byte}
-use Rattle.imp_fields.specs.Quantity.{written_code}
-use Rattle.imp_fields.specs.Flight.{flight_text}
-use Rattle.station_days.specs.Date.{when_text, date_text}
-use Rattle.imp_fields.specs.Consignment.{Shipment, WrittenLine, consignment_of, consignment_text, shipment_written, shipment_of, HasSpans}
-use Rattle.imp_fields.specs.NormalText.{line_texts}
-use Rattle.imp_fields.specs.declared.line.Lines.{Lines}
-use Rattle.imp_fields.specs.Message.{is_head, unless_true, err_of, fault_in}
-use Rattle.imp_fields.specs.declared.fault.Why.{Why}
+use Rattle.fsu_text.specs.Common.{join_with_byte, written_code, flight_text, when_text, date_text, Shipment, WrittenLine, consignment_of, consignment_text, shipment_written, shipment_of, HasSpans, line_texts, Lines, is_head, unless_true, err_of, fault_in, Why, TextFault, Total, Quantity, WaybillSummary}
 use Rattle.imp_fields.specs.declared.fault.Why.TheVariants as why
-use Rattle.imp_fields.specs.declared.fault.TextFault.{TextFault}
-use Rattle.imp_fields.specs.declared.amount.ShipmentCode.TheVariants.{Total}
-use Rattle.imp_fields.specs.declared.amount.Quantity.{Quantity}
-use Rattle.imp_fields.specs.declared.waybill_summary.WaybillSummary.{WaybillSummary}
 use Rattle.fsu_text.specs.declared.sent.SentStatus.{SentStatus}
 use Rattle.fsu_text.specs.declared.sent.SentStatus.TheVariants as sent
 use Rattle.fsu_text.specs.declared.sent.SentCarriage.{SentCarriage}

@@ -1,3 +1,4 @@
+pub mod Common
 pub mod Status
 pub mod Trail
 pub mod Fsu

@@ -1,12 +1,6 @@
 -- Ranges that the types of a sent update guarantee.
 use Rattle.std.specs.Prelude.{◌<◌, IsTrue}
-use Rattle.awb_number.specs.Number.{IsNumber}
-use Rattle.imp_fields.specs.Airport.{is_airport}
-use Rattle.imp_fields.specs.Amount.{IsPieces, IsBookTenths}
-use Rattle.station_days.specs.Date.{IsCalendarDay}
-use Rattle.imp_fields.specs.Flight.{IsDesignator}
-use Rattle.imp_fields.specs.Name.{is_name}
-use Rattle.imp_fields.specs.declared.waybill_summary.WaybillSummary.{WaybillSummary}
+use Rattle.fsu_text.specs.Common.{IsNumber, is_airport, IsPieces, IsBookTenths, IsCalendarDay, IsDesignator, is_name, WaybillSummary}
 use Rattle.fsu_text.specs.declared.sent.SentStatus.{SentStatus}
 use Rattle.fsu_text.specs.declared.sent.SentStatus.TheVariants as sent
 use Rattle.fsu_text.specs.declared.sent.SentUpdate.{SentUpdate}

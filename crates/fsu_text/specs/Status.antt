@@ -1,21 +1,10 @@
 -- Status lines: `RCS/12JAN1030/FRA/T10K100.0/ACME`.
 use Rattle.std.specs.Prelude.{ℕ, List, [], ◌∷◌, take, drop, Option, Some, None, codes, option_map}
-use Rattle.std.specs.List.{join_with_byte}
-use Rattle.std.specs.Str.{bytes_eq}
-use Rattle.station_days.specs.Steps.{◌>>=◌, where_true, or_else}
-use Rattle.imp_fields.specs.Characters.{fields}
-use Rattle.imp_fields.specs.Quantity.{quantity_of, quantity_text, written_code}
-use Rattle.imp_fields.specs.Flight.{Designator, flight_of}
-use Rattle.imp_fields.specs.Airport.{airport_of}
-use Rattle.imp_fields.specs.Name.{is_name}
-use Rattle.station_days.specs.Date.{CalendarDay, When, date_time_of, optional_time_of}
-use Rattle.imp_fields.specs.declared.amount.Quantity.{Quantity}
+use Rattle.fsu_text.specs.Common.{join_with_byte, bytes_eq, ◌>>=◌, where_true, or_else, fields, quantity_of, quantity_text, written_code, Designator, flight_of, airport_of, is_name, CalendarDay, When, date_time_of, optional_time_of, Quantity, Discrepancy, Offloaded, Missing, Found}
 use Rattle.fsu_text.specs.declared.status.Handling.{Handling}
 use Rattle.fsu_text.specs.declared.status.Handling.TheVariants.{ReceivedFromShipper, Notified, Delivered}
 use Rattle.fsu_text.specs.declared.status.Carriage.{Carriage}
 use Rattle.fsu_text.specs.declared.status.Carriage.TheVariants.{Booked, Manifested, Departed}
-use Rattle.imp_fields.specs.declared.discrepancy.Discrepancy.{Discrepancy}
-use Rattle.imp_fields.specs.declared.discrepancy.Discrepancy.TheVariants.{Offloaded, Missing, Found}
 
 -- a date with an optional time
 pub record Day : Type 0 where

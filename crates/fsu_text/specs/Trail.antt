@@ -1,6 +1,6 @@
 -- Lines of a waybill's trail.
 use Rattle.std.specs.Prelude.{Bool}
-use Rattle.imp_fields.specs.Token.{is_line_token}
+use Rattle.fsu_text.specs.Common.{is_line_token}
 use Rattle.fsu_text.specs.declared.status.StatusLine.{StatusLine}
 
 -- the line is printable, and has at most 255 bytes

@@ -1,5 +1,5 @@
 ghost use Rattle.std.specs.Prelude.{IsTrue};
-ghost use Rattle.std.specs.List.{list_all};
+ghost use Rattle.fsu_text.specs.Common.{list_all};
 ghost use Rattle.fsu_text.specs.Trail.{is_plain};
 
 use crate::status::StatusLine;

@@ -2,8 +2,7 @@
 //! program: a single function would be slower.
 
 ghost use Rattle.std.specs.Prelude.{◌≡◌, ℕ, List, [], ◌∷◌, ◌++◌, All, OnOk, IfOk, IfErr, Some, map, option_map, codes};
-ghost use Rattle.imp_fields.specs.Characters.{fields};
-ghost use Rattle.imp_fields.specs.NormalText.{line_texts, IsFaultOf};
+ghost use Rattle.fsu_text.specs.Common.{fields, line_texts, IsFaultOf};
 ghost use Rattle.fsu_text.specs.Status.{day_of, handling_of, carriage_of, discrepancy_of, handled_by, handled_of, received_by, received_of, route_of, carried_by, carried_of, differs_by, differs_of, status_of};
 ghost use Rattle.fsu_text.specs.Fsu.{IsFsu, fsu_fault, reading_of, update_of, HasFsuSpans, IsRead, AreRead};
 

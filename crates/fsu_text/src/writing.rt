@@ -1,12 +1,7 @@
 //! The writer of status update messages. Each helper returns the index after what it wrote.
 
 ghost use Rattle.std.specs.Prelude.{◌≡◌, ◌≤◌, ◌+◌, ◌++◌, ◌∷◌, [], length, take, None, Ok, Some, OnOk, OnErr};
-ghost use Rattle.station_days.specs.Date.{date_text, when_text};
-ghost use Rattle.imp_fields.specs.Flight.{flight_text};
-ghost use Rattle.imp_fields.specs.Quantity.{quantity_text, written_code};
-ghost use Rattle.imp_fields.specs.Consignment.{consignment_text};
-ghost use Rattle.imp_fields.specs.NormalText.{normal_lines};
-ghost use Rattle.imp_fields.specs.Message.{sent_text};
+ghost use Rattle.fsu_text.specs.Common.{date_text, when_text, flight_text, quantity_text, written_code, consignment_text, normal_lines, sent_text};
 ghost use Rattle.fsu_text.specs.Status.{status_of, handling_code, carriage_code, discrepancy_code, name_tail};
 ghost use Rattle.fsu_text.specs.Fsu.{IsFsu, fsu_lines, declared_cargo, amount_of, told_as, sent_status_text, sent_status_reading, update_written};
 ghost use Rattle.fsu_text.specs.declared.sent.SentStatus.TheVariants as sent;

@@ -1,6 +1,6 @@
 -- A received request.
 use Rattle.std.specs.Prelude.{◌≡◌, ℕ, ◌+◌, ◌<◌, ◌≤◌, Option, List, length}
-use Rattle.httparse.specs.Grammar.{RequestHead, print_request}
+use Rattle.http_desk.specs.Common.{RequestHead, print_request}
 use Rattle.http_desk.specs.declared.wanted.HeadWants.{HeadWants}
 use Rattle.http_desk.specs.declared.wanted.HeadWants.TheVariants as wants
 use Rattle.http_desk.specs.declared.request.Came.{Came}

@@ -1,8 +1,7 @@
 -- Numbers in a head or a path.
 use Rattle.std.specs.Prelude.{ℕ, ◌&&◌, Bool, nat_le, Option, List, length}
-use Rattle.std.specs.List.{list_all}
-use Rattle.awb_number.specs.Digits.{is_digit, decimal_value}
-use Rattle.station_days.specs.Steps.{where_true}
+use Rattle.http_desk.specs.Common.{list_all, decimal_value, where_true}
+use Rattle.awb_number.specs.Digits.{is_digit}
 
 -- one to ten digits
 abbrev pub is_number : List ℕ → Bool

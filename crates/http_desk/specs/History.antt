@@ -1,10 +1,7 @@
 -- Texts that are read from a working station.
 use Rattle.std.specs.Prelude.{◌≡◌, ℕ, List, ◌++◌, Result, IfErr, IfOk}
-use Rattle.station_core.specs.Keeping.{IfSound, IfWorks, IsMemoryOrStore, IsReadersFault, Keeping, OnlyReads}
-use Rattle.station_core.specs.Step.{State}
-use Rattle.station_core.specs.declared.answer.ActFault.{ActFault}
+use Rattle.http_desk.specs.Common.{IfSound, IfWorks, IsMemoryOrStore, IsReadersFault, Keeping, OnlyReads, State, ActFault, ReportCause}
 use Rattle.station_core.specs.declared.answer.ActFault.TheVariants as act
-use Rattle.reports.specs.declared.fault.ReportCause.{ReportCause}
 use Rattle.reports.specs.declared.fault.ReportCause.TheVariants as cause
 
 -- Reading changes nothing, and returns this of the state. It fails only as a reader does.

@@ -1,10 +1,6 @@
 -- A key as a segment of a path, percent-encoded (RFC 3986, section 2.1).
 use Rattle.std.specs.Prelude.{ℕ, ◌+◌, ◌*◌, ◌==◌, ◌&&◌, ◌||◌, not, Bool, if◌then◌else◌, Option, Some, option_map, option_and_then, List, [], ◌∷◌}
-use Rattle.std.specs.Char.{digit_value, is_ascii_alphanumeric, is_digit}
-use Rattle.std.specs.List.{flat_map}
-use Rattle.percent_encoding.specs.Percent.{percent_encode_byte, percent_sign}
-use Rattle.station_days.specs.Steps.{where_true}
-use Rattle.station_core.specs.Key.{is_key}
+use Rattle.http_desk.specs.Common.{digit_value, is_ascii_alphanumeric, is_digit, flat_map, percent_encode_byte, percent_sign, where_true, is_key}
 
 -- A letter, a digit, `-`, `_` and `~` are printed as they are. A dot isn't, so that `.json` at the
 -- end of a printed path isn't part of the key.

@@ -1,3 +1,4 @@
+pub mod Common
 pub mod Routes
 pub mod Segments
 pub mod Keys

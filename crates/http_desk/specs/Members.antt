@@ -1,10 +1,6 @@
 -- The members of a waybill as text, in four parts.
 use Rattle.std.specs.Prelude.{ℕ, List, ◌++◌, codes, decimal}
-use Rattle.serde_json.specs.Data.{boolean, string}
-use Rattle.serde_json.specs.Written.{compact_text}
-use Rattle.awb_number.specs.Number.{number_text}
-use Rattle.station_core.specs.declared.rows.Waybill.{Waybill}
-use Rattle.reports.specs.Objects.{since_text}
+use Rattle.http_desk.specs.Common.{boolean, string, compact_text, number_text, Waybill, since_text}
 use Rattle.http_desk.specs.Reply.{pair_data}
 
 abbrev pub first_members : ℕ → Waybill → List ℕ

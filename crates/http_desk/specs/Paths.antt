@@ -1,19 +1,8 @@
 -- The paths: the segments of each place.
 use Rattle.std.specs.Prelude.{◌≡◌, ◌⊎◌, ℕ, ◌<◌, ◌≤◌, ◌^◌, ◌==◌, ◌&&◌, not, nat_lt, Bool, true, false, Some, List, [], ◌∷◌, ◌++◌, length, codes, decimal, IsTrue, ⊤}
-use Rattle.std.specs.Char.{is_ascii_graphic}
-use Rattle.std.specs.List.{list_all}
-use Rattle.agent_stock.specs.Code.{is_agent_code}
-use Rattle.awb_number.specs.Number.{IsNumber, number_text}
-use Rattle.imp_fields.specs.Flight.{IsDesignator, flight_text}
-use Rattle.station_days.specs.Date.{day_line}
-use Rattle.desk_commands.specs.Day.{day_of}
-use Rattle.desk_commands.specs.Verb.{word}
-use Rattle.station_core.specs.Key.{is_key}
-use Rattle.reports.specs.declared.form.Form.{Form}
+use Rattle.http_desk.specs.Common.{is_ascii_graphic, list_all, is_agent_code, IsNumber, number_text, IsDesignator, flight_text, day_line, day_of, word, is_key, Form, Listing, Report}
 use Rattle.reports.specs.declared.form.Form.TheVariants as form
-use Rattle.reports.specs.declared.listing.Listing.{Listing}
 use Rattle.reports.specs.declared.listing.Listing.TheVariants as listing
-use Rattle.reports.specs.declared.report.Report.{Report}
 use Rattle.reports.specs.declared.report.Report.TheVariants as report
 use Rattle.http_desk.specs.declared.printout.Printout.{Printout}
 use Rattle.http_desk.specs.Keys.{key_segment}

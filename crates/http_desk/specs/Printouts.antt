@@ -1,20 +1,8 @@
 -- Rows that a path requests, and their form.
 use Rattle.std.specs.Prelude.{ℕ, ◌-◌, ◌^◌, ◌&&◌, Bool, nat_lt, if◌then◌else◌, Option, Some, None, option_map, option_and_then, List, take, drop, length, codes}
-use Rattle.std.specs.Result.{result_ok}
-use Rattle.std.specs.Str.{bytes_eq}
-use Rattle.awb_number.specs.Number.{number_of}
-use Rattle.imp_fields.specs.Flight.{Designator, flight_of}
-use Rattle.station_days.specs.Steps.{where_true}
-use Rattle.agent_stock.specs.Code.{is_agent_code}
-use Rattle.desk_commands.specs.Day.{day_of}
-use Rattle.shipment_machine.specs.declared.flight.FlightDate.{FlightDate}
-use Rattle.station_core.specs.Step.{State}
-use Rattle.reports.specs.Listings.{IsListing, listing_called}
-use Rattle.reports.specs.declared.form.Form.{Form}
+use Rattle.http_desk.specs.Common.{result_ok, bytes_eq, number_of, Designator, flight_of, where_true, is_agent_code, day_of, FlightDate, State, IsListing, listing_called, Form, Listing, Report}
 use Rattle.reports.specs.declared.form.Form.TheVariants as form
-use Rattle.reports.specs.declared.listing.Listing.{Listing}
 use Rattle.reports.specs.declared.listing.Listing.TheVariants as listing
-use Rattle.reports.specs.declared.report.Report.{Report}
 use Rattle.reports.specs.declared.report.Report.TheVariants as report
 use Rattle.http_desk.specs.declared.printout.Printout.{Printout}
 use Rattle.http_desk.specs.Digits.{number_told}

@@ -1,9 +1,6 @@
 -- Reading a request.
 use Rattle.std.specs.Prelude.{◌≡◌, ◌⊎◌, ℕ, ◌+◌, ◌-◌, ◌<◌, ◌≤◌, List, ◌++◌, length}
-use Rattle.httparse.specs.Grammar.{RequestHead}
-use Rattle.httparse.specs.Spans.{RequestOverflows}
-use Rattle.station_core.specs.Given.{Given}
-use Rattle.station_core.specs.Ends.{HasCause}
+use Rattle.http_desk.specs.Common.{RequestHead, RequestOverflows, Given, HasCause}
 use Rattle.http_desk.specs.Answer.{head_room, most_fields, HasHead}
 
 -- another read appended its bytes, and no read failed

@@ -1,26 +1,7 @@
 -- Requests, by the tests in their order.
 use Rattle.std.specs.Prelude.{◌≡◌, ◌⊎◌, ℕ, ◌&&◌, ◌||◌, not, Bool, true, false, nat_le, take, drop, List, [], ◌∷◌, length, map, codes, Option, Some, None, Result, Ok, Err, IsUtf8, IsTrue, if◌then◌else◌}
-use Rattle.std.specs.Char.{to_ascii_lowercase}
-use Rattle.std.specs.List.{list_all}
-use Rattle.std.specs.Str.{bytes_eq}
-use Rattle.serde_json.specs.Data.{Data, boolean, string, object, member, no_members}
-use Rattle.serde_json.specs.Read.{read}
-use Rattle.serde_json.specs.Written.{compact_text}
+use Rattle.http_desk.specs.Common.{to_ascii_lowercase, list_all, bytes_eq, Data, boolean, string, object, member, no_members, read, compact_text, is_printable, most_bytes, TextFault, Refusal, Command, Verb, IsBodyOf, Meant, IsTelegram, telegram_fault, refusal_of, IsLook, IsLookFault, look_object, Look, is_key, Input, Keyed, Wire}
 use Rattle.http_desk.specs.Digits.{number_told}
-use Rattle.imp_fields.specs.Characters.{is_printable}
-use Rattle.imp_fields.specs.TextSize.{most_bytes}
-use Rattle.imp_fields.specs.declared.fault.TextFault.{TextFault}
-use Rattle.shipment_machine.specs.declared.plans.Refusal.{Refusal}
-use Rattle.desk_commands.specs.declared.command.Command.{Command}
-use Rattle.desk_commands.specs.declared.verb.Verb.{Verb}
-use Rattle.desk_commands.specs.Body.{IsBodyOf}
-use Rattle.telegrams.specs.Meaning.{Meant, IsTelegram, telegram_fault, refusal_of}
-use Rattle.input_reasons.specs.Look.{IsLook, IsLookFault}
-use Rattle.input_reasons.specs.LookObject.{look_object}
-use Rattle.input_reasons.specs.declared.look.Look.{Look}
-use Rattle.station_core.specs.Key.{is_key}
-use Rattle.station_core.specs.declared.input.Input.{Input}
-use Rattle.station_core.specs.declared.input.Input.TheVariants.{Keyed, Wire}
 use Rattle.http_desk.specs.Routes.{Posted, posted_command, posted_check, posted_telegram, posted_look, Got, Place, posts, gets, place_of}
 
 -- a request's head: its fields are names and values, without spaces and tabs around them

@@ -1,7 +1,6 @@
 -- Segments of a path.
 use Rattle.std.specs.Prelude.{ℕ, ◌==◌, Bool, nat_lt, if◌then◌else◌, Option, None, List, [], ◌∷◌, ◌++◌, take, drop, length, codes}
-use Rattle.std.specs.List.{position_or_len, before_first, after_first}
-use Rattle.std.specs.Str.{bytes_eq}
+use Rattle.http_desk.specs.Common.{position_or_len, before_first, after_first, bytes_eq}
 
 -- the path of segments, each after a slash
 abbrev pub joined : List (List ℕ) → List ℕ

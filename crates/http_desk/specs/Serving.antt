@@ -1,18 +1,12 @@
 -- The outcome of one connection.
 use Rattle.std.specs.Prelude.{◌≡◌, ◌⊎◌, ℕ, ◌<◌, ◌≤◌, true, false, Option, Some, None, Result, Ok, Err, List, [], ◌++◌, length, take, drop, codes}
-use Rattle.serde_json.specs.Written.{compact_text}
-use Rattle.station_days.specs.Date.{LocalMinute}
-use Rattle.station_core.specs.Given.{Given}
-use Rattle.station_core.specs.Ends.{Sent, HasCause, NoneFailed, OneFailed}
-use Rattle.station_core.specs.declared.input.Input.{Input}
-use Rattle.station_core.specs.Step.{State, accepted, step}
+use Rattle.http_desk.specs.Common.{compact_text, LocalMinute, Given, Sent, HasCause, NoneFailed, OneFailed, Input, State, accepted, step, RequestHead, print_request}
 use Rattle.http_desk.specs.declared.serve.Served.{Served}
 use Rattle.http_desk.specs.declared.serve.ServeFault.{ServeFault}
 use Rattle.http_desk.specs.declared.serve.ServeFault.TheVariants as serve
 use Rattle.http_desk.specs.declared.printout.Printout.{Printout}
 use Rattle.http_desk.specs.Reply.{json_answer, refused_data, report_head}
 use Rattle.http_desk.specs.Printouts.{IsPrinted}
-use Rattle.httparse.specs.Grammar.{RequestHead, print_request}
 use Rattle.http_desk.specs.Routes.{Posted, is_dry, got_report}
 use Rattle.http_desk.specs.Request.{looks_up, sends, head_asks, for_station}
 use Rattle.http_desk.specs.Answer.{head_of, HasHead, SendsWhole, Answers}

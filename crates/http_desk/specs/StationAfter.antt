@@ -1,7 +1,6 @@
 -- The station after a request.
 use Rattle.std.specs.Prelude.{◌≡◌, Bool, false, Option, Some}
-use Rattle.station_core.specs.Keeping.{Keeping}
-use Rattle.station_core.specs.Step.{State}
+use Rattle.http_desk.specs.Common.{Keeping, State}
 
 -- a station, broken or not, with the state that it keeps, and the states that reopening may find
 pub record StationAfter : Type 1 where

@@ -1,9 +1,6 @@
 -- Calls of the station, and the answers to write.
 use Rattle.std.specs.Prelude.{◌≡◌, ◌⊎◌, ℕ, List, ◌++◌, length, Bool, true, false, Option, Some, None}
-use Rattle.station_days.specs.Date.{LocalMinute}
-use Rattle.station_core.specs.declared.input.Input.{Input}
-use Rattle.station_core.specs.Step.{State, step}
-use Rattle.station_core.specs.declared.rows.Waybill.{Waybill}
+use Rattle.http_desk.specs.Common.{LocalMinute, Input, State, step, Waybill}
 use Rattle.http_desk.specs.declared.asking.Response.{Response}
 use Rattle.http_desk.specs.declared.asking.Response.TheVariants as told
 use Rattle.http_desk.specs.declared.wanted.Wanted.{Wanted}

@@ -1,9 +1,6 @@
 -- Decoded requests, and the replies to them.
 use Rattle.std.specs.Prelude.{◌≡◌, ℕ, List, Option, string_bytes}
-use Rattle.station_days.specs.Date.{LocalMinute}
-use Rattle.station_core.specs.Readers.{waybill_of}
-use Rattle.station_core.specs.declared.input.Input.{Input}
-use Rattle.station_core.specs.Step.{State, step}
+use Rattle.http_desk.specs.Common.{LocalMinute, waybill_of, Input, State, step}
 use Rattle.http_desk.specs.declared.printout.Printout.{Printout}
 use Rattle.http_desk.specs.declared.wanted.Post.{Post}
 use Rattle.http_desk.specs.declared.wanted.Post.TheVariants as post

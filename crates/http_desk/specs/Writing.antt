@@ -1,9 +1,6 @@
 -- The answer to a request, and the bytes written.
 use Rattle.std.specs.Prelude.{◌≡◌, ◌⊎◌, ℕ, ◌<◌, ◌≤◌, Bool, false, Result, Ok, Err, List, ◌++◌, length, take}
-use Rattle.station_days.specs.Date.{LocalMinute}
-use Rattle.station_core.specs.Given.{Given}
-use Rattle.station_core.specs.Ends.{Sent, HasCause}
-use Rattle.station_core.specs.Step.{State}
+use Rattle.http_desk.specs.Common.{LocalMinute, Given, Sent, HasCause, State}
 use Rattle.http_desk.specs.declared.asking.Response.{Response}
 use Rattle.http_desk.specs.declared.asking.Response.TheVariants as told
 use Rattle.http_desk.specs.declared.printout.Printout.{Printout}

@@ -1,7 +1,7 @@
 //! The answer to an accepted input. It is written into an array on the stack, so that nothing is
 //! allocated between the act and the first byte of the 200.
 ghost use Rattle.std.specs.Prelude.{◌≡◌, ◌+◌, ◌≤◌, ◌<◌, ◌++◌, ◌∷◌, [], length, take, decimal};
-ghost use Rattle.serde_json.specs.Written.{compact_text};
+ghost use Rattle.http_desk.specs.Common.{compact_text};
 ghost use Rattle.http_desk.specs.Reply.{ok_data, ok_answer};
 
 use imp_fields::put_decimal;

@@ -1,11 +1,8 @@
 //! The bytes of an answer.
 ghost use Rattle.std.specs.Prelude.{◌≡◌, ◌++◌, length, IfOk, string_bytes, option_map};
-ghost use Rattle.http.specs.StatusCode.{IsStatusCode};
-ghost use Rattle.serde_json.specs.View.{view};
-ghost use Rattle.serde_json.specs.Written.{compact_text};
+ghost use Rattle.http_desk.specs.Common.{IsStatusCode, view, compact_text, boolean, string};
 ghost use Rattle.http_desk.specs.Request.{good_data, bad_data};
 ghost use Rattle.http_desk.specs.Reply.{status_line, allow_line, history_head, json_fields, json_answer, media_type, report_head, refused_data, pair_data, holding_data, holder_data, waybill_data};
-ghost use Rattle.serde_json.specs.Data.{boolean, string};
 ghost use Rattle.http_desk.specs.Members.{first_members, second_members, third_members, stored_members, last_members};
 
 use crate::printout::Printout;

@@ -1,14 +1,8 @@
 //! Calling the station for a request.
 ghost use Rattle.std.specs.Prelude.{◌≡◌, true, false, IfOk, Option, Some, string_bytes, option_map};
-ghost use Rattle.http.specs.StatusCode.{IsStatusCode};
-ghost use Rattle.serde_json.specs.Data.{Data};
-ghost use Rattle.serde_json.specs.Written.{compact_text};
-ghost use Rattle.station_core.specs.Keeping.{IfSound, IfWorks, KeepsSound, OnlyReads, StaysIfBroken};
-ghost use Rattle.station_core.specs.Step.{State};
+ghost use Rattle.http_desk.specs.Common.{IsStatusCode, Data, compact_text, IfSound, IfWorks, KeepsSound, OnlyReads, StaysIfBroken, State, LocalMinute, detail_text};
 ghost use Rattle.http_desk.specs.StationAfter.{station_after};
 ghost use Rattle.http_desk.specs.Told.{IsHistoryTold, IsToldAs, HasAsked, HasAskedShut, IsUnavailable, TellsHistory, tells_reopen};
-ghost use Rattle.station_days.specs.Date.{LocalMinute};
-ghost use Rattle.station_core.specs.Texts.{detail_text};
 ghost use Rattle.http_desk.specs.Fields.{meant};
 ghost use Rattle.http_desk.specs.Reply.{refused_data, json_reply, look_reply, fault_reply, refusal_status, refusal_reply, waybill_reply, holder_reply};
 

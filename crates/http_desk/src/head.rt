@@ -1,6 +1,6 @@
 //! Reading the head of a request.
 ghost use Rattle.std.specs.Prelude.{◌≡◌, ℕ, List, length, map, All, option_map, Some};
-ghost use Rattle.httparse.specs.Spans.{header_bytes, IsHeaderWithin};
+ghost use Rattle.http_desk.specs.Common.{header_bytes, IsHeaderWithin};
 ghost use Rattle.http_desk.specs.HeadTold.{asks_meant};
 ghost use Rattle.http_desk.specs.Request.{place_asks};
 ghost use Rattle.http_desk.specs.Routes.{Posted, Got, posts, gets, place_told};

@@ -2,9 +2,7 @@
 ghost use Rattle.std.specs.Prelude.{◌≡◌, IfOk, string_bytes};
 ghost use Rattle.http_desk.specs.History.{IsBehind, ReadsText, act_fault};
 ghost use Rattle.http_desk.specs.Reply.{IsHistory, record_line};
-ghost use Rattle.reports.specs.Listings.{IsListing};
-ghost use Rattle.station_core.specs.Counted.{given_of, inner_of};
-ghost use Rattle.station_core.specs.Given.{Given, nothing_given};
+ghost use Rattle.http_desk.specs.Common.{IsListing, given_of, inner_of, Given, nothing_given};
 
 use crate::answer::waybill_text;
 use awb_number::Awb;

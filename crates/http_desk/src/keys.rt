@@ -1,6 +1,6 @@
 //! Keys as segments of paths, percent-encoded.
 ghost use Rattle.std.specs.Prelude.{◌≡◌, ◌≤◌, ◌∷◌, IfSome, MatchOption, None, Some, length};
-ghost use Rattle.percent_encoding.specs.Iter.{encoded_text};
+ghost use Rattle.http_desk.specs.Common.{encoded_text};
 ghost use Rattle.http_desk.specs.Keys.{and_then, decoded, escaped_byte, key_in, key_segment};
 
 use percent_encoding::{AsciiSet, NON_ALPHANUMERIC, PercentEncode, ascii_set, percent_encode};

@@ -1,11 +1,9 @@
 //! A law of the routes.
 ghost use Rattle.std.specs.Prelude.{◌≡◌, ◌↔◌, ℕ, List, ◌∷◌, ◌++◌, Some};
-ghost use Rattle.awb_number.specs.Number.{number_text};
+ghost use Rattle.http_desk.specs.Common.{number_text, Form, Listing};
 ghost use Rattle.http_desk.specs.Paths.{HasPath, IsListed, IsPath, IsPathOf, LeadsTo, rows_path};
 ghost use Rattle.http_desk.specs.Printouts.{in_form};
 ghost use Rattle.http_desk.specs.Routes.{Place, Posted, gets, got_history, got_holder, got_report, got_waybill, place_of, posts};
-ghost use Rattle.reports.specs.declared.form.Form.{Form};
-ghost use Rattle.reports.specs.declared.listing.Listing.{Listing};
 
 /// States where each path leads, and that no other path leads anywhere. A query after a question
 /// mark isn't part of the path. A printed path leads to the place that it was printed for.

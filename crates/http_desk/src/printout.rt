@@ -1,7 +1,6 @@
 //! The paths of rows, as read and as printed.
 ghost use Rattle.std.specs.Prelude.{◌≡◌, IfOk, option_map, string_bytes};
-ghost use Rattle.std.specs.Result.{result_ok};
-ghost use Rattle.awb_number.specs.Number.{number_of};
+ghost use Rattle.http_desk.specs.Common.{result_ok, number_of};
 ghost use Rattle.http_desk.specs.Paths.{report_path, listing_path, rows_path};
 ghost use Rattle.http_desk.specs.Printouts.{agent_code, agent_rows, flight_date, in_form, numbered_rows, printout_at, row_number, rows_at, rows_named, rows_part, rows_word, waybill_rows};
 

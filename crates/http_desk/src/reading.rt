@@ -1,7 +1,6 @@
 //! Reading a request.
 ghost use Rattle.std.specs.Prelude.{◌≡◌, ◌<◌, ◌≤◌, ◌+◌, ◌-◌, ◌++◌, [], length, Err, OnOk, IfOk};
-ghost use Rattle.httparse.specs.Spans.{IsRequestOf, IsRequestWithin};
-ghost use Rattle.station_core.specs.Ends.{HasCause};
+ghost use Rattle.http_desk.specs.Common.{IsRequestOf, IsRequestWithin, HasCause};
 ghost use Rattle.http_desk.specs.Reading.{HasCome, HasGrown, HasMore, HasEndedEarly, HasEndedAfter, HasNoHead, HasNoHeadYet, most_reads};
 
 use httparse::Status;

@@ -1,6 +1,6 @@
 //! Receiving one request.
 ghost use Rattle.std.specs.Prelude.{◌≡◌, ◌≤◌, ◌+◌, ◌-◌, ◌++◌, [], length, Err, OnOk, IfOk};
-ghost use Rattle.httparse.specs.Spans.{IsRequestOf, IsRequestWithin};
+ghost use Rattle.http_desk.specs.Common.{IsRequestOf, IsRequestWithin};
 ghost use Rattle.http_desk.specs.Came.{BeginsWith, HasBody, HasPartBody, HasRequest};
 ghost use Rattle.http_desk.specs.Reading.{HasEndedEarly, HasEndedAfter, HasGrown, HasMore, most_reads};
 ghost use Rattle.http_desk.specs.Serving.{IsUnfinished};

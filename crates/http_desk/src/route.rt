@@ -1,6 +1,6 @@
 //! The desk's routes.
 ghost use Rattle.std.specs.Prelude.{◌≡◌, option_map};
-ghost use Rattle.desk_commands.specs.Verb.{verb_called};
+ghost use Rattle.http_desk.specs.Common.{verb_called};
 ghost use Rattle.http_desk.specs.Routes.{asked_place, page_at, page_named, page_part, page_word, place_told};
 
 use crate::printout::{Printout, printout_at};

@@ -1,7 +1,6 @@
 //! One connection.
 ghost use Rattle.std.specs.Prelude.{◌≡◌, ◌+◌, ◌≤◌, true, false, Err, IfOk};
-ghost use Rattle.station_core.specs.Keeping.{IfWorks, KeepsSound, StaysIfBroken};
-ghost use Rattle.station_core.specs.Step.{State};
+ghost use Rattle.http_desk.specs.Common.{IfWorks, KeepsSound, StaysIfBroken, State};
 ghost use Rattle.http_desk.specs.Told.{tells_reopen};
 ghost use Rattle.http_desk.specs.Came.{HasRequest};
 ghost use Rattle.http_desk.specs.Reading.{HasEndedEarly, most_reads};

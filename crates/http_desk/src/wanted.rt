@@ -1,7 +1,6 @@
 //! Decoding a request.
 ghost use Rattle.std.specs.Prelude.{◌≡◌, IfOk, option_map};
-ghost use Rattle.httparse.specs.Grammar.{RequestHead};
-ghost use Rattle.httparse.specs.Spans.{IsRequestAt, IsRequestOf, IsRequestWithin};
+ghost use Rattle.http_desk.specs.Common.{RequestHead, IsRequestAt, IsRequestOf, IsRequestWithin};
 ghost use Rattle.http_desk.specs.Answer.{head_of};
 ghost use Rattle.http_desk.specs.Asked.{body_meant};
 ghost use Rattle.http_desk.specs.HeadTold.{asks_meant, got_at};

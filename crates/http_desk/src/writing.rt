@@ -1,7 +1,6 @@
 //! Writing an answer.
 ghost use Rattle.std.specs.Prelude.{◌≡◌, Bool, true, false, Err};
-ghost use Rattle.station_core.specs.Keeping.{IfWorks, IsReadersFault, OnlyReads, StaysIfBroken};
-ghost use Rattle.station_core.specs.Step.{State};
+ghost use Rattle.http_desk.specs.Common.{IfWorks, IsReadersFault, OnlyReads, StaysIfBroken, State};
 ghost use Rattle.http_desk.specs.Reply.{ok_answer};
 ghost use Rattle.http_desk.specs.Serving.{unavailable, StopsServing};
 ghost use Rattle.http_desk.specs.Writing.{HasSent, HasReported, HasWritten, HasWrittenShut};

@@ -1,8 +1,6 @@
 -- Counts of pieces, and weights in tenths of a kilogram.
 use Rattle.std.specs.Prelude.{ℕ, ◌+◌, ◌*◌, ◌/◌, ◌^◌, ◌≤◌, max, Bool, ◌&&◌, ◌||◌, not, nat_le, List, length, filter, count_by, slice_index, ◌-◌, Option}
-use Rattle.std.specs.List.{list_all, after_first}
-use Rattle.awb_number.specs.Digits.{is_digit, decimal_value}
-use Rattle.station_days.specs.Steps.{where_true}
+use Rattle.imp_fields.specs.Common.{list_all, after_first, is_digit, decimal_value, where_true}
 use Rattle.imp_fields.specs.Characters.{is_point}
 use Rattle.imp_fields.specs.declared.amount.WeightUnit.{WeightUnit}
 use Rattle.imp_fields.specs.declared.amount.WeightUnit.TheVariants.{Kilograms, Pounds}

@@ -1,6 +1,6 @@
 -- Kinds of characters, and the fields of a line.
 use Rattle.std.specs.Prelude.{◌≡◌, false, [], ◌∷◌, ℕ, ◌-◌, Bool, ◌&&◌, ◌==◌, nat_le, List, length, take, drop}
-use Rattle.std.specs.List.{list_all, prefix_len, suffix_len, slice_split}
+use Rattle.imp_fields.specs.Common.{list_all, prefix_len, suffix_len, slice_split}
 
 -- a space or printable ASCII
 abbrev pub is_printable : ℕ → Bool

@@ -1,3 +1,4 @@
+pub mod Common
 pub mod Characters
 pub mod TextSize
 pub mod Amount

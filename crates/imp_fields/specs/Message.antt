@@ -1,8 +1,6 @@
 -- The common part of the three kinds of messages: the head, and the first fault of the lines.
 use Rattle.std.specs.Prelude.{ℕ, Bool, ◌&&◌, ◌==◌, nat_eq, nat_le, if◌then◌else◌, List, [], ◌∷◌, ◌++◌, length, drop, slice_index, Option, Some, None, Result, Ok, Err}
-use Rattle.std.specs.List.{list_all, starts_with}
-use Rattle.awb_number.specs.Digits.{is_digit}
-use Rattle.station_days.specs.Steps.{or_else}
+use Rattle.imp_fields.specs.Common.{list_all, starts_with, is_digit, or_else}
 use Rattle.imp_fields.specs.NormalText.{fault_at, first_fault}
 use Rattle.imp_fields.specs.declared.fault.Why.{Why}
 use Rattle.imp_fields.specs.declared.fault.Why.TheVariants as why

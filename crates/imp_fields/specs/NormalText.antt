@@ -1,7 +1,6 @@
 -- The normal text of a telegram: its lines from the message line on.
 use Rattle.std.specs.Prelude.{◌≡◌, ℕ, ◌+◌, ◌-◌, Bool, ◌==◌, not, nat_eq, nat_lt, if◌then◌else◌, List, [], ◌∷◌, length, take, drop, map, position, is_some, Option, Some, None, Result, Ok, Err, codes}
-use Rattle.std.specs.List.{list_all, starts_with, slice_split, join_with_byte}
-use Rattle.std.specs.Str.Lines.{strip_carriage_return}
+use Rattle.imp_fields.specs.Common.{list_all, starts_with, slice_split, join_with_byte, strip_carriage_return}
 use Rattle.imp_fields.specs.TextSize.{most_bytes, most_lines}
 use Rattle.imp_fields.specs.Characters.{is_printable, before_last_while}
 use Rattle.imp_fields.specs.Name.{trimmed}

@@ -1,8 +1,7 @@
 -- The state of a scan over the lines of a telegram.
 use Rattle.std.specs.Prelude.{◌≡◌, ℕ, ◌+◌, ◌≤◌, ◌&&◌, nat_le, nat_lt, if◌then◌else◌, is_some, List, [], ◌∷◌, ◌++◌, length, take, drop, map, position, Option, Some, None}
-use Rattle.std.specs.List.{AllByRecursion, slice_split}
+use Rattle.imp_fields.specs.Common.{AllByRecursion, slice_split, or_else}
 use Rattle.imp_fields.specs.Characters.{before_last_while}
-use Rattle.station_days.specs.Steps.{or_else}
 use Rattle.imp_fields.specs.Token.{AreSlices}
 use Rattle.imp_fields.specs.NormalText.{is_newline, line_without_end, starts_from, is_empty, line_fault, first_fault, kind_of, is_message_line}
 use Rattle.imp_fields.specs.TextSize.{most_lines}

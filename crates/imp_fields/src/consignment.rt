@@ -1,8 +1,7 @@
 //! The consignment line of a message: `020-12345675FRAJFK/T10K100MC0.5/CARGO`.
 
 ghost use Rattle.std.specs.Prelude.{◌≡◌, ◌≤◌, length, slice_range, IsSome, IfOk};
-ghost use Rattle.awb_number.specs.Number.{has_number_shape};
-ghost use Rattle.station_days.specs.Steps.{where_true};
+ghost use Rattle.imp_fields.specs.Common.{has_number_shape, where_true};
 ghost use Rattle.imp_fields.specs.Consignment.{has_consignment_shape, consignment_of, plain, HasSpans};
 
 use crate::airport::Airport;

@@ -1,7 +1,7 @@
 //! The fields of a line, separated by slashes.
 
 ghost use Rattle.std.specs.Prelude.{◌≡◌, ◌∷◌, [], drop, IfSome, None};
-ghost use Rattle.std.specs.List.{join_with_byte};
+ghost use Rattle.imp_fields.specs.Common.{join_with_byte};
 ghost use Rattle.imp_fields.specs.Characters.{fields};
 
 use crate::run;

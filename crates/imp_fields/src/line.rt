@@ -1,5 +1,5 @@
 ghost use Rattle.std.specs.Prelude.{◌≤◌, IsTrue, length};
-ghost use Rattle.std.specs.List.{list_all};
+ghost use Rattle.imp_fields.specs.Common.{list_all};
 ghost use Rattle.imp_fields.specs.Token.{is_line_token};
 ghost use Rattle.imp_fields.specs.TextSize.{most_lines};
 

@@ -1,5 +1,5 @@
 ghost use Rattle.std.specs.Prelude.{◌≡◌, ◌++◌, ◌-◌, ◌↔◌, ℕ, ◌≤◌, List, length, take, IsTrue, IsSome, IfSome, Some};
-ghost use Rattle.std.specs.List.{list_all};
+ghost use Rattle.imp_fields.specs.Common.{list_all};
 ghost use Rattle.std.specs.Prelude.{replicate};
 ghost use Rattle.imp_fields.specs.Characters.{is_printable};
 ghost use Rattle.imp_fields.specs.Padding.{IsPadded, padding_bytes, padding_length};

@@ -1,8 +1,7 @@
 //! Runs of bytes of one kind at either end of a text, and the numbers in them.
 
 ghost use Rattle.std.specs.Prelude.{◌≡◌, ◌<◌, ◌≤◌, ◌^◌, ℕ, length, take, is_some, IfSome};
-ghost use Rattle.std.specs.List.{list_all, position_or_len, prefix_len, suffix_len};
-ghost use Rattle.awb_number.specs.Digits.{is_digit, decimal_value};
+ghost use Rattle.imp_fields.specs.Common.{list_all, position_or_len, prefix_len, suffix_len, is_digit, decimal_value};
 ghost use Rattle.imp_fields.specs.Amount.{IsPieces, count_of, is_digit_or_point};
 ghost use Rattle.imp_fields.specs.Characters.{is_blank, is_printable, is_slash};
 ghost use Rattle.imp_fields.specs.NormalText.{is_newline};

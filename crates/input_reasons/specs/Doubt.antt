@@ -1,8 +1,6 @@
 -- Doubtful lines.
 use Rattle.std.specs.Prelude.{ℕ, Bool, ◌&&◌, ◌||◌, ◌==◌, not, nat_eq, nat_le, List, length, take, filter, slice_range, codes}
-use Rattle.std.specs.List.{list_all, starts_with}
-use Rattle.awb_number.specs.Digits.{is_digit, is_letter}
-use Rattle.imp_fields.specs.NormalText.{is_message_line}
+use Rattle.input_reasons.specs.Common.{list_all, starts_with, is_digit, is_letter, is_message_line}
 
 -- a space, a hyphen or a slash
 abbrev pub is_gap : ℕ → Bool

@@ -1,3 +1,4 @@
+pub mod Common
 pub mod Doubt
 pub mod Look
 pub mod LookObject

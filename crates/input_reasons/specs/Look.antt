@@ -1,18 +1,8 @@
 -- Dry runs of telegrams: how each line is read.
 use Rattle.std.specs.Prelude.{◌≡◌, ◌⊎◌, ℕ, ◌+◌, Bool, true, false, ◌&&◌, ◌||◌, ◌==◌, not, is_some, if◌then◌else◌, List, [], ◌∷◌, ◌++◌, length, map, take_while, drop, Option, Some, None, Ok}
-use Rattle.std.specs.List.{list_any, slice_split}
-use Rattle.imp_fields.specs.Consignment.{Shipment, consignment_of}
-use Rattle.imp_fields.specs.NormalText.{fault_at, is_newline, line_without_end, lines_of, normal_lines, is_message_line}
-use Rattle.imp_fields.specs.declared.fault.TextFault.{TextFault}
+use Rattle.input_reasons.specs.Common.{list_any, slice_split, Shipment, consignment_of, fault_at, is_newline, line_without_end, lines_of, normal_lines, is_message_line, TextFault, is_cargo_line, unloading_point, CargoLine, InboundLine, day_in_year, Meant, cargo_line, refusal_of, telegram_fault, IsTelegram, Content, TelegramFault}
 use Rattle.imp_fields.specs.declared.fault.Why.TheVariants as why
-use Rattle.ffm_text.specs.Ffm.{is_cargo_line, unloading_point}
-use Rattle.shipment_machine.specs.declared.command.CargoLine.{CargoLine}
-use Rattle.shipment_machine.specs.declared.command.InboundLine.{InboundLine}
-use Rattle.station_days.specs.Date.{day_in_year}
-use Rattle.telegrams.specs.Meaning.{Meant, cargo_line, refusal_of, telegram_fault, IsTelegram}
-use Rattle.telegrams.specs.declared.telegram.Content.{Content}
 use Rattle.telegrams.specs.declared.telegram.Content.TheVariants as content
-use Rattle.telegrams.specs.declared.telegram.TelegramFault.{TelegramFault}
 use Rattle.telegrams.specs.declared.telegram.TelegramFault.TheVariants as fault
 use Rattle.input_reasons.specs.Doubt.{is_doubtful, begins_answer}
 use Rattle.input_reasons.specs.declared.look_line.DroppedLine.{DroppedLine}

@@ -1,14 +1,6 @@
 -- A dry run as a JSON object.
 use Rattle.std.specs.Prelude.{ℕ, Bool, List, ◌++◌, map, filter_map, Option, Some, None, codes, decimal}
-use Rattle.std.specs.List.{join_by}
-use Rattle.serde_json.specs.Data.{boolean, string}
-use Rattle.serde_json.specs.Written.{compact_text}
-use Rattle.awb_number.specs.Number.{number_text}
-use Rattle.imp_fields.specs.Flight.{flight_text}
-use Rattle.station_days.specs.Date.{date_text}
-use Rattle.shipment_machine.specs.declared.command.CargoLine.{CargoLine}
-use Rattle.telegrams.specs.declared.telegram.PartContent.{PartContent}
-use Rattle.telegrams.specs.declared.telegram.Content.{Content}
+use Rattle.input_reasons.specs.Common.{join_by, boolean, string, compact_text, number_text, flight_text, date_text, CargoLine, PartContent, Content}
 use Rattle.telegrams.specs.declared.telegram.Content.TheVariants as content
 use Rattle.input_reasons.specs.Look.{has_doubt}
 use Rattle.input_reasons.specs.declared.look_line.DroppedLine.{DroppedLine}

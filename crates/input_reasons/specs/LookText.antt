@@ -1,11 +1,6 @@
 -- A dry run as lines for people.
 use Rattle.std.specs.Prelude.{ℕ, Bool, if◌then◌else◌, List, [], ◌++◌, flat_map, Option, Some, None, codes, decimal}
-use Rattle.awb_number.specs.Number.{number_text}
-use Rattle.imp_fields.specs.Flight.{flight_text}
-use Rattle.station_days.specs.Date.{date_text}
-use Rattle.shipment_machine.specs.Amount.{amount_text}
-use Rattle.shipment_machine.specs.declared.command.CargoLine.{CargoLine}
-use Rattle.telegrams.specs.declared.telegram.Content.{Content}
+use Rattle.input_reasons.specs.Common.{number_text, flight_text, date_text, amount_text, CargoLine, Content}
 use Rattle.telegrams.specs.declared.telegram.Content.TheVariants as content
 use Rattle.input_reasons.specs.declared.look_line.DroppedLine.{DroppedLine}
 use Rattle.input_reasons.specs.declared.look_line.LinePart.{LinePart}

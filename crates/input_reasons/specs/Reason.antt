@@ -1,8 +1,6 @@
 -- Reasons on standard error: one line each, for people.
 use Rattle.std.specs.Prelude.{◌≡◌, ◌==◌, ◌||◌, ℕ, Bool, IsTrue, List, [], ◌∷◌, ◌++◌, codes, decimal, take}
-use Rattle.std.specs.List.{list_all}
-use Rattle.imp_fields.specs.Characters.{is_printable}
-use Rattle.shipment_machine.specs.declared.plans.Refusal.{Refusal}
+use Rattle.input_reasons.specs.Common.{list_all, is_printable, Refusal}
 
 -- a line of printable ASCII that begins with this head
 abbrev pub IsReason : List ℕ → List ℕ → Type 0

@@ -1,10 +1,7 @@
 //! A dry run as a JSON object.
 
 ghost use Rattle.std.specs.Prelude.{◌≡◌, ◌++◌, [], IfOk, OnOk, filter_map, map, option_map, string_bytes};
-ghost use Rattle.std.specs.List.{cons_option};
-ghost use Rattle.std.specs.Str.{IsAscii};
-ghost use Rattle.serde_json.specs.Data.{boolean, string};
-ghost use Rattle.serde_json.specs.Written.{compact_text};
+ghost use Rattle.input_reasons.specs.Common.{cons_option, IsAscii, boolean, string, compact_text};
 ghost use Rattle.input_reasons.specs.LookObject.{cargo_members, dropped_object, list_text, look_object, message_members, part_members, passed_object, read_object, route_members, text_members, text_object, total_value};
 
 use crate::look::Look;

@@ -1,7 +1,6 @@
 //! Why a body says no command of its verb.
 ghost use Rattle.std.specs.Prelude.{IfOk, IsTrue, codes, string_bytes};
-ghost use Rattle.std.specs.List.{list_all};
-ghost use Rattle.imp_fields.specs.Characters.{is_printable};
+ghost use Rattle.input_reasons.specs.Common.{list_all, is_printable};
 ghost use Rattle.input_reasons.specs.Reason.{IsReason};
 
 use crate::field::fields_words;

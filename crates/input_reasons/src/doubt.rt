@@ -1,9 +1,7 @@
 //! Doubtful lines.
 
 ghost use Rattle.std.specs.Prelude.{◌≡◌, IfOk};
-ghost use Rattle.std.specs.List.{list_all};
-ghost use Rattle.awb_number.specs.Digits.{is_letter};
-ghost use Rattle.imp_fields.specs.NormalText.{is_message_line};
+ghost use Rattle.input_reasons.specs.Common.{list_all, is_letter, is_message_line};
 ghost use Rattle.input_reasons.specs.Doubt.{begins_answer, begins_consignment, is_digit_or_o, is_doubtful, is_gap, resembles_consignment, without_gaps};
 
 use std::alloc::{AllocError, Global};

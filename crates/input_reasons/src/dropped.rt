@@ -1,9 +1,7 @@
 //! The lines before the message line.
 
 ghost use Rattle.std.specs.Prelude.{◌≡◌, ◌<◌, ◌≤◌, ◌∷◌, [], None, IsTrue, IfOk, IfSome, length, map};
-ghost use Rattle.std.specs.List.{list_all, position_or_len, slice_split, suffix_len};
-ghost use Rattle.imp_fields.specs.Characters.{is_blank, is_line};
-ghost use Rattle.imp_fields.specs.NormalText.{is_newline, line_without_end};
+ghost use Rattle.input_reasons.specs.Common.{list_all, position_or_len, slice_split, suffix_len, is_blank, is_line, is_newline, line_without_end};
 ghost use Rattle.input_reasons.specs.Look.{dropped_line, front_lines};
 
 use crate::doubt::{begins_answer, is_message_line};

@@ -1,8 +1,7 @@
 //! A law about the definitions.
 
 ghost use Rattle.std.specs.Prelude.{◌≡◌, ◌++◌, ℕ, List, filter_map};
-ghost use Rattle.imp_fields.specs.NormalText.{lines_of};
-ghost use Rattle.telegrams.specs.declared.telegram.PartContent.{PartContent};
+ghost use Rattle.input_reasons.specs.Common.{lines_of, PartContent};
 ghost use Rattle.telegrams.specs.declared.telegram.Content.TheVariants as content;
 ghost use Rattle.input_reasons.specs.Look.{AreNumbered, AreRead, IsLook, dropped_texts, loaded_by, seen_texts};
 ghost use Rattle.input_reasons.specs.declared.look.Look.{Look};

@@ -1,8 +1,7 @@
 //! Dry runs of telegrams.
 
 ghost use Rattle.std.specs.Prelude.{◌≡◌, IfOk, IfErr};
-ghost use Rattle.std.specs.List.{list_any};
-ghost use Rattle.telegrams.specs.Meaning.{kind_said};
+ghost use Rattle.input_reasons.specs.Common.{list_any, kind_said};
 ghost use Rattle.input_reasons.specs.Look.{IsLook, RefusesLook, has_doubt, has_no_day};
 
 use crate::dropped::dropped_lines;

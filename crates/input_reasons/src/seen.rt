@@ -1,12 +1,7 @@
 //! The lines of a message, from its message line on.
 
 ghost use Rattle.std.specs.Prelude.{◌≡◌, ◌≤◌, ◌&&◌, ◌++◌, IsTrue, IfOk, OnOk, length, map};
-ghost use Rattle.std.specs.List.{list_all};
-ghost use Rattle.imp_fields.specs.Characters.{is_line};
-ghost use Rattle.imp_fields.specs.NormalText.{line_texts};
-ghost use Rattle.imp_fields.specs.TextSize.{most_lines};
-ghost use Rattle.imp_fields.specs.Token.{is_line_token};
-ghost use Rattle.ffm_text.specs.Ffm.{is_cargo_line};
+ghost use Rattle.input_reasons.specs.Common.{list_all, is_line, line_texts, most_lines, is_line_token, is_cargo_line};
 ghost use Rattle.input_reasons.specs.Doubt.{is_doubtful};
 ghost use Rattle.input_reasons.specs.Look.{cargo_of, is_unread, left_behind, loaded_part, lower_lines, lower_part, manifest_part, second_part, seen_line, seen_lines};
 

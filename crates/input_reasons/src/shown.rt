@@ -1,7 +1,6 @@
 //! Texts of the input as a reason repeats them.
 ghost use Rattle.std.specs.Prelude.{◌≤◌, ◌<◌, OnOk, IfOk, IsTrue, string_bytes, codes};
-ghost use Rattle.std.specs.List.{list_all};
-ghost use Rattle.imp_fields.specs.Characters.{is_printable};
+ghost use Rattle.input_reasons.specs.Common.{list_all, is_printable};
 ghost use Rattle.input_reasons.specs.Reason.{IsReason, numbered_head};
 
 use std::alloc::{AllocError, Global};

@@ -1,6 +1,6 @@
 //! Writing a reason.
 ghost use Rattle.std.specs.Prelude.{◌≡◌, ℕ, List, IfOk, OnErr, string_bytes};
-ghost use Rattle.station_core.specs.Ends.{SendsLine};
+ghost use Rattle.input_reasons.specs.Common.{SendsLine};
 ghost use Rattle.input_reasons.specs.Reason.{HasReason, IsReason};
 
 use station_core::{ByteOut, send};

@@ -1,12 +1,6 @@
 -- Waybills built on a flight.
 use Rattle.std.specs.Prelude.{ℕ, Bool, nat_lt, List}
-use Rattle.shipment_machine.specs.declared.flight.FlightDate.{FlightDate}
-use Rattle.shipment_machine.specs.declared.moves.Move.{Move}
-use Rattle.shipment_machine.specs.declared.view.FlightLoad.{FlightLoad}
-use Rattle.shipment_machine.specs.Book.{same_place, built}
-use Rattle.shipment_machine.specs.declared.moves.Place.TheVariants.{Built}
-use Rattle.shipment_machine.specs.Cargo.{Cargo}
-use Rattle.shipment_machine.specs.Views.{declaration}
+use Rattle.plain_station.specs.Common.{FlightDate, Move, FlightLoad, same_place, built, Built, Cargo, declaration}
 
 abbrev pub is_onto : FlightDate → Move → Bool
 is_onto flight m = same_place (Built flight) m.to

@@ -1,7 +1,6 @@
 -- Bounds of a waybill's amounts.
 use Rattle.std.specs.Prelude.{◌≤◌}
-use Rattle.shipment_machine.specs.declared.amount.Amount.{Amount}
-use Rattle.imp_fields.specs.Amount.{most_pieces, most_tenths}
+use Rattle.plain_station.specs.Common.{Amount, most_pieces, most_tenths}
 
 -- at most 9,999 pieces and 999,999 tenths
 pub record IsWithin (a : Amount) : Type 0 where

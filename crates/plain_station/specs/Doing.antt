@@ -1,12 +1,8 @@
 -- Acting on a new input.
 use Rattle.std.specs.Prelude.{◌≡◌, ℕ, true, false, Result, Ok, Err}
-use Rattle.shipment_machine.specs.Cargo.{Cargo}
-use Rattle.shipment_machine.specs.Lawful.{IsLawful}
-use Rattle.shipment_machine.specs.declared.plans.Refusal.{Refusal}
+use Rattle.plain_station.specs.Common.{Cargo, IsLawful, Refusal, ActFault, Acted, with_notices, has_room}
 use Rattle.shipment_machine.specs.declared.plans.Detail.TheVariants as detail
-use Rattle.station_core.specs.declared.answer.ActFault.{ActFault}
 use Rattle.station_core.specs.declared.answer.ActFault.TheVariants as fault
-use Rattle.station_core.specs.Step.{Acted, with_notices, has_room}
 
 -- a lawful cargo whose rows can all be numbered
 pub record IsSteady (s : Cargo) : Type 0 where

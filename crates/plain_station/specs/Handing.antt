@@ -1,8 +1,6 @@
 -- What a reader of rows in memory does with its sink.
 use Rattle.std.specs.Prelude.{◌≡◌, Bool, Result, List, OnOk, OnErr, IfErr}
-use Rattle.row_sinks.specs.Handed.{HandedOut}
-use Rattle.station_core.specs.Keeping.{IsMemory}
-use Rattle.station_core.specs.declared.answer.ActFault.{ActFault}
+use Rattle.plain_station.specs.Common.{HandedOut, IsMemory, ActFault}
 
 -- The sink took the rows in order, up to the one at which it stopped; none if memory ran out.
 pub record HandsRows {S Row : Type 0} (takes : S → Row → Bool → S → Type 0) (AreRows : List Row → Type 0) (from to : S) (result : Result (Unit {0}) ActFault) : Type 0 where

@@ -1,10 +1,6 @@
 -- The accepted inputs of a plain station, and its state.
 use Rattle.std.specs.Prelude.{ℕ, Option, List}
-use Rattle.std.specs.Option.{option_map}
-use Rattle.std.specs.List.{find}
-use Rattle.std.specs.Str.{bytes_eq}
-use Rattle.station_core.specs.Step.{Kept}
-use Rattle.station_core.specs.Told.{kept_of}
+use Rattle.plain_station.specs.Common.{option_map, find, bytes_eq, Kept, kept_of}
 use Rattle.plain_station.specs.declared.kept.KeptKey.{KeptKey}
 use Rattle.plain_station.specs.declared.kept.KeptText.{KeptText}
 

@@ -1,3 +1,4 @@
+pub mod Common
 pub mod Aboard
 pub mod Bounds
 pub mod Doing

@@ -1,21 +1,6 @@
 -- The cargo in lists of rows.
 use Rattle.std.specs.Prelude.{◌≡◌, ℕ, ◌&&◌, ◌==◌, IsTrue, Option, List, map}
-use Rattle.std.specs.Option.{option_map}
-use Rattle.std.specs.List.{find}
-use Rattle.std.specs.FinMap.{is_sorted}
-use Rattle.std.specs.Ordering.{nat_cmp}
-use Rattle.agent_stock.specs.Plain.{holders_of}
-use Rattle.shipment_machine.specs.declared.flight.FlightDate.{FlightDate}
-use Rattle.shipment_machine.specs.declared.moves.Declared.{Declared}
-use Rattle.shipment_machine.specs.declared.moves.Outbound.{Outbound}
-use Rattle.shipment_machine.specs.declared.moves.Expected.{Expected}
-use Rattle.shipment_machine.specs.declared.moves.Part.{Part}
-use Rattle.shipment_machine.specs.Flights.{same_flight_date}
-use Rattle.shipment_machine.specs.Cargo.{Cargo, same_part}
-use Rattle.station_core.specs.Texts.{texts_in}
-use Rattle.station_core.specs.declared.rows.AnnouncedRow.{AnnouncedRow}
-use Rattle.station_core.specs.declared.rows.Expectation.{Expectation}
-use Rattle.station_core.specs.declared.rows.NotedFlight.{NotedFlight}
+use Rattle.plain_station.specs.Common.{option_map, find, is_sorted, nat_cmp, holders_of, FlightDate, Declared, Outbound, Expected, Part, same_flight_date, Cargo, same_part, texts_in, AnnouncedRow, Expectation, NotedFlight}
 use Rattle.plain_station.specs.declared.rows.DeclaredRow.{DeclaredRow}
 use Rattle.plain_station.specs.declared.rows.PartRow.{PartRow}
 use Rattle.plain_station.specs.declared.rows.TrailRow.{TrailRow}

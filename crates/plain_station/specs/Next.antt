@@ -1,11 +1,9 @@
 -- The cargo after some rows are replaced.
 use Rattle.std.specs.Prelude.{◌++◌}
-use Rattle.agent_stock.specs.Plain.{holders_of}
-use Rattle.shipment_machine.specs.Cargo.{Cargo}
+use Rattle.plain_station.specs.Common.{holders_of, Cargo, texts_in}
 use Rattle.plain_station.specs.declared.lists.CargoLists.{CargoLists}
 use Rattle.plain_station.specs.declared.writing.NextRows.{NextRows}
 use Rattle.plain_station.specs.Lists.{declared_in, flights_in, expected_in, parts_in, trail_in}
-use Rattle.station_core.specs.Texts.{texts_in}
 
 abbrev pub cargo_with : CargoLists → NextRows → Cargo
 cargo_with c next = record {

@@ -1,12 +1,7 @@
 -- A cargo is lawful in at most one way.
 use Rattle.std.specs.Prelude.{Option, List, [], ◌∷◌}
 use Rattle.std.proofs.Props.{props}
-use Rattle.shipment_machine.specs.declared.flight.FlightDate.{FlightDate}
-use Rattle.shipment_machine.specs.declared.moves.Move.{Move}
-use Rattle.shipment_machine.specs.declared.moves.Place.{Place}
-use Rattle.shipment_machine.specs.declared.moves.Place.TheVariants.{Hand, Surplus, Free, Built, Departed, Delivered, Missing, Transferred}
-use Rattle.shipment_machine.specs.Cargo.{Cargo}
-use Rattle.shipment_machine.specs.Lawful.{IsNoted, NamesFlight, StaysDeparted}
+use Rattle.plain_station.specs.Common.{FlightDate, Move, Place, Hand, Surplus, Free, Built, Departed, Delivered, Missing, Transferred, Cargo, IsNoted, NamesFlight, StaysDeparted}
 
 pub noted_prop : (s : Cargo) (p : Place) → IsProp (IsNoted s p)
 noted_prop s Hand = Prim.hlevel (props)

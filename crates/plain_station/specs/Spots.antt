@@ -1,7 +1,6 @@
 -- The places counted.
 use Rattle.std.specs.Prelude.{Bool}
-use Rattle.shipment_machine.specs.declared.moves.Place.{Place}
-use Rattle.shipment_machine.specs.Book.{same_place, in_store}
+use Rattle.plain_station.specs.Common.{Place, same_place, in_store}
 use Rattle.plain_station.specs.declared.balances.Spot.{Spot}
 use Rattle.plain_station.specs.declared.balances.Spot.TheVariants.{At, Store}
 

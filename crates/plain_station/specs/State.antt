@@ -1,7 +1,6 @@
 -- The state of a plain station.
 use Rattle.std.specs.Prelude.{◌≡◌, false}
-use Rattle.station_core.specs.Keeping.{Keeping}
-use Rattle.station_core.specs.Step.{State}
+use Rattle.plain_station.specs.Common.{Keeping, State}
 use Rattle.plain_station.specs.Lists.{cargo_of}
 use Rattle.plain_station.specs.Kept.{count_under, kept_under}
 use Rattle.plain_station.specs.declared.station.PlainStation.{PlainStation}

@@ -1,6 +1,6 @@
 //! Queries of the movement book and of the trail.
 ghost use Rattle.std.specs.Prelude.{◌≡◌, ◌==◌, nat_lt, filter};
-ghost use Rattle.station_core.specs.Readers.{is_of_flight, last_of, lines_for, movements_for};
+ghost use Rattle.plain_station.specs.Common.{is_of_flight, last_of, lines_for, movements_for};
 
 use awb_number::Awb;
 use shipment_machine::{FlightDate, Move, Place};

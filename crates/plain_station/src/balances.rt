@@ -2,9 +2,7 @@
 ghost use Rattle.std.specs.Prelude.{◌≡◌, ◌≤◌, ◌-◌, length};
 ghost use Rattle.plain_station.specs.Bounds.{IsWithin};
 ghost use Rattle.plain_station.specs.Spots.{is_in};
-ghost use Rattle.shipment_machine.specs.Book.{same_place, in_store, pieces_of, tenths_of, moved_in, moved_out, held, store, drawn, has_moves};
-ghost use Rattle.imp_fields.specs.Amount.{most_pieces, most_tenths};
-ghost use Rattle.station_core.specs.Step.{most_rows};
+ghost use Rattle.plain_station.specs.Common.{same_place, in_store, pieces_of, tenths_of, moved_in, moved_out, held, store, drawn, has_moves, most_pieces, most_tenths, most_rows};
 
 use awb_number::Awb;
 use shipment_machine::{Amount, Move, Place};

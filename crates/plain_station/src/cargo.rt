@@ -1,7 +1,6 @@
 ghost use Rattle.std.specs.Prelude.{◌≡◌};
 ghost use Rattle.std.proofs.Props.{props};
-ghost use Rattle.shipment_machine.specs.Book.{balances_of};
-ghost use Rattle.shipment_machine.specs.Cargo.{opening_cargo};
+ghost use Rattle.plain_station.specs.Common.{balances_of, opening_cargo};
 ghost use Rattle.plain_station.specs.Doing.{IsSteady};
 ghost use Rattle.plain_station.specs.Lists.{cargo_of};
 ghost use Rattle.plain_station.specs.Props.{noted_prop, names_prop, departed_prop};

@@ -1,12 +1,8 @@
 //! Acting on a new input.
 ghost use Rattle.std.specs.Prelude.{◌≡◌, ℕ, List};
-ghost use Rattle.station_days.specs.Date.{LocalMinute};
-ghost use Rattle.agent_stock.specs.Stock.{order_refusal};
+ghost use Rattle.plain_station.specs.Common.{LocalMinute, order_refusal, Stock, effect, acted, stock_acted, cargo_acted, Keyed, Wire};
 ghost use Rattle.desk_commands.specs.declared.command.Command.{Command as AnyCommand};
-ghost use Rattle.desk_commands.specs.declared.command.Command.TheVariants.{Stock, Cargo};
-ghost use Rattle.shipment_machine.specs.Effect.{effect};
-ghost use Rattle.station_core.specs.Step.{acted, stock_acted, cargo_acted};
-ghost use Rattle.station_core.specs.declared.input.Input.TheVariants.{Keyed, Wire};
+ghost use Rattle.desk_commands.specs.declared.command.Command.TheVariants.{Cargo};
 ghost use Rattle.plain_station.specs.Lists.{cargo_of};
 ghost use Rattle.plain_station.specs.Doing.{Does};
 

@@ -1,8 +1,6 @@
 //! Accepted inputs and their counts.
 ghost use Rattle.std.specs.Prelude.{◌≡◌};
-ghost use Rattle.std.specs.Option.{option_copied, option_map};
-ghost use Rattle.station_core.specs.Step.{key_answer};
-ghost use Rattle.station_core.specs.Told.{kept_of};
+ghost use Rattle.plain_station.specs.Common.{option_copied, option_map, key_answer, kept_of};
 ghost use Rattle.plain_station.specs.Kept.{count_under, kept_under};
 
 use station_core::{Answer, KeptReply, Key, repeated_key};

@@ -1,11 +1,9 @@
 //! The readers of flights, expectations and announced waybills. They hand out rows until the sink
 //! stops, or none if memory runs out.
 ghost use Rattle.std.specs.Prelude.{◌≡◌, ◌≤◌, length, sum_by, IsSome, IfOk};
-ghost use Rattle.shipment_machine.specs.Book.{built};
-ghost use Rattle.station_core.specs.Readers.{has_come, AreAnnounced, AreNoted, flight_row, AreFlightRows, AreExpectations, expected_row, AreExpectedBy};
+ghost use Rattle.plain_station.specs.Common.{built, has_come, AreAnnounced, AreNoted, flight_row, AreFlightRows, AreExpectations, expected_row, AreExpectedBy, most_waybills};
 ghost use Rattle.plain_station.specs.Handing.{HandsRows};
 ghost use Rattle.plain_station.specs.Lists.{cargo_of};
-ghost use Rattle.imp_fields.specs.Flight.{most_waybills};
 
 use crate::cargo::PlainCargo;
 use crate::order::{put_declared, put_expected, put_flight};

@@ -1,6 +1,5 @@
 ghost use Rattle.std.specs.Prelude.{◌≡◌, IsSome, Some};
-ghost use Rattle.std.specs.Option.{option_copied};
-ghost use Rattle.shipment_machine.specs.Cargo.{opening_cargo};
+ghost use Rattle.plain_station.specs.Common.{option_copied, opening_cargo};
 ghost use Rattle.plain_station.specs.Lists.{cargo_of, declared_in, flights_in, expected_in, parts_in};
 
 use crate::rows::{DeclaredRow, PartRow, TrailRow};

@@ -1,8 +1,6 @@
 //! Sorted rows of noted flights, of expectations and of declarations.
 ghost use Rattle.std.specs.Prelude.{◌≡◌, ◌&&◌, ◌==◌, ◌++◌, ◌∷◌, [], OnOk, IsTrue, List};
-ghost use Rattle.std.specs.declared.cmp.Ordering.TheVariants.{Equal};
-ghost use Rattle.shipment_machine.specs.Flights.{same_flight_date};
-ghost use Rattle.station_core.specs.Readers.{by_flight, AreNoted, by_expectation, AreExpectations};
+ghost use Rattle.plain_station.specs.Common.{Equal, same_flight_date, by_flight, AreNoted, by_expectation, AreExpectations};
 ghost use Rattle.plain_station.specs.Lists.{AreDeclared, declared_in, flights_in, expected_in};
 ghost use Rattle.plain_station.specs.declared.rows.DeclaredRow.{DeclaredRow as Declaring};
 ghost use Rattle.station_core.specs.declared.rows.NotedFlight.{NotedFlight as Noting};

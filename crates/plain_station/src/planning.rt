@@ -1,10 +1,7 @@
 //! Planning a command on the cargo.
 ghost use Rattle.std.specs.Prelude.{◌≡◌, ℕ, List, Ok, IfOk, IfErr};
-ghost use Rattle.shipment_machine.specs.Agreement.{RefusesAs, outcome_of};
-ghost use Rattle.shipment_machine.specs.Effect.{effect, carried_out};
-ghost use Rattle.shipment_machine.specs.Lawful.{IsLawful};
+ghost use Rattle.plain_station.specs.Common.{RefusesAs, outcome_of, effect, carried_out, IsLawful, sent};
 ghost use Rattle.plain_station.specs.Lists.{cargo_of};
-ghost use Rattle.station_core.specs.Step.{sent};
 
 use crate::cargo::PlainCargo;
 use shipment_machine::{Plan, PlanFault, ShipmentCommand, plan};

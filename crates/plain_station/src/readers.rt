@@ -1,15 +1,9 @@
 //! The readers of the cargo. Those of rows hand them out until the sink stops, or hand out none if
 //! memory runs out.
 ghost use Rattle.std.specs.Prelude.{◌≡◌, ◌<◌, ◌+◌, ◌++◌, [], ◌∷◌, if◌then◌else◌, length, get_or, IsSome, IfOk, OnOk};
-ghost use Rattle.agent_stock.specs.Runs.{AreStockRuns};
-ghost use Rattle.agent_stock.specs.declared.runs.StockRun.{StockRun};
-ghost use Rattle.shipment_machine.specs.Amount.{less};
-ghost use Rattle.shipment_machine.specs.Book.{store};
-ghost use Rattle.station_core.specs.Readers.{told_of, waybill_of, is_irregular, irregular_row, irregular_rows, book_by, is_in_shed, shed_row, shed_rows, book_rows, message, messages_after, messages_by, trail_row, trail_rows, trail_by};
-ghost use Rattle.station_core.specs.Told.{summary_of};
+ghost use Rattle.plain_station.specs.Common.{AreStockRuns, StockRun, less, store, told_of, waybill_of, is_irregular, irregular_row, irregular_rows, book_by, is_in_shed, shed_row, shed_rows, book_rows, message, messages_after, messages_by, trail_row, trail_rows, trail_by, summary_of, texts_in};
 ghost use Rattle.plain_station.specs.Handing.{HandsRows};
 ghost use Rattle.plain_station.specs.Lists.{cargo_of, trail_row as kept_line};
-ghost use Rattle.station_core.specs.Texts.{texts_in};
 
 use crate::asked::{keep_lines, keep_movements};
 use crate::balances::stored;

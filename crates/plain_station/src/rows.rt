@@ -1,5 +1,5 @@
 ghost use Rattle.std.specs.Prelude.{◌≡◌};
-ghost use Rattle.shipment_machine.specs.Cargo.{same_part};
+ghost use Rattle.plain_station.specs.Common.{same_part};
 
 use awb_number::Awb;
 use shipment_machine::{Declared, Part};

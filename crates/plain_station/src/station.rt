@@ -1,14 +1,7 @@
 ghost use Rattle.std.specs.Prelude.{◌≡◌, false, None, Ok, IfErr, IfOk, string_bytes};
-ghost use Rattle.std.specs.Option.{option_map};
-ghost use Rattle.agent_stock.specs.Runs.{AreStockRuns};
-ghost use Rattle.desk_commands.specs.Command.{command_text};
+ghost use Rattle.plain_station.specs.Common.{option_map, AreStockRuns, command_text, Acts, Breaks, IsMemory, kept_of, summary_of, waybill_of, AreAnnounced, shed_rows, AreFlightRows, AreExpectedBy, irregular_rows, book_by, messages_by, trail_by, opening, Keyed, Wire};
 ghost use Rattle.plain_station.specs.Handing.{HandsRows};
 ghost use Rattle.plain_station.specs.State.{in_memory, state_of};
-ghost use Rattle.station_core.specs.Keeping.{Acts, Breaks, IsMemory};
-ghost use Rattle.station_core.specs.Told.{kept_of, summary_of};
-ghost use Rattle.station_core.specs.Readers.{waybill_of, AreAnnounced, shed_rows, AreFlightRows, AreExpectedBy, irregular_rows, book_by, messages_by, trail_by};
-ghost use Rattle.station_core.specs.Step.{opening};
-ghost use Rattle.station_core.specs.declared.input.Input.TheVariants.{Keyed, Wire};
 
 use crate::cargo::PlainCargo;
 use crate::kept::{KeptKey, KeptText, answer_under, count_of, reply_under};

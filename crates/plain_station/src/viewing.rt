@@ -1,12 +1,9 @@
 //! The views from which commands are planned.
 ghost use Rattle.std.specs.Prelude.{Some, false, [], ◌≡◌, map, IfOk};
-ghost use Rattle.std.specs.List.{filter};
+ghost use Rattle.plain_station.specs.Common.{filter, rows_for, view_of, built, waybills_on, declaration_view, waybill_view, loads_of, flight_view, line_view_of, rows_of};
 ghost use Rattle.shipment_machine.specs.declared.command.ShipmentCommand.TheVariants as order;
 ghost use Rattle.shipment_machine.specs.declared.view.Rows.TheVariants as rows;
-ghost use Rattle.shipment_machine.specs.Agreement.{rows_for, view_of};
-ghost use Rattle.shipment_machine.specs.Book.{built, waybills_on};
 ghost use Rattle.shipment_machine.specs.Effect.{lines_for};
-ghost use Rattle.shipment_machine.specs.Views.{declaration_view, waybill_view, loads_of, flight_view, line_view_of, rows_of};
 ghost use Rattle.plain_station.specs.Aboard.{is_built_on, is_onto, aboard_of};
 ghost use Rattle.plain_station.specs.Lists.{cargo_of};
 

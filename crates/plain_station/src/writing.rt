@@ -1,15 +1,9 @@
 //! Changes of an accepted command.
 ghost use Rattle.std.specs.Prelude.{◌≡◌, ◌==◌, ◌+◌, if◌then◌else◌, nat_le, ℕ, Some, Ok, [], ◌∷◌, ◌++◌, map, IfOk, OnOk, OnErr};
-ghost use Rattle.agent_stock.specs.Plain.{holders_of};
-ghost use Rattle.agent_stock.specs.declared.stock.Holder.TheVariants.{Used};
-ghost use Rattle.shipment_machine.specs.Cargo.{written, written_all};
+ghost use Rattle.plain_station.specs.Common.{holders_of, Used, written, written_all, texts_in, cargo_acted, sent, has_room, most_rows, notice_text, outcome_of};
 ghost use Rattle.plain_station.specs.Lists.{cargo_of};
-ghost use Rattle.station_core.specs.Texts.{texts_in};
 ghost use Rattle.plain_station.specs.Next.{cargo_with};
 ghost use Rattle.plain_station.specs.Doing.{Does};
-ghost use Rattle.station_core.specs.Step.{cargo_acted, sent, has_room, most_rows};
-ghost use Rattle.telegrams.specs.NoticeText.{notice_text};
-ghost use Rattle.shipment_machine.specs.Agreement.{outcome_of};
 ghost use Rattle.plain_station.specs.declared.lists.CargoLists.{CargoLists};
 
 use crate::lists::CargoLists;

@@ -1,22 +1,7 @@
 -- Rows as cells, in order: each is a field of the row's line, and one member of its object or more.
 -- A line has weights in kilograms, an object in tenths of a kilogram.
 use Rattle.std.specs.Prelude.{ℕ, ◌+◌, ◌-◌, List, [], ◌∷◌, ◌++◌, map, codes, decimal}
-use Rattle.std.specs.List.{flat_map}
-use Rattle.serde_json.specs.Data.{Data, boolean, string}
-use Rattle.serde_json.specs.Written.{compact_text}
-use Rattle.awb_number.specs.Digits.{padded}
-use Rattle.awb_number.specs.Number.{number_text, prefix_of, serial_of}
-use Rattle.imp_fields.specs.Flight.{flight_text}
-use Rattle.desk_commands.specs.Day.{day_line}
-use Rattle.agent_stock.specs.Holder.{holder_text}
-use Rattle.agent_stock.specs.declared.runs.StockRun.{StockRun}
-use Rattle.station_core.specs.declared.rows.AnnouncedRow.{AnnouncedRow}
-use Rattle.station_core.specs.declared.rows.BookRow.{BookRow}
-use Rattle.station_core.specs.declared.rows.ExpectedRow.{ExpectedRow}
-use Rattle.station_core.specs.declared.rows.FlightRow.{FlightRow}
-use Rattle.station_core.specs.declared.rows.IrregularRow.{IrregularRow}
-use Rattle.station_core.specs.declared.rows.ShedRow.{ShedRow}
-use Rattle.station_core.specs.declared.stored.Summary.{Summary}
+use Rattle.reports.specs.Common.{flat_map, Data, boolean, string, compact_text, padded, number_text, prefix_of, serial_of, flight_text, day_line, holder_text, StockRun, AnnouncedRow, BookRow, ExpectedRow, FlightRow, IrregularRow, ShedRow, Summary, flight_date_text}
 use Rattle.reports.specs.Layout.{right, left, clock_text}
 use Rattle.reports.specs.Lines.{amount_text, day_or_none, flight_or_none, goods_or_none, line, moment_text, notified_or_none, open_or, place_text, places_text, serials_text}
 use Rattle.reports.specs.Objects.{amount_data, count_data, flight_or_null, holder_name, holder_word, object_of, since_text}
@@ -29,7 +14,6 @@ use Rattle.reports.specs.declared.days.Dated.{Dated}
 use Rattle.reports.specs.declared.form.Form.{Form}
 use Rattle.reports.specs.declared.form.Form.TheVariants as form
 use Rattle.reports.specs.declared.manifest.ManifestRow.{ManifestRow}
-use Rattle.station_core.specs.Texts.{flight_date_text}
 
 -- Cells.
 

@@ -1,13 +1,6 @@
 -- Since when a waybill has had pieces in store, or missing or found ones.
 use Rattle.std.specs.Prelude.{◌≡◌, ℕ, ◌<◌, ◌≤◌, ◌==◌, ◌||◌, nat_lt, Bool, true, false, Option, List, take, length, filter}
-use Rattle.std.specs.List.{AllZip, slice_get}
-use Rattle.std.specs.Option.{option_map}
-use Rattle.shipment_machine.specs.Book.{found, missing, store}
-use Rattle.shipment_machine.specs.Cargo.{Cargo}
-use Rattle.shipment_machine.specs.declared.moves.Move.{Move}
-use Rattle.station_core.specs.Readers.{irregular_rows, shed_rows}
-use Rattle.station_core.specs.declared.rows.IrregularRow.{IrregularRow}
-use Rattle.station_core.specs.declared.rows.ShedRow.{ShedRow}
+use Rattle.reports.specs.Common.{AllZip, slice_get, option_map, found, missing, store, Cargo, Move, irregular_rows, shed_rows, IrregularRow, ShedRow}
 use Rattle.reports.specs.declared.days.Dated.{Dated}
 use Rattle.reports.specs.declared.days.Lasting.{Lasting}
 use Rattle.reports.specs.declared.days.Lasting.TheVariants as lasting

@@ -1,9 +1,6 @@
 -- Reports that broke off.
 use Rattle.std.specs.Prelude.{◌≡◌, ◌⊎◌, ℕ, ◌<◌, true, false, Result, Ok, Err, List, ◌++◌, length}
-use Rattle.station_core.specs.Given.{Given}
-use Rattle.station_core.specs.Ends.{Sent, HasCause, NoneFailed, OneFailed}
-use Rattle.station_core.specs.Keeping.{IfSound, IsReadersFault, Keeping, OnlyReads}
-use Rattle.station_core.specs.Step.{State}
+use Rattle.reports.specs.Common.{Given, Sent, HasCause, NoneFailed, OneFailed, IfSound, IsReadersFault, Keeping, OnlyReads, State}
 use Rattle.station_core.specs.declared.answer.ActFault.TheVariants as act
 use Rattle.reports.specs.declared.fault.ReportCause.{ReportCause}
 use Rattle.reports.specs.declared.fault.ReportCause.TheVariants as cause

@@ -1,6 +1,6 @@
 -- The command that was accepted under a key.
 use Rattle.std.specs.Prelude.{ℕ, ◌==◌, if◌then◌else◌, Option, Some, None, List, [], ◌∷◌, map}
-use Rattle.station_core.specs.Step.{Kept, State}
+use Rattle.reports.specs.Common.{Kept, State}
 use Rattle.reports.specs.declared.kept.KeptRow.{KeptRow}
 
 -- a command's text on one line: its verb and its fields, with a space between two

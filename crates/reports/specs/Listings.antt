@@ -1,31 +1,10 @@
 -- Listings of a station's rows: a report, or some rows of one, in lines or in JSON.
 use Rattle.std.specs.Prelude.{◌≡◌, ℕ, ◌&&◌, nat_le, Bool, false, not, if◌then◌else◌, Option, Some, List, [], ◌∷◌, ◌++◌, length, take, slice_range, filter, codes, option_map}
-use Rattle.std.specs.Str.{bytes_eq}
-use Rattle.awb_number.specs.Number.{number_text}
-use Rattle.serde_json.specs.Data.{Data, array, Items, item, no_items}
-use Rattle.serde_json.specs.Written.{compact_text}
-use Rattle.agent_stock.specs.Runs.{AreStockRuns}
-use Rattle.agent_stock.specs.declared.runs.StockRun.{StockRun}
-use Rattle.agent_stock.specs.declared.stock.Holder.{Holder}
-use Rattle.agent_stock.specs.declared.stock.Holder.TheVariants.{Agent}
-use Rattle.shipment_machine.specs.declared.flight.FlightDate.{FlightDate}
-use Rattle.station_core.specs.declared.rows.AnnouncedRow.{AnnouncedRow}
-use Rattle.station_core.specs.declared.rows.FlightRow.{FlightRow}
-use Rattle.station_core.specs.declared.rows.IrregularRow.{IrregularRow}
-use Rattle.station_core.specs.declared.rows.ShedRow.{ShedRow}
-use Rattle.station_core.specs.declared.rows.ExpectedRow.{ExpectedRow}
-use Rattle.station_core.specs.declared.rows.ExpectedQuery.{ExpectedQuery}
+use Rattle.reports.specs.Common.{bytes_eq, number_text, Data, array, Items, item, no_items, compact_text, AreStockRuns, StockRun, Holder, Agent, FlightDate, AnnouncedRow, FlightRow, IrregularRow, ShedRow, ExpectedRow, ExpectedQuery, Message, MessageQuery, BookQuery, TrailQuery, AreAnnounced, shed_rows, AreFlightRows, AreExpectedBy, irregular_rows, book_by, messages_after, messages_by, trail_by, State, summary_of}
 use Rattle.station_core.specs.declared.rows.ExpectedQuery.TheVariants as expected
-use Rattle.station_core.specs.declared.rows.Message.{Message}
-use Rattle.station_core.specs.declared.rows.MessageQuery.{MessageQuery}
 use Rattle.station_core.specs.declared.rows.MessageQuery.TheVariants as messages
-use Rattle.station_core.specs.declared.rows.BookQuery.{BookQuery}
 use Rattle.station_core.specs.declared.rows.BookQuery.TheVariants as book
-use Rattle.station_core.specs.declared.rows.TrailQuery.{TrailQuery}
 use Rattle.station_core.specs.declared.rows.TrailQuery.TheVariants as trail
-use Rattle.station_core.specs.Readers.{AreAnnounced, shed_rows, AreFlightRows, AreExpectedBy, irregular_rows, book_by, messages_after, messages_by, trail_by}
-use Rattle.station_core.specs.Step.{State}
-use Rattle.station_core.specs.Told.{summary_of}
 use Rattle.reports.specs.Lines.{message_lines, kept_line, trail_line, report_text}
 use Rattle.reports.specs.Objects.{object_of, count_data, message_data, kept_data, trail_data}
 use Rattle.reports.specs.Days.{AreIrregularityDays, AreShedDays}

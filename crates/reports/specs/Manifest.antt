@@ -1,14 +1,7 @@
 -- The manifest of a flight: for each waybill the amount built for the flight now, and the amount
 -- that departed with it.
 use Rattle.std.specs.Prelude.{ℕ, Bool, ◌&&◌, ◌||◌, ◌==◌, nat_lt, if◌then◌else◌, List, [], ◌∷◌}
-use Rattle.std.specs.List.{flat_map, sum_by}
-use Rattle.shipment_machine.specs.Amount.{amount}
-use Rattle.shipment_machine.specs.Book.{built, pieces_of, same_place, tenths_of, waybills_of}
-use Rattle.shipment_machine.specs.Cargo.{Cargo}
-use Rattle.shipment_machine.specs.declared.amount.Amount.{Amount}
-use Rattle.shipment_machine.specs.declared.flight.FlightDate.{FlightDate}
-use Rattle.shipment_machine.specs.declared.moves.Move.{Move}
-use Rattle.shipment_machine.specs.declared.moves.Place.TheVariants.{Built, Departed}
+use Rattle.reports.specs.Common.{flat_map, sum_by, amount, built, pieces_of, same_place, tenths_of, waybills_of, Cargo, Amount, FlightDate, Move, Built, Departed}
 use Rattle.reports.specs.declared.manifest.ManifestRow.{ManifestRow}
 
 -- true if a move takes what is built for a flight away with it

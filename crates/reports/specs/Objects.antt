@@ -1,16 +1,7 @@
 -- Members of the objects, and the objects of rows that have no cells. Weights are in tenths of a
 -- kilogram.
 use Rattle.std.specs.Prelude.{ℕ, Option, Some, None, List, [], ◌∷◌, codes}
-use Rattle.serde_json.specs.Data.{Data, null, number, unsigned, string, object, Members, member, no_members}
-use Rattle.awb_number.specs.Number.{number_text}
-use Rattle.desk_commands.specs.Day.{day_line}
-use Rattle.agent_stock.specs.declared.stock.Holder.{Holder}
-use Rattle.agent_stock.specs.declared.stock.Holder.TheVariants.{Desk, Agent, Used, Void}
-use Rattle.shipment_machine.specs.declared.amount.Amount.{Amount}
-use Rattle.shipment_machine.specs.declared.flight.FlightDate.{FlightDate}
-use Rattle.station_core.specs.Texts.{flight_date_text}
-use Rattle.station_core.specs.declared.rows.Message.{Message}
-use Rattle.station_core.specs.declared.rows.TrailRow.{TrailRow}
+use Rattle.reports.specs.Common.{Data, null, number, unsigned, string, object, Members, member, no_members, number_text, day_line, Holder, Desk, Agent, Used, Void, Amount, FlightDate, flight_date_text, Message, TrailRow}
 use Rattle.reports.specs.declared.kept.KeptRow.{KeptRow}
 
 -- an object with these members, in order

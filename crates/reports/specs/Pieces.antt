@@ -1,7 +1,6 @@
 -- The text added for each row, and at the end.
 use Rattle.std.specs.Prelude.{ℕ, zero, suc, ◌+◌, decimal, List, [], ◌∷◌, ◌++◌, length, codes}
-use Rattle.serde_json.specs.Data.{Data}
-use Rattle.serde_json.specs.Written.{compact_text}
+use Rattle.reports.specs.Common.{Data, compact_text}
 use Rattle.reports.specs.Lines.{end_line}
 use Rattle.reports.specs.declared.form.Form.{Form}
 use Rattle.reports.specs.declared.form.Form.TheVariants as form

@@ -1,9 +1,6 @@
 -- A waybill's movements, summed in one pass, with the day since which it has lasted.
 use Rattle.std.specs.Prelude.{◌≡◌, ℕ, ◌==◌, ◌&&◌, ◌||◌, nat_lt, Bool, true, false, Option, Some, None, ◌++◌, ◌∷◌, []}
-use Rattle.shipment_machine.specs.Book.{in_store, same_place}
-use Rattle.shipment_machine.specs.declared.moves.Move.{Move}
-use Rattle.shipment_machine.specs.declared.moves.Place.{Place}
-use Rattle.shipment_machine.specs.declared.moves.Place.TheVariants.{Missing, Surplus}
+use Rattle.reports.specs.Common.{in_store, same_place, Move, Place, Missing, Surplus}
 use Rattle.reports.specs.Tallies.{counted, zero}
 use Rattle.reports.specs.declared.days.Flow.{Flow}
 use Rattle.reports.specs.declared.days.Gathering.{Gathering}

@@ -1,13 +1,6 @@
 -- Sums of a flight's movements by waybill, made in one pass.
 use Rattle.std.specs.Prelude.{◌≡◌, ℕ, ◌+◌, ◌-◌, Bool, true, false, cond, if◌then◌else◌, Some, None, List, [], ◌∷◌}
-use Rattle.std.specs.BTreeMap.{get}
-use Rattle.std.specs.Option.{unwrap_or}
-use Rattle.std.specs.Ordering.{eq_by_cmp, nat_cmp}
-use Rattle.shipment_machine.specs.Amount.{amount}
-use Rattle.shipment_machine.specs.Book.{same_place}
-use Rattle.shipment_machine.specs.declared.flight.FlightDate.{FlightDate}
-use Rattle.shipment_machine.specs.declared.moves.Move.{Move}
-use Rattle.shipment_machine.specs.declared.moves.Place.TheVariants.{Built}
+use Rattle.reports.specs.Common.{get, unwrap_or, eq_by_cmp, nat_cmp, amount, same_place, FlightDate, Move, Built}
 use Rattle.reports.specs.Manifest.{has_pieces, leaves}
 use Rattle.reports.specs.declared.manifest.ManifestRow.{ManifestRow}
 use Rattle.reports.specs.declared.tallies.Count.{Count}

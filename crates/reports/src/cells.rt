@@ -1,7 +1,6 @@
 //! The cells of a row: what a report shows of it, as a line and as a JSON object.
 ghost use Rattle.std.specs.Prelude.{◌≡◌, ◌++◌, ◌∷◌, ◌<◌, IfOk, OnOk, decimal, length, string_bytes};
-ghost use Rattle.std.specs.List.{flat_map};
-ghost use Rattle.serde_json.specs.Written.{compact_text};
+ghost use Rattle.reports.specs.Common.{flat_map, compact_text};
 ghost use Rattle.reports.specs.Cells.{cell_text, data_of, field_of, label_text, line_of, next_text};
 ghost use Rattle.reports.specs.Pieces.{in_form};
 ghost use Rattle.reports.specs.declared.cells.Cell.TheVariants as cell;

@@ -1,6 +1,6 @@
 //! Since when waybills have had pieces in store, or missing or found ones.
 ghost use Rattle.std.specs.Prelude.{◌≡◌, ℕ, ◌++◌, ◌∷◌, [], false, List, Option, IfErr, IfOk, IfSome};
-ghost use Rattle.station_core.specs.Keeping.{IfSound, IsReadersFault, OnlyReads, Reads};
+ghost use Rattle.reports.specs.Common.{IfSound, IsReadersFault, OnlyReads, Reads};
 ghost use Rattle.reports.specs.Days.{AreDated, IsDayOf};
 ghost use Rattle.reports.specs.Spells.{flow_with, is_there, moved_spell, next_spell, since_after, spell_lasts, start_of};
 

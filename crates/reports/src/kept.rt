@@ -1,7 +1,6 @@
 //! The command that was accepted under a key.
 ghost use Rattle.std.specs.Prelude.{◌≡◌, ◌∷◌, [], IfOk};
-ghost use Rattle.station_core.specs.Keeping.{Reads};
-ghost use Rattle.station_core.specs.Told.{kept_of};
+ghost use Rattle.reports.specs.Common.{Reads, kept_of};
 ghost use Rattle.reports.specs.Keys.{kept_row, kept_rows, one_line};
 
 use crate::readings::Reading;

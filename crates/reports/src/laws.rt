@@ -1,14 +1,8 @@
 //! Laws about the definitions: each report has exactly one text.
 ghost use Rattle.std.specs.Prelude.{◌≡◌, ℕ, List, filter};
-ghost use Rattle.agent_stock.specs.Stock.{Holders};
-ghost use Rattle.agent_stock.specs.Runs.{AreStockRuns};
-ghost use Rattle.agent_stock.specs.declared.runs.StockRun.{StockRun};
+ghost use Rattle.reports.specs.Common.{Holders, AreStockRuns, StockRun, Cargo, AreExpectedBy, AreExpectedRows, Open, ExpectedRow};
 ghost use Rattle.reports.specs.Reports.{IsStockReport, IsFlightReport, IsExpectedReport};
 ghost use Rattle.reports.specs.Listings.{is_awaited};
-ghost use Rattle.shipment_machine.specs.Cargo.{Cargo};
-ghost use Rattle.station_core.specs.Readers.{AreExpectedBy, AreExpectedRows};
-ghost use Rattle.station_core.specs.declared.rows.ExpectedQuery.TheVariants.{Open};
-ghost use Rattle.station_core.specs.declared.rows.ExpectedRow.{ExpectedRow};
 
 /// A stock has one list of maximal runs, and its report has one text.
 pub fn stock_report_law()

@@ -1,8 +1,7 @@
 //! Manifests of flights.
 ghost use Rattle.std.specs.Prelude.{◌≡◌, true, false, IfErr, IfOk, Err};
 ghost use Rattle.reports.specs.Manifest.{has_pieces, manifest_rows};
-ghost use Rattle.station_core.specs.Keeping.{IfSound, IsReadersFault, OnlyReads, Reopens};
-ghost use Rattle.station_core.specs.Step.{State};
+ghost use Rattle.reports.specs.Common.{IfSound, IsReadersFault, OnlyReads, Reopens, State};
 
 use crate::readings::Reading;
 use crate::tallies::Tallies;

@@ -1,17 +1,11 @@
 //! Members of the rows' objects.
 ghost use Rattle.std.specs.Prelude.{◌≡◌, ◌+◌, ◌-◌, IfOk, string_bytes};
-ghost use Rattle.std.specs.Str.{IsAscii};
-ghost use Rattle.awb_number.specs.Digits.{padded};
-ghost use Rattle.awb_number.specs.Number.{number_text, serial_of};
-ghost use Rattle.desk_commands.specs.Day.{day_line};
-ghost use Rattle.imp_fields.specs.Flight.{flight_text};
+ghost use Rattle.reports.specs.Common.{IsAscii, padded, number_text, serial_of, day_line, flight_text, boolean, string, compact_text};
 ghost use Rattle.reports.specs.Cells.{cell_text};
 ghost use Rattle.reports.specs.Layout.{clock_text};
 ghost use Rattle.reports.specs.Lines.{place_text};
 ghost use Rattle.reports.specs.Objects.{amount_data, flight_or_null, holder_name, holder_word, since_text};
 ghost use Rattle.reports.specs.declared.cells.Cell.TheVariants as cell;
-ghost use Rattle.serde_json.specs.Data.{boolean, string};
-ghost use Rattle.serde_json.specs.Written.{compact_text};
 
 use crate::layout::{clock, seven_digits};
 use crate::quoting::quoted;

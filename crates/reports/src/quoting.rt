@@ -1,9 +1,6 @@
 //! Texts as JSON strings.
 ghost use Rattle.std.specs.Prelude.{◌≡◌, ◌++◌, ◌<◌, ◌≤◌, OnOk, IfOk, string_bytes, take};
-ghost use Rattle.std.specs.Char.{digit_char};
-ghost use Rattle.json.specs.Print.{escape_letter, escape_byte, escape, quoted};
-ghost use Rattle.serde_json.specs.Data.{string};
-ghost use Rattle.serde_json.specs.Written.{compact_text};
+ghost use Rattle.reports.specs.Common.{digit_char, escape_letter, escape_byte, escape, quoted, string, compact_text};
 
 use serde_json::json;
 use std::alloc::{AllocError, Global};

@@ -1,9 +1,6 @@
 //! Readers of a keeper, for each report.
 ghost use Rattle.std.specs.Prelude.{◌≡◌, ◌∷◌, [], false, IfErr, IfOk};
-ghost use Rattle.station_core.specs.Keeping.{IfSound, IsReadersFault, OnlyReads, Reopens};
-ghost use Rattle.station_core.specs.Told.{summary_of};
-ghost use Rattle.agent_stock.specs.Runs.{AreStockRuns};
-ghost use Rattle.station_core.specs.Readers.{AreAnnounced, shed_rows, AreFlightRows, AreExpectedBy, irregular_rows, book_by, messages_by, trail_by};
+ghost use Rattle.reports.specs.Common.{IfSound, IsReadersFault, OnlyReads, Reopens, summary_of, AreStockRuns, AreAnnounced, shed_rows, AreFlightRows, AreExpectedBy, irregular_rows, book_by, messages_by, trail_by};
 
 use agent_stock::StockRun;
 use station_core::{

@@ -1,9 +1,6 @@
 //! Sums of a flight's movements, by waybill.
 ghost use Rattle.std.specs.Prelude.{◌≡◌, ◌++◌, true, false, IfErr, IfOk, IfSome, OnOk};
-ghost use Rattle.std.specs.BTreeMap.{IsOrdered};
-ghost use Rattle.std.specs.List.{flat_map};
-ghost use Rattle.std.specs.Ordering.{nat_cmp};
-ghost use Rattle.station_core.specs.Keeping.{IsMemory};
+ghost use Rattle.reports.specs.Common.{IsOrdered, flat_map, nat_cmp, IsMemory};
 ghost use Rattle.reports.specs.Tallies.{counted, listed, nothing_of, row_of, with_move};
 
 use crate::manifest::ManifestRow;

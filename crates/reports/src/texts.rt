@@ -2,7 +2,7 @@
 ghost use Rattle.std.specs.Prelude.{◌≡◌, IfOk, string_bytes};
 ghost use Rattle.reports.specs.Layout.{left};
 ghost use Rattle.reports.specs.Lines.{day_or_none, flight_or_none, goods_or_none, moment_text, notified_or_none, open_or, place_text, places_text, serials_text};
-ghost use Rattle.station_core.specs.Texts.{flight_date_text};
+ghost use Rattle.reports.specs.Common.{flight_date_text};
 
 use crate::layout::{clock, left};
 use crate::objects::last_serial;

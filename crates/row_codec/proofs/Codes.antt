@@ -43,20 +43,20 @@ plain_code code p h =
 pub count_eq : (w a : ℕ) (code c : ℤ) → eq_by_cmp count_cmp (pos w, code) (pos a, c) ≡ ((a == w) && int_eq code c)
 count_eq w a code c = pair_eq int_cmp int_cmp (pos w, code) (pos a, c) ∙ ap₂ ◌&&◌ (int_tied (pos w) (pos a) ∙ int_pos w a) (int_tied code c)
 
-below_zero : (n a : ℕ) (code c : ℤ) → eq_by_cmp count_cmp (negsuc n, code) (pos a, c) ≡ false
-below_zero n a code c = refl
+-- the row of a sum after an amount more
+pub row_after : {V : Type 0} (row : Tally → V) (sums : Sums) (a : ℕ) (place : Place) (by : Tally) (w : ℕ) (p : Place)
+    → option_map row (unless_nothing (posting a place by sums w p))
+    ≡ cond ((a == w) && same_place p place) (option_map row (unless_nothing (plus (sums a place) by))) (option_map row (unless_nothing (sums w p)))
+row_after row sums a place by w p = go ((a == w) && same_place p place) refl
+  where
+    go : (b : Bool) → ((a == w) && same_place p place) ≡ b
+        → option_map row (unless_nothing (cond b (plus (sums w p) by) (sums w p))) ≡ cond b (option_map row (unless_nothing (plus (sums a place) by))) (option_map row (unless_nothing (sums w p)))
+    go true e = ap₂ (λ x y. option_map row (unless_nothing (plus (sums x y) by))) (sym (is_nat a w (first_true (a == w) _ e))) (same_is p place (second_true (a == w) _ e))
+    go false e = refl
 
 module _ (sums : Sums) (a : ℕ) (place : Place) (by : Tally) (plain : is_built place ≡ false) where
   pub at_key : count_in sums (pos a, pos (place_code place)) ≡ option_map count_row (unless_nothing (sums a place))
   at_key = ap (count_here sums a) (plain_again place plain)
-
-  where_same : (w : ℕ) (p : Place) (b : Bool) → ((a == w) && same_place p place) ≡ b
-      → option_map count_row (unless_nothing (cond b (plus (sums w p) by) (sums w p))) ≡ cond b (option_map count_row (unless_nothing (plus (sums a place) by))) (option_map count_row (unless_nothing (sums w p)))
-  where_same w p true e =
-      let waybill : a ≡ w = is_nat a w (first_true (a == w) (same_place p place) e) in
-      let at : p ≡ place = same_is p place (second_true (a == w) (same_place p place) e) in
-      ap₂ (λ x y. option_map count_row (unless_nothing (plus (sums x y) by))) (sym waybill) at
-  where_same w p false e = refl
 
   same_code : (code : ℤ) (p : Place) → plain_place code ≡ Some p → int_eq code (pos (place_code place)) ≡ same_place p place
   same_code code p e = same_bool _ _
@@ -74,10 +74,10 @@ module _ (sums : Sums) (a : ℕ) (place : Place) (by : Tally) (plain : is_built 
       go : (o : Option Place) → plain_place code ≡ o → count_here (posting a place by sums) w o ≡ cond (eq_by_cmp count_cmp (pos w, code) (pos a, pos (place_code place))) (option_map count_row (unless_nothing (plus (sums a place) by))) (count_here sums w o)
       go None e = ap (λ b. cond b (option_map count_row (unless_nothing (plus (sums a place) by))) None) (sym (count_eq w a code (pos (place_code place)) ∙ ap (λ b. (a == w) && b) (no_code code e) ∙ and_no (a == w)))
       go (Some p) e =
-          where_same w p ((a == w) && same_place p place) refl
+          row_after count_row sums a place by w p
           ∙ ap (λ b. cond b (option_map count_row (unless_nothing (plus (sums a place) by))) (option_map count_row (unless_nothing (sums w p))))
           (sym (count_eq w a code (pos (place_code place)) ∙ ap (λ b. (a == w) && b) (same_code code p e)))
-  after (negsuc n, code) = ap (λ b. cond b (option_map count_row (unless_nothing (plus (sums a place) by))) None) (sym (below_zero n a code (pos (place_code place))))
+  after (negsuc n, code) = refl
 
 pub not_built : (code : ℤ) (p : Place) → plain_place code ≡ Some p → is_built p ≡ false
 not_built code (Built f) h = sym (none_is (Built f) (sym (ap plain_place (plain_code code (Built f) h)) ∙ h))

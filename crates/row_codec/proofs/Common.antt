@@ -10,12 +10,12 @@ pub use Rattle.row_codec.specs.Known.{AreKnown, AreSumsOf, AreSumsOn, IsRowOf, s
 pub use Rattle.row_codec.specs.Loaded.{is_loaded, load_said, row_said}
 pub use Rattle.row_codec.specs.Logs.{is_message_row, is_trail_row, line_by, line_row, message_row, outbox_in, trail_in, trail_row_by}
 pub use Rattle.row_codec.specs.Manifests.{expectation_by, expected_by, expected_in, expected_key, expected_row, is_expected_key, is_expected_row, is_part_row, part_key, parts_in}
-pub use Rattle.row_codec.specs.Meaning.{IsReadable, Means, airport_in, confirmed_in, is_station, meaning_of}
+pub use Rattle.row_codec.specs.Meaning.{Means, airport_in, confirmed_in, is_station, meaning_of}
 pub use Rattle.row_codec.specs.Moves.{are_flight_columns, book_in, book_row_by, day_column, flight_column, is_move_row, move_by, move_row, place_code, place_of, plain_place}
 pub use Rattle.row_codec.specs.Numbers.{AreNumbered, flag, is_count, is_day, is_flag, is_number, is_set, is_within, natural}
 pub use Rattle.row_codec.specs.Posted.{Keeps, Posted, WereThere}
 pub use Rattle.row_codec.specs.Replies.{AreRequests, is_kept_row, is_kept_text_row, kept_by, kept_keys_in, kept_row, kept_texts_in}
-pub use Rattle.row_codec.specs.Stock.{AreStockRows, holder_by, holders_in}
+pub use Rattle.row_codec.specs.Stock.{holder_by, holders_in}
 pub use Rattle.row_codec.specs.Stored.{come_to, pieces_found, posting_build, posting_count, stored, storing_build, storing_count}
 pub use Rattle.row_codec.specs.Sums.{come, gone, is_built, plus, posting}
 pub use Rattle.row_codec.specs.Waybills.{declared_by, declared_in, is_since, is_waybill_row, since_column, since_of, waybill_row}
@@ -46,15 +46,15 @@ pub use Rattle.station_core.specs.declared.stored.Load.{Load}
 pub use Rattle.station_days.specs.Date.{IsMomentDay}
 pub use Rattle.station_days.specs.Steps.{where_true, ◌>>=◌}
 pub use Rattle.station_rows.specs.Clauses.{Reads, ShowsChange}
-pub use Rattle.station_rows.specs.Meant.{build_meant, changing_build, changing_count, changing_expected, changing_flight, changing_waybill, confirming, count_meant, counts_for, expected_meant, flight_meant, is_flown, is_line_after, is_line_of, is_message_after, is_move_after, is_of, is_on, kept_meant, move_meant, pieces_in, stock_meant, waybill_meant, with_build, with_count, with_expected, with_flight, with_kept, with_kept_text, with_message, with_move, with_part, with_trail_line, with_waybill, without_build, without_count}
+pub use Rattle.station_rows.specs.Meant.{build_meant, changing_build, changing_count, changing_waybill, confirming, count_meant, counts_for, expected_meant, flight_meant, is_flown, is_line_after, is_line_of, is_message_after, is_move_after, is_of, is_on, kept_meant, move_meant, pieces_in, stock_meant, waybill_meant, with_build, with_count, with_expected, with_flight, with_kept, with_kept_text, with_message, with_move, with_part, with_trail_line, with_waybill, without_build, without_count}
 pub use Rattle.station_rows.specs.declared.counts.CountRow.{CountRow}
 pub use Rattle.station_schema.proofs.Keys.{count_total, expected_same, expected_total, flight_same, flight_total, kept_same, kept_text_same, kept_text_total, kept_total, part_same, part_total}
 pub use Rattle.station_schema.proofs.Maps.{all_passed, ascending_where, entries_rise}
 pub use Rattle.station_schema.proofs.OneRow.{first_true, int_tied, int_turned, pair_eq, pair_same, pair_total, second_true, texts_same, texts_total}
 pub use Rattle.station_schema.specs.ColumnKeys.{adjust}
 pub use Rattle.station_schema.specs.Store.{Displays, IsShowing, Seen, Survives, View, inside}
-pub use Rattle.station_schema.specs.Tables.{Build, BuildKey, Count, CountKey, Expected, ExpectedKey, Flight, FlightKey, Kept, Message, PartKey, Station, Stock, Tables, TrailLine, Waybill, build_cmp, count_cmp, expected_cmp, flight_cmp, kept_cmp, kept_text_cmp, message_id, move_id, part_cmp, station_id, stock_cmp, trail_id, waybill_id}
-pub use Rattle.std.proofs.Common.{Bool, Equal, Greater, Less, List, None, Option, Ordering, SFits, Some, [], ap, append-nil, ap₂, arith, cond, drop, false, get_or, int_cmp, is_eq, is_some, length, map, neg_ℤ, negsuc, pos, refl, rules, subst, suc, sym, take, true, true≢false, w64, zero, ℕ, ◌++◌, ◌+ℤ◌, ◌+◌, ◌-ℤ◌, ◌-◌, ◌<◌, ◌==◌, ◌||◌, ◌∙◌, ◌∷◌, ◌≡◌, ◌≤◌}
+pub use Rattle.station_schema.specs.Tables.{Build, BuildKey, Count, CountKey, Expected, ExpectedKey, Flight, FlightKey, Kept, Message, PartKey, Station, Tables, TrailLine, Waybill, build_cmp, count_cmp, expected_cmp, flight_cmp, kept_cmp, kept_text_cmp, message_id, move_id, part_cmp, station_id, trail_id, waybill_id}
+pub use Rattle.std.proofs.Common.{Bool, Equal, Greater, Less, List, None, Option, Ordering, SFits, Some, [], ap, append-nil, ap₂, arith, cond, drop, false, get_or, int_cmp, is_eq, is_some, length, map, neg_ℤ, negsuc, option_map, pos, refl, rules, subst, suc, sym, take, true, true≢false, w64, zero, ℕ, ◌++◌, ◌+ℤ◌, ◌+◌, ◌-ℤ◌, ◌-◌, ◌<◌, ◌==◌, ◌||◌, ◌∙◌, ◌∷◌, ◌≡◌, ◌≤◌}
 pub use Rattle.std.proofs.lemmas.Bool.Decides.{nat_tests}
 pub use Rattle.std.proofs.lemmas.Bool.{and_from, and_parts, cond-true, false_from_ne_true, le-leb, leb-true}
 pub use Rattle.std.proofs.lemmas.Int.{ints, to_z-of_z}

@@ -1,6 +1,6 @@
 -- The balances of all waybills: the rows of one waybill stand behind those of another.
-use Rattle.std.proofs.Common.{◌≡◌, ℕ, suc, zero, ◌+◌, ◌-◌, ◌<◌, get_or, length, ℤ, pos, ◌==◌, Bool, true, false, cond, List, [], ◌∷◌, ◌++◌, take, drop, map, Option, Some, None, option_map, int_cmp, int_eq, refl, sym, ap, subst, ◌∙◌, arith, Ordering, Less, Equal, Greater}
-use Rattle.row_codec.proofs.Common.{AllByRecursion, AreAllBalances, AreCounts, Count, CountKey, CountRow, Delivered, Departed, FinMap, Free, Hand, IsAscending, Missing, Move, Surplus, Tally, Transferred, all-append, all_weaker, ascending-append, ascending_from_map, ascending_weaker, balances_of, below_all, count_cmp, count_meant, count_total, counts_for, drop-drop, drop_more, entries, entries_rise, filter, filter-map, filter_none, find, get, int_le, int_lt, ints, is_sorted, length-drop, nat_cmp, nat_lt, nat_tests, nothing, ordering_then, place_code, prefix_len, running_in}
+use Rattle.std.proofs.Common.{◌≡◌, ℕ, suc, zero, ◌+◌, ◌-◌, ◌<◌, get_or, length, ℤ, pos, ◌==◌, Bool, true, false, cond, List, [], ◌∷◌, ◌++◌, take, drop, map, Option, Some, None, option_map, int_eq, refl, sym, ap, subst, ◌∙◌, arith, Less}
+use Rattle.row_codec.proofs.Common.{AllByRecursion, AreAllBalances, AreCounts, Count, CountKey, CountRow, Delivered, Departed, FinMap, Free, Hand, IsAscending, Missing, Move, Surplus, Tally, Transferred, all-append, all_weaker, ascending-append, ascending_from_map, ascending_weaker, balances_of, below_all, count_cmp, count_meant, count_total, counts_for, drop-drop, drop_more, entries, entries_rise, filter, filter-map, filter_none, find, get, int_le, int_lt, ints, is_sorted, length-drop, nat_cmp, nat_lt, nat_tests, nothing, place_code, prefix_len, running_in}
 use Rattle.std.specs.Option.{unwrap_or}
 use Rattle.std.proofs.Math.Seq.{take-length}
 use Rattle.station_core.specs.declared.stored.WaybillBalances.{WaybillBalances}
@@ -17,12 +17,7 @@ abbrev pub Climbs : List CountRow → Type 0
 Climbs rows = IsAscending (λ (a b : CountRow). int_le a.awb b.awb ≡ true) rows
 
 not_above : (a b : CountRow) → count_cmp (count_meant a).0 (count_meant b).0 ≡ Less → int_le a.awb b.awb ≡ true
-not_above a b h = go (int_cmp a.awb b.awb) refl h
-  where
-    go : (o : Ordering) → int_cmp a.awb b.awb ≡ o → ordering_then o (int_cmp a.place b.place) ≡ Less → int_le a.awb b.awb ≡ true
-    go Less e h = grind (arith, ints)
-    go Equal e h = grind (arith, ints)
-    go Greater e h = absurd (cc)
+not_above a b h = grind (arith, ints)
 
 climbs : (counts : FinMap count_cmp Count) (rows : List CountRow) → map count_meant rows ≡ entries counts → Climbs rows
 climbs counts rows are =
@@ -42,18 +37,6 @@ climbs_on (suc n) (row ∷ rows) up = climbs_on n rows up.1
 
 -- ---- the rows of the first waybill
 
-goes_above : (w x y : ℤ) → int_le w x ≡ true → int_eq x w ≡ false → int_le x y ≡ true → int_lt w y ≡ true
-goes_above w x y low other up = grind (arith, ints)
-
-is_above : (w x : ℤ) → int_le w x ≡ true → int_eq x w ≡ false → int_lt w x ≡ true
-is_above w x low other = grind (arith, ints)
-
-is_other : (w y : ℤ) → int_lt w y ≡ true → int_eq y w ≡ false
-is_other w y h = grind (arith, ints)
-
-apart : (v w x : ℤ) → int_eq v w ≡ false → int_eq x w ≡ true → int_eq x v ≡ false
-apart v w x other is = grind (arith, ints)
-
 one_plus : (n : ℕ) → 1 + n ≡ suc n
 one_plus n = omega arith
 
@@ -65,39 +48,33 @@ module _ (w : ℤ) where
   Above rows = AllByRecursion (λ (row : CountRow). int_lt w row.awb ≡ true) rows
 
   above : (row : CountRow) (rows : List CountRow) → int_le w row.awb ≡ true → awb_is w row ≡ false → AllByRecursion (λ (later : CountRow). int_le row.awb later.awb ≡ true) rows → Above rows
-  above row rows low other up = all_weaker (λ (later : CountRow). int_le row.awb later.awb ≡ true) (λ (later : CountRow). int_lt w later.awb ≡ true) (λ later h. goes_above w row.awb later.awb low other h) rows up
+  above row rows low other up = all_weaker (λ (later : CountRow). int_le row.awb later.awb ≡ true) (λ (later : CountRow). int_lt w later.awb ≡ true) (λ later h. grind (arith, ints)) rows up
 
   none_there : (rows : List CountRow) → Above rows → filter (awb_is w) rows ≡ []
-  none_there rows h = filter_none (awb_is w) rows (all_weaker (λ (row : CountRow). int_lt w row.awb ≡ true) (λ (row : CountRow). awb_is w row ≡ false) (λ row up. is_other w row.awb up) rows h)
+  none_there rows h = filter_none (awb_is w) rows (all_weaker (λ (row : CountRow). int_lt w row.awb ≡ true) (λ (row : CountRow). awb_is w row ≡ false) (λ row up. grind (arith, ints)) rows h)
 
-  pub in_front : (rows : List CountRow) → Low rows → Climbs rows → take (prefix_len (awb_is w) rows) rows ≡ filter (awb_is w) rows
-  in_front [] low up = refl
-  in_front (row ∷ rows) low up = go (awb_is w row) refl (in_front rows low.1 up.1)
-    where
-      go : (b : Bool) → awb_is w row ≡ b → take (prefix_len (awb_is w) rows) rows ≡ filter (awb_is w) rows
-          → take (cond b (1 + prefix_len (awb_is w) rows) 0) (row ∷ rows) ≡ cond b (row ∷ filter (awb_is w) rows) (filter (awb_is w) rows)
-      go true is more = ap (λ k. take k (row ∷ rows)) (one_plus (prefix_len (awb_is w) rows)) ∙ ap (λ l. row ∷ l) more
-      go false is more = sym (none_there rows (above row rows low.0 is up.0))
-
-  pub behind : (rows : List CountRow) → Low rows → Climbs rows → Above (drop (prefix_len (awb_is w) rows) rows)
-  behind [] low up = tt
-  behind (row ∷ rows) low up = go (awb_is w row) refl (behind rows low.1 up.1)
-    where
-      go : (b : Bool) → awb_is w row ≡ b → Above (drop (prefix_len (awb_is w) rows) rows) → Above (drop (cond b (1 + prefix_len (awb_is w) rows) 0) (row ∷ rows))
-      go true is more = subst (λ k. Above (drop k (row ∷ rows))) (sym (one_plus (prefix_len (awb_is w) rows))) more
-      go false is more = (is_above w row.awb low.0 is, above row rows low.0 is up.0)
+  -- they are in front, and all others are above
+  pub in_front : (rows : List CountRow) → Low rows → Climbs rows → (take (prefix_len (awb_is w) rows) rows ≡ filter (awb_is w) rows) × Above (drop (prefix_len (awb_is w) rows) rows)
+  in_front [] low up = (refl, tt)
+  in_front (row ∷ rows) low up =
+      let n = prefix_len (awb_is w) rows in
+      let own = filter (awb_is w) rows in
+      elim (awb_is w row) as (λ b. awb_is w row ≡ b → (take (cond b (1 + n) 0) (row ∷ rows) ≡ cond b (row ∷ own) own) × Above (drop (cond b (1 + n) 0) (row ∷ rows))) [
+        | true ↦ λ is. let more = in_front rows low.1 up.1 in rw (one_plus n) (ap (λ l. row ∷ l) more.0, more.1)
+        | false ↦ λ is.
+            let from : int_le w row.awb ≡ true = low.0 in
+            let higher : int_lt w row.awb ≡ true = grind (arith, ints) in (sym (none_there rows (above row rows low.0 is up.0)), (higher, above row rows low.0 is up.0))
+      ] refl
 
   -- the rows of another waybill all stand behind them
   pub others : (v : ℤ) → int_eq v w ≡ false → (rows : List CountRow) → filter (awb_is v) (drop (prefix_len (awb_is w) rows) rows) ≡ filter (awb_is v) rows
   others v other [] = refl
-  others v other (row ∷ rows) = go (awb_is w row) refl (others v other rows)
-    where
-      go : (b : Bool) → awb_is w row ≡ b → filter (awb_is v) (drop (prefix_len (awb_is w) rows) rows) ≡ filter (awb_is v) rows
-          → filter (awb_is v) (drop (cond b (1 + prefix_len (awb_is w) rows) 0) (row ∷ rows)) ≡ filter (awb_is v) (row ∷ rows)
-      go true is more =
-          ap (λ k. filter (awb_is v) (drop k (row ∷ rows))) (one_plus (prefix_len (awb_is w) rows))
-          ∙ more ∙ ap (λ b. cond b (row ∷ filter (awb_is v) rows) (filter (awb_is v) rows)) (sym (apart v w row.awb other is))
-      go false is more = refl
+  others v other (row ∷ rows) =
+      let n = prefix_len (awb_is w) rows in
+      elim (awb_is w row) as (λ b. awb_is w row ≡ b → filter (awb_is v) (drop (cond b (1 + n) 0) (row ∷ rows)) ≡ filter (awb_is v) (row ∷ rows)) [
+        | true ↦ λ is. let apart : int_eq row.awb v ≡ false = grind (arith, ints) in rw (one_plus n, apart) (others v other rows)
+        | false ↦ λ is. refl
+      ] refl
 
 -- ---- the waybills that are listed
 
@@ -125,35 +102,18 @@ none_listed counts book rows are = record {
   ahead = λ w none. ap (filter (counts_for (pos w))) are;
 }
 
-awb_below : (a b : ℕ) (z : ℤ) → z ≡ pos b → int_lt (pos a) z ≡ true → nat_lt a b ≡ true
-awb_below a b z is h = grind (arith, ints, nat_tests)
-
-not_it : (a b : ℕ) (z : ℤ) → z ≡ pos b → int_lt (pos a) z ≡ true → (b == a) ≡ false
-not_it a b z is h = grind (arith, ints, nat_tests)
-
-other_int : (v w : ℕ) (z : ℤ) → z ≡ pos w → (v == w) ≡ false → int_eq (pos v) z ≡ false
-other_int v w z is h = grind (arith, ints, nat_tests)
-
-itself : (z : ℤ) → int_le z z ≡ true
-itself z = grind (arith, ints)
-
 not_found : (w : ℕ) (z : ℤ) → z ≡ pos w → (first : CountRow) (more : List CountRow) → first.awb ≡ z → (all : List WaybillBalances) → AllByRecursion (Below (first ∷ more)) all → find_in w all ≡ None
 not_found w z is first more at [] h = refl
 not_found w z is first more at (one ∷ all) h =
-    ap (λ b. cond b (Some one) (find_in w all)) (not_it one.awb w first.awb (at ∙ is) h.0.0) ∙ not_found w z is first more at all h.1
+    let low = h.0.0 in
+    let other : (w == one.awb) ≡ false = grind (arith, ints, nat_tests) in
+    rw other (not_found w z is first more at all h.1)
 
 found_not_there : (v : ℕ) (all : List WaybillBalances) (one : WaybillBalances) → find_in v (all ++ one ∷ []) ≡ None → (find_in v all ≡ None) × ((v == one.awb) ≡ false)
-found_not_there v [] one h = go (v == one.awb) h
-  where
-    go : (b : Bool) → cond b (Some one) None ≡ None → (◌≡◌ {A = Option WaybillBalances} None None) × (b ≡ false)
-    go true h = absurd (cc)
-    go false h = (refl, refl)
-found_not_there v (other ∷ all) one h = go (v == other.awb) h (found_not_there v all one)
-  where
-    go : (b : Bool) → cond b (Some other) (find_in v (all ++ one ∷ [])) ≡ None → (find_in v (all ++ one ∷ []) ≡ None → (find_in v all ≡ None) × ((v == one.awb) ≡ false))
-        → (cond b (Some other) (find_in v all) ≡ None) × ((v == one.awb) ≡ false)
-    go true h more = absurd (cc)
-    go false h more = more h
+found_not_there v [] one h = (refl, grind arith)
+found_not_there v (other ∷ all) one h =
+    elim (v == other.awb) as (λ b. cond b (Some other) (find_in v (all ++ one ∷ [])) ≡ None → (cond b (Some other) (find_in v all) ≡ None) × ((v == one.awb) ≡ false))
+    [ true ↦ λ no. absurd (cc) | false ↦ found_not_there v all one ] h
 
 rows_of : (w : ℤ) (rows : List CountRow) → filter (counts_for w) (map count_meant rows) ≡ map count_meant (filter (awb_is w) rows)
 rows_of w rows = filter-map (counts_for w) count_meant rows
@@ -163,12 +123,12 @@ module _ (counts : FinMap count_cmp Count) (book : List Move) (first : CountRow)
   rows = first ∷ more
 
   low : Low first.awb rows
-  low = (itself first.awb, so.up.0)
+  low = ((let itself : int_le first.awb first.awb ≡ true = grind (arith, ints) in itself), so.up.0)
 
   -- the rows in front are all rows of the waybill
   pub own_rows : (w : ℕ) → first.awb ≡ pos w → map count_meant (take (prefix_len (awb_is first.awb) rows) rows) ≡ filter (counts_for first.awb) (entries counts)
   own_rows w is =
-      ap (map count_meant) (in_front first.awb rows low so.up) ∙ sym (rows_of first.awb rows)
+      ap (map count_meant) (in_front first.awb rows low so.up).0 ∙ sym (rows_of first.awb rows)
       ∙ ap (λ z. filter (counts_for z) (map count_meant rows)) is
       ∙ so.ahead w (not_found w first.awb is first more refl all so.below)
       ∙ ap (λ z. filter (counts_for z) (entries counts)) (sym is)
@@ -179,16 +139,18 @@ module _ (counts : FinMap count_cmp Count) (book : List Move) (first : CountRow)
       let n = prefix_len (awb_is first.awb) rows in
       let rest = drop n rows in
       let later : AllByRecursion (Below rest) all = all_weaker (Below rows) (Below rest) (λ x h. dropped (λ (row : CountRow). int_lt (pos x.awb) row.awb ≡ true) n rows h) all so.below in
-      let new : Below rest one = subst (λ z. AllByRecursion (λ (row : CountRow). int_lt z row.awb ≡ true) rest) is (behind first.awb rows low so.up) in
+      let new : Below rest one = subst (λ z. AllByRecursion (λ (row : CountRow). int_lt z row.awb ≡ true) rest) is (in_front first.awb rows low so.up).1 in
       record {
         up = climbs_on n rows so.up;
         right = all-append (λ (x : WaybillBalances). x.balances ≡ balances_of book x.awb) all (one ∷ []) so.right (right, tt);
         rising = ascending-append (λ (a b : WaybillBalances). nat_lt a.awb b.awb ≡ true) all (one ∷ []) so.rising (tt, tt)
-            (all_weaker (Below rows) (λ (x : WaybillBalances). AllByRecursion (λ (y : WaybillBalances). nat_lt x.awb y.awb ≡ true) (one ∷ [])) (λ x h. (awb_below x.awb one.awb first.awb is h.0, tt)) all so.below);
+            (all_weaker (Below rows) (λ (x : WaybillBalances). AllByRecursion (λ (y : WaybillBalances). nat_lt x.awb y.awb ≡ true) (one ∷ []))
+            (λ x h. let low = h.0 in ((let less : nat_lt x.awb one.awb ≡ true = grind (arith, ints, nat_tests) in less), tt)) all so.below);
         below = all-append (Below rest) all (one ∷ []) later (new, tt);
         ahead = λ v none.
             let apart_from = found_not_there v all one none in
-            rows_of (pos v) rest ∙ ap (map count_meant) (others first.awb (pos v) (other_int v one.awb first.awb is apart_from.1) rows)
+            let other_row : int_eq (pos v) first.awb ≡ false = (let other = apart_from.1 in grind (arith, ints, nat_tests)) in
+            rows_of (pos v) rest ∙ ap (map count_meant) (others first.awb (pos v) other_row rows)
             ∙ sym (rows_of (pos v) rows) ∙ so.ahead v apart_from.0;
       }
 
@@ -228,14 +190,9 @@ sorted_pairs (a ∷ all) h = rw (below_pairs a all h.0, sorted_pairs all h.1) re
 found_right : (book : List Move) (w : ℕ) (all : List WaybillBalances) → AllByRecursion (λ (one : WaybillBalances). one.balances ≡ balances_of book one.awb) all
     → (find_in w all ≡ None → balances_of book w ≡ nothing) → balances_of book w ≡ unwrap_or (option_map (λ (row : WaybillBalances). row.balances) (find_in w all)) nothing
 found_right book w [] right none = none refl
-found_right book w (one ∷ all) right none = go (w == one.awb) refl (found_right book w all right.1) none
-  where
-    go : (b : Bool) → (w == one.awb) ≡ b
-        → ((find_in w all ≡ None → balances_of book w ≡ nothing) → balances_of book w ≡ unwrap_or (option_map (λ (row : WaybillBalances). row.balances) (find_in w all)) nothing)
-        → (cond b (Some one) (find_in w all) ≡ None → balances_of book w ≡ nothing)
-        → balances_of book w ≡ unwrap_or (option_map (λ (row : WaybillBalances). row.balances) (cond b (Some one) (find_in w all))) nothing
-    go true is more none = ap (balances_of book) (is_nat w one.awb is) ∙ sym right.0
-    go false is more none = more none
+found_right book w (one ∷ all) right none = elim (w == one.awb) as (λ b. (w == one.awb) ≡ b → (cond b (Some one) (find_in w all) ≡ None → balances_of book w ≡ nothing)
+    → balances_of book w ≡ unwrap_or (option_map (λ (row : WaybillBalances). row.balances) (cond b (Some one) (find_in w all))) nothing)
+    [ true ↦ λ is none. ap (balances_of book) (is_nat w one.awb is) ∙ sym right.0 | false ↦ λ is none. found_right book w all right.1 none ] refl none
 
 module _ (counts : FinMap count_cmp Count) (book : List Move) (are : AreCounts counts book) (w : ℕ) (no_rows : [] ≡ filter (counts_for (pos w)) (entries counts)) where
   no_row : (code : ℤ) → ◌≡◌ {A = Option Tally} None (option_map running_in (get counts (pos w, code)))

@@ -65,8 +65,7 @@ abbrev pub same_expected : FlightDate × ℕ → FlightDate × ℕ → Bool
 same_expected a b = same_flight_date a.0 b.0 && (a.1 == b.1)
 
 three : (a b c : Bool) → (a && (b && c)) ≡ (a && b && c)
-three true b c = refl
-three false b c = refl
+three a b c = grind arith
 
 pub same_expected_key : (a b : FlightDate × ℕ) → is_designator a.0.flight ≡ true → is_designator b.0.flight ≡ true → eq_by_cmp expected_cmp (expected_key a.0 a.1) (expected_key b.0 b.1) ≡ same_expected a b
 same_expected_key a b is_a is_b =
@@ -81,9 +80,7 @@ same_expected_designator a b is e = same_designator a.0 b.0 is (and_parts (same_
 -- a part of a manifest
 
 four : (a b c d : Bool) → (a && (b && (c && d))) ≡ (a && b && c && d)
-four true true c d = refl
-four true false c d = refl
-four false b c d = refl
+four a b c d = grind arith
 
 pub same_part_key : (a b : Part) → is_designator a.flight.flight ≡ true → is_designator b.flight.flight ≡ true → eq_by_cmp part_cmp (part_key a) (part_key b) ≡ same_part a b
 same_part_key a b is_a is_b =

@@ -1,12 +1,13 @@
 -- The rows of a flight are the moves of the flight.
-use Rattle.row_codec.proofs.Common.{Bool, Built, Delivered, Departed, FlightDate, Free, Hand, List, Missing, None, Option, Some, Surplus, Transferred, [], and_parts, ap, ap₂, are_flight_columns, arith, bytes_cmp, bytes_eq-true, eq_by_cmp, false, false_from_ne_true, flight_date_of, flight_text, if◌then◌else◌, int_eq, ints, is_day, is_designator, is_eq-slice_cmp, is_flight_text, is_flown, is_move_row, is_named, is_number, is_of_flight, is_some, is_within, length, move_by, natural, negsuc, place_of, plain_place, pos, refl, subst, sym, texts_total, true, true≢false, ℕ, ℤ, ◌&&◌, ◌==◌, ◌||◌, ◌∙◌, ◌∷◌, ◌≡◌}
+use Rattle.row_codec.proofs.Common.{Bool, Built, Delivered, Departed, FlightDate, Free, Hand, List, Missing, None, Option, Some, Surplus, Transferred, [], and_parts, ap, ap₂, are_flight_columns, arith, bytes_cmp, bytes_eq-true, eq_by_cmp, false, false_from_ne_true, flight_date_of, flight_text, if◌then◌else◌, int_eq, ints, is_day, is_designator, is_eq-slice_cmp, is_flight_text, is_flown, is_move_row, is_named, is_of_flight, length, move_by, natural, place_of, plain_place, pos, refl, subst, sym, texts_total, true, true≢false, ℕ, ℤ, ◌&&◌, ◌==◌, ◌||◌, ◌∙◌, ◌∷◌, ◌≡◌}
 use Rattle.std.specs.Option.{unwrap_or}
 use Rattle.sqlite_typed.proofs.TestLemmas.{turn_eq}
 use Rattle.std.specs.Option.{option_map}
 use Rattle.shipment_machine.specs.Places.{same_place}
 use Rattle.station_schema.specs.Tables.{Move}
 use Rattle.row_codec.proofs.FlightKeys.{read_again, tied_text}
-use Rattle.row_codec.proofs.Noted.{flight_of_row}
+use Rattle.row_codec.proofs.Noted.{day_again, flight_of_row}
+use Rattle.row_codec.proofs.MoveRows.{columns_of}
 
 -- a place that isn't built isn't built for a flight
 unbuilt : (f : FlightDate) (a b c d e g h : Bool)
@@ -25,13 +26,7 @@ built_for f code o = go (int_eq code (pos 3)) o
     go false o = unbuilt f _ _ _ _ _ _ _
 
 either : (a b x : Bool) → (a && x || b && x || x) ≡ x
-either true b true = refl
-either false true true = refl
-either true true false = refl
-either true false false = refl
-either false true false = refl
-either false false true = refl
-either false false false = refl
+either a b x = grind arith
 
 -- a move is of a flight if its columns name it
 named_only : (f : FlightDate) (row : Move) → is_of_flight f (move_by row) ≡ is_named f (flight_date_of row.flight row.fday)
@@ -40,28 +35,13 @@ named_only f row =
     ap₂ (λ a b. a || b || is_named f o) (built_for f row.src o) (built_for f row.dst o)
     ∙ either (int_eq row.src (pos 3)) (int_eq row.dst (pos 3)) (is_named f o)
 
-flight_columns : (row : Move) → is_move_row row ≡ true → are_flight_columns row.flight row.fday ≡ true
-flight_columns row h =
-    let o : Option FlightDate = flight_date_of row.flight row.fday in
-    sixth (is_number row.awb) (is_some (place_of row.src o)) (is_some (place_of row.dst o)) (is_within 1 9999 row.pieces) (is_within 0 999_999 row.tenths)
-    (are_flight_columns row.flight row.fday) (is_day row.day) (is_within 0 1439 row.minute) h
-  where
-    sixth : (a b c d e f g i : Bool) → (a && b && c && d && e && f && g && i) ≡ true → f ≡ true
-    sixth a b c d e true g i k = refl
-    sixth true true true true true false g i k = cc
-    sixth _ _ _ _ _ false g i k = cc
-
-natural_day : (day : ℤ) → is_day day ≡ true → day ≡ pos (natural day)
-natural_day (pos n) h = refl
-natural_day (negsuc n) h = absurd (cc)
-
 -- columns that name a flight have its text and its day
 written_columns : (text : List ℕ) (day : ℤ) (g : FlightDate) → are_flight_columns text day ≡ true → flight_date_of text day ≡ Some g → (is_flight_text text ≡ true) × (day ≡ pos (natural day))
 written_columns [] day g h read = absurd (cc)
 written_columns (c ∷ cs) day g h read =
     let some : (length (c ∷ cs) == 0) ≡ false = grind (arith) in
     let both = and_parts (is_flight_text (c ∷ cs)) (is_day day) (subst (λ b. (b && int_eq day (pos 0) || is_flight_text (c ∷ cs) && is_day day) ≡ true) some h) in
-    (both.0, natural_day day both.1)
+    (both.0, day_again _ _ day both.1)
 
 turned : (a b : ℕ) → (a == b) ≡ int_eq (pos b) (pos a)
 turned a b = grind (arith, ints)
@@ -85,4 +65,4 @@ flown_as f is text day columns = go (flight_date_of text day) refl
         ∙ ap₂ (λ b z. eq_by_cmp bytes_cmp b (flight_text f.flight) && int_eq z (pos f.day)) (sym of.0) (sym of.1)
 
 pub flown_moves : (f : FlightDate) → is_designator f.flight ≡ true → (row : Move) → is_move_row row ≡ true → is_of_flight f (move_by row) ≡ is_flown (flight_text f.flight) (pos f.day) row
-flown_moves f is row ok = named_only f row ∙ flown_as f is row.flight row.fday (flight_columns row ok)
+flown_moves f is row ok = named_only f row ∙ flown_as f is row.flight row.fday (columns_of row ok).columns

@@ -1,7 +1,8 @@
 -- The row of a place among the rows of a waybill.
-use Rattle.std.proofs.Common.{◌≡◌, ℤ, Bool, true, false, cond, ◌&&◌, List, [], ◌∷◌, map, Option, Some, None, option_map, refl, sym, ap, ap₂, ◌∙◌, int_cmp, int_eq}
+use Rattle.std.proofs.Common.{◌≡◌, ℤ, arith, ◌&&◌, List, [], ◌∷◌, map, Option, option_map, refl, sym, ap, ap₂, ◌∙◌, int_cmp, int_eq}
 use Rattle.row_codec.proofs.Common.{Count, CountKey, CountRow, FinMap, Tally, count_cmp, count_meant, counts_for, entries, eq_by_cmp, filter, find, get, get-entries, int_tied, int_turned, pair_eq, running_in}
 use Rattle.std.specs.FinMap as map
+use Rattle.row_codec.proofs.Tests.{twice}
 
 module _ (awb place : ℤ) where
   tied : (e : CountKey × Count) → eq_by_cmp count_cmp (awb, place) e.0 ≡ (counts_for awb e && int_eq e.0.1 place)
@@ -9,25 +10,13 @@ module _ (awb place : ℤ) where
 
   found_in : (es : List (CountKey × Count)) → option_map (λ (e : CountKey × Count). e.1) (find (λ (e : CountKey × Count). int_eq e.0.1 place) (filter (counts_for awb) es)) ≡ map.find count_cmp (awb, place) es
   found_in [] = refl
-  found_in (e ∷ es) = go (counts_for awb e) (int_eq e.0.1 place) refl (found_in es) ∙ ap (λ b. cond b (Some e.1) (map.find count_cmp (awb, place) es)) (sym (tied e))
-    where
-      go : (a b : Bool) → int_eq e.0.1 place ≡ b → option_map (λ (x : CountKey × Count). x.1) (find (λ (x : CountKey × Count). int_eq x.0.1 place) (filter (counts_for awb) es)) ≡ map.find count_cmp (awb, place) es
-          → option_map (λ (x : CountKey × Count). x.1) (find (λ (x : CountKey × Count). int_eq x.0.1 place) (cond a (e ∷ filter (counts_for awb) es) (filter (counts_for awb) es))) ≡ cond (a && b) (Some e.1) (map.find count_cmp (awb, place) es)
-      go true true is more = ap (λ t. option_map (λ (x : CountKey × Count). x.1) (cond t (Some e) (find (λ (x : CountKey × Count). int_eq x.0.1 place) (filter (counts_for awb) es)))) is
-      go true false is more = ap (λ t. option_map (λ (x : CountKey × Count). x.1) (cond t (Some e) (find (λ (x : CountKey × Count). int_eq x.0.1 place) (filter (counts_for awb) es)))) is ∙ more
-      go false b is more = more
+  found_in (e ∷ es) = grind (arith, tied e, found_in es)
 
 -- what a list of rows has is what the list of what they mean has
 meant_by : (place : ℤ) (rows : List CountRow) → option_map (λ (row : CountRow). (count_meant row).1) (find (λ (row : CountRow). int_eq row.place place) rows)
     ≡ option_map (λ (e : CountKey × Count). e.1) (find (λ (e : CountKey × Count). int_eq e.0.1 place) (map count_meant rows))
 meant_by place [] = refl
-meant_by place (row ∷ rows) = go (int_eq row.place place) (meant_by place rows)
-  where
-    go : (b : Bool) → option_map (λ (x : CountRow). (count_meant x).1) (find (λ (x : CountRow). int_eq x.place place) rows) ≡ option_map (λ (e : CountKey × Count). e.1) (find (λ (e : CountKey × Count). int_eq e.0.1 place) (map count_meant rows))
-        → option_map (λ (x : CountRow). (count_meant x).1) (cond b (Some row) (find (λ (x : CountRow). int_eq x.place place) rows))
-        ≡ option_map (λ (e : CountKey × Count). e.1) (cond b (Some (count_meant row)) (find (λ (e : CountKey × Count). int_eq e.0.1 place) (map count_meant rows)))
-    go true more = refl
-    go false more = more
+meant_by place (row ∷ rows) = grind (arith, meant_by place rows)
 
 pub row_found : (counts : FinMap count_cmp Count) (awb place : ℤ) (rows : List CountRow) → map count_meant rows ≡ filter (counts_for awb) (entries counts)
     → option_map (λ (row : CountRow). (count_meant row).1) (find (λ (row : CountRow). int_eq row.place place) rows) ≡ get counts (awb, place)
@@ -42,8 +31,5 @@ pub tally_found : (counts : FinMap count_cmp Count) (awb place : ℤ) (rows : Li
     → first ≡ find (λ (row : CountRow). int_eq row.place place) rows → found ≡ option_map (λ (row : CountRow). running_in (count_meant row).1) first
     → found ≡ option_map running_in (get counts (awb, place))
 tally_found counts awb place rows first found are is told =
-    told ∙ both first ∙ ap (λ o. option_map running_in (option_map (λ (row : CountRow). (count_meant row).1) o)) is ∙ ap (option_map running_in) (row_found counts awb place rows are)
-  where
-    both : (o : Option CountRow) → option_map (λ (row : CountRow). running_in (count_meant row).1) o ≡ option_map running_in (option_map (λ (row : CountRow). (count_meant row).1) o)
-    both None = refl
-    both (Some row) = refl
+    told ∙ sym (twice running_in (λ (row : CountRow). (count_meant row).1) first) ∙ ap (λ o. option_map running_in (option_map (λ (row : CountRow). (count_meant row).1) o)) is
+    ∙ ap (option_map running_in) (row_found counts awb place rows are)

@@ -1,10 +1,6 @@
 -- A map that is read under the keys of values, where only some values have a key.
-use Rattle.std.proofs.Common.{◌≡◌, Bool, true, false, cond, Option, Some, option_map, unwrap_or, refl, sym, ap, ◌∙◌, true≢false, Ordering}
-use Rattle.row_codec.proofs.Common.{FinMap, IsTotalOrder, adjust, eq_by_cmp, false_from_ne_true, get, get-insert, insert}
-
--- where there is a row, changing it is writing it
-pub adjusted : {K V : Type 0} {R : K → K → Ordering} (m : FinMap R V) (k : K) (v was : V) → get m k ≡ Some was → adjust m k (λ _. v) ≡ insert m k v
-adjusted m k v was has = ap (λ o. unwrap_or (option_map (λ _. insert m k v) o) m) has
+use Rattle.std.proofs.Common.{◌≡◌, Bool, true, false, arith, cond, Option, Some, refl, sym, ap, ◌∙◌, true≢false, Ordering}
+use Rattle.row_codec.proofs.Common.{FinMap, IsTotalOrder, eq_by_cmp, false_from_ne_true, get, get-insert, insert}
 
 module _ {K V Q W : Type 0} (R : K → K → Ordering) (total : IsTotalOrder R) (key : Q → K) (guard : Q → Bool) (see : Option V → W) (nothing : W) (same : Q → Q → Bool)
     (same_keys : (a b : Q) → guard a ≡ true → guard b ≡ true → eq_by_cmp R (key a) (key b) ≡ same a b)
@@ -14,8 +10,7 @@ module _ {K V Q W : Type 0} (R : K → K → Ordering) (total : IsTotalOrder R) 
   seen m q = cond (guard q) (see (get m (key q))) nothing
 
   chosen : (b : Bool) (v : V) (o : Option V) → see (cond b (Some v) o) ≡ cond b (see (Some v)) (see o)
-  chosen true v o = refl
-  chosen false v o = refl
+  chosen b v o = grind arith
 
   pub seen-insert : (m : FinMap R V) (a : Q) (v : V) → guard a ≡ true → (q : Q) → seen (insert m (key a) v) q ≡ cond (same q a) (see (Some v)) (seen m q)
   seen-insert m a v may q = go (guard q) refl

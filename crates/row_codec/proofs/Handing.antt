@@ -1,19 +1,10 @@
 -- What the rows of the book, of the trail and of the outbox hand out to readers.
-use Rattle.std.proofs.Common.{◌≡◌, ℕ, zero, suc, ◌+◌, ◌-◌, ◌<◌, ◌≤◌, ◌==◌, ◌&&◌, ℤ, pos, negsuc, Bool, true, false, cond, Some, List, [], ◌∷◌, map, filter, length, drop, ltb-true, ltb-false, refl, sym, ap, ap₂, subst, ◌∙◌, arith}
-use Rattle.row_codec.proofs.Common.{FlightDate, IsTrue, Means, Message, State, Tables, book_row, book_row_by, book_rows, drop-map, flight_text, int_eq, int_lt, ints, is_designator, is_flown, is_line_after, is_line_of, is_message_after, is_move_after, is_move_row, is_number, is_of, is_of_flight, is_trail_row, last_of, line_by, list_all, message, message_id, messages_after, move_by, move_id, nat_lt, natural, numbered, range_with_len, trail_id, trail_row, trail_row_by, trail_rows}
+use Rattle.std.proofs.Common.{◌≡◌, ℕ, zero, suc, ◌+◌, ◌-◌, ◌<◌, ◌≤◌, ◌==◌, ℤ, pos, negsuc, Bool, true, false, cond, Some, List, [], ◌∷◌, map, filter, length, drop, ltb-true, ltb-false, refl, sym, ap, ap₂, subst, ◌∙◌, arith}
+use Rattle.row_codec.proofs.Common.{FlightDate, IsTrue, and_parts, first_true, Means, Message, State, Tables, book_row, book_row_by, book_rows, drop-map, flight_text, int_eq, int_lt, ints, is_designator, is_flown, is_line_after, is_line_of, is_message_after, is_move_after, is_move_row, is_number, is_of, is_of_flight, is_trail_row, last_of, line_by, list_all, message, message_id, messages_after, move_by, move_id, nat_lt, natural, numbered, range_with_len, trail_id, trail_row, trail_row_by, trail_rows}
 use Rattle.station_core.specs.declared.rows.Message as reader
-use Rattle.station_schema.specs.Tables.{Move}
-use Rattle.row_codec.proofs.Listed.{head_is, tail_is}
 use Rattle.row_codec.proofs.Flown.{flown_moves}
+use Rattle.row_codec.proofs.MoveRows.{columns_of}
 use Rattle.row_codec.proofs.Telling.{book_told, trail_told, outbox_told}
-
-first : (a b : Bool) → (a && b) ≡ true → a ≡ true
-first true b h = refl
-first false b h = cc
-
-second : (a b : Bool) → (a && b) ≡ true → b ≡ true
-second true b h = h
-second false b h = cc
 
 is_so : {b : Bool} → IsTrue b → b ≡ true
 is_so h = h
@@ -32,12 +23,13 @@ module _ {X : Type 0} (key : X → ℤ) where
   numbered_as : {Y Row : Type 0} (by : X → Y) (row : ℕ → Y → Row) (xs : List X) (a : ℕ) → AreFrom a xs → map (λ x. row (natural (key x)) (by x)) xs ≡ numbered row a (map by xs)
   numbered_as by row [] a are = refl
   numbered_as {Row = Row} by row (x ∷ xs) a are =
-      ap₂ (λ (r : Row) (l : List Row). r ∷ l) (ap (λ z. row (natural z) (by x)) (head_is _ _ _ _ are)) (numbered_as by row xs (a + 1) (tail_is _ _ _ _ are))
+      let here : key x ≡ pos a = cc in
+      ap₂ (λ (r : Row) (l : List Row). r ∷ l) (ap (λ z. row (natural z) (by x)) here) (numbered_as by row xs (a + 1) cc)
 
   behind_from : (k : ℕ) (xs : List X) (a : ℕ) → AreFrom a xs → AreFrom (a + k) (drop k xs)
   behind_from zero xs a are = let e : a ≡ a + 0 = omega arith in subst (λ b. AreFrom b xs) e are
   behind_from (suc k) [] a are = refl
-  behind_from (suc k) (x ∷ xs) a are = let e : a + 1 + k ≡ a + suc k = omega arith in subst (λ b. AreFrom b (drop k xs)) e (behind_from k xs (a + 1) (tail_is _ _ _ _ are))
+  behind_from (suc k) (x ∷ xs) a are = let e : a + 1 + k ≡ a + suc k = omega arith in subst (λ b. AreFrom b (drop k xs)) e (behind_from k xs (a + 1) cc)
 
   abbrev above : ℕ → List X → List X
   above mark xs = filter (λ x. int_lt (pos mark) (key x)) xs
@@ -45,9 +37,10 @@ module _ {X : Type 0} (key : X → ℤ) where
   behind_mark : (mark : ℕ) (xs : List X) (a : ℕ) → AreFrom a xs → above mark xs ≡ drop (mark + 1 - a) xs
   behind_mark mark [] a are = sym (drop_none (mark + 1 - a))
   behind_mark mark (x ∷ xs) a are =
-      ap (λ z. cond (int_lt (pos mark) z) (x ∷ above mark xs) (above mark xs)) (head_is _ _ _ _ are)
+      let here : key x ≡ pos a = cc in
+      ap (λ z. cond (int_lt (pos mark) z) (x ∷ above mark xs) (above mark xs)) here
       ∙ ap (λ b. cond b (x ∷ above mark xs) (above mark xs)) (is_above mark a)
-      ∙ go (nat_lt mark a) refl (behind_mark mark xs (a + 1) (tail_is _ _ _ _ are))
+      ∙ go (nat_lt mark a) refl (behind_mark mark xs (a + 1) cc)
     where
       go : (b : Bool) → nat_lt mark a ≡ b → above mark xs ≡ drop (mark + 1 - (a + 1)) xs → cond b (x ∷ above mark xs) (above mark xs) ≡ drop (mark + 1 - a) (x ∷ xs)
       go true e more =
@@ -62,15 +55,9 @@ module _ {X : Type 0} (key : X → ℤ) where
 
 -- what is asked for of rows is handed out of the book's
 module _ {X Y : Type 0} (f : X → Y) (p : X → Bool) (q : Y → Bool) (ok : X → Bool) (same : (x : X) → ok x ≡ true → q (f x) ≡ p x) where
-  kept_so : (b : Bool) (x : X) (xs : List X) → map f (cond b (x ∷ xs) xs) ≡ cond b (f x ∷ map f xs) (map f xs)
-  kept_so true x xs = refl
-  kept_so false x xs = refl
-
   pub map_filter : (xs : List X) → list_all ok xs ≡ true → map f (filter p xs) ≡ filter q (map f xs)
   map_filter [] h = refl
-  map_filter (x ∷ xs) h =
-      kept_so (p x) x (filter p xs)
-      ∙ ap₂ (λ b ys. cond b (f x ∷ ys) ys) (sym (same x (first (ok x) (list_all ok xs) h))) (map_filter xs (second (ok x) (list_all ok xs) h))
+  map_filter (x ∷ xs) h = let both = and_parts (ok x) (list_all ok xs) h in grind (arith, same x both.0, map_filter xs both.1)
 
 is_higher : (n : ℕ) (z : ℤ) → nat_lt n (natural z) ≡ int_lt (pos n) z
 is_higher n (pos m) = sym (is_above n m)
@@ -78,14 +65,7 @@ is_higher n (negsuc m) = grind (arith, ints)
 
 same_number : (z : ℤ) (w : ℕ) → is_number z ≡ true → (natural z == w) ≡ int_eq z (pos w)
 same_number (pos n) w h = grind (arith, ints)
-same_number (negsuc n) w h = absurd (cc)
-
-in_range : (row : Move) → is_move_row row ≡ true → is_number row.awb ≡ true
-in_range row h = front (is_number row.awb) _ _ _ _ _ _ _ h
-  where
-    front : (a b c d e f g i : Bool) → (a && b && c && d && e && f && g && i) ≡ true → a ≡ true
-    front true b c d e f g i k = refl
-    front false b c d e f g i k = cc
+same_number (negsuc n) w h = absurd cc
 
 any_row : {X : Type 0} (rows : List X) → list_all (λ _. true) rows ≡ true
 any_row [] = refl
@@ -127,7 +107,7 @@ module _ (t : Tables) (s : State) (means : Means t (Some s)) where
   -- those of a waybill
   pub book_of : (w : ℕ) → map book_row_by (filter (is_of (pos w)) t.moves) ≡ filter (λ row. row.movement.awb == w) (book_rows s.cargo)
   book_of w =
-      map_filter book_row_by (is_of (pos w)) (λ row. row.movement.awb == w) is_move_row (λ row ok. same_number row.awb w (in_range row ok)) t.moves (is_so means.0.moves)
+      map_filter book_row_by (is_of (pos w)) (λ row. row.movement.awb == w) is_move_row (λ row ok. same_number row.awb w (columns_of row ok).awb) t.moves (is_so means.0.moves)
       ∙ ap (filter (λ row. row.movement.awb == w)) book_handed
 
   -- those of a flight
@@ -150,7 +130,7 @@ module _ (t : Tables) (s : State) (means : Means t (Some s)) where
 
   pub trail_of : (w : ℕ) → map trail_row_by (filter (is_line_of (pos w)) t.trail) ≡ filter (λ row. row.awb == w) (trail_rows s.cargo)
   trail_of w =
-      map_filter trail_row_by (is_line_of (pos w)) (λ row. row.awb == w) is_trail_row (λ row ok. same_number row.awb w (first (is_number row.awb) _ ok)) t.trail (is_so means.0.trail)
+      map_filter trail_row_by (is_line_of (pos w)) (λ row. row.awb == w) is_trail_row (λ row ok. same_number row.awb w (first_true (is_number row.awb) _ ok)) t.trail (is_so means.0.trail)
       ∙ ap (filter (λ row. row.awb == w)) trail_handed
 
   -- the messages behind the mark

@@ -4,9 +4,7 @@ use Rattle.row_codec.proofs.Common.{AreRequests, IsRequest, Kept, Means, State, 
 use Rattle.station_core.specs.Step as step
 use Rattle.row_codec.proofs.Guarded.{seen-insert}
 use Rattle.row_codec.proofs.MapLaws.{all-insert}
-
-some_is : (a b : Kept) → Some a ≡ Some b → a ≡ b
-some_is a b is = cc
+use Rattle.row_codec.proofs.Tests.{some_is}
 
 -- every text is a key
 module _ (t : Tables) (s : State) (means : Means t (Some s)) where

@@ -1,22 +1,13 @@
 -- One row more of a flight.
-use Rattle.row_codec.proofs.Common.{Bool, List, Load, Tally, [], ap, append-nil, ap₂, build_meant, cond, false, filter, get_or, is_loaded, length, load_said, map, refl, row_said, sym, take, take_more, true, ℕ, ℤ, ◌++◌, ◌+◌, ◌<◌, ◌∙◌, ◌∷◌, ◌≡◌}
+use Rattle.row_codec.proofs.Common.{Bool, List, Load, Tally, [], ap, append-nil, ap₂, build_meant, cond, false, filter, get_or, is_loaded, length, load_said, map, map-append, refl, row_said, sym, take, take_more, true, ℕ, ℤ, ◌++◌, ◌+◌, ◌<◌, ◌∙◌, ◌∷◌, ◌≡◌}
+use Rattle.std.proofs.lemmas.List.Elements.{filter-append}
 use Rattle.station_rows.specs.declared.builds.BuildRow.{BuildRow}
 
 abbrev pub said_in : List BuildRow → List (ℤ × Tally)
 said_in rows = filter is_loaded (map row_said (map build_meant rows))
 
 said_push : (xs : List BuildRow) (x : BuildRow) → said_in (xs ++ x ∷ []) ≡ said_in xs ++ cond (is_loaded (row_said (build_meant x))) (row_said (build_meant x) ∷ []) []
-said_push [] x = refl
-said_push (y ∷ ys) x = go (is_loaded (row_said (build_meant y))) (said_push ys x)
-  where
-    go : (b : Bool) → said_in (ys ++ x ∷ []) ≡ said_in ys ++ cond (is_loaded (row_said (build_meant x))) (row_said (build_meant x) ∷ []) []
-        → cond b (row_said (build_meant y) ∷ said_in (ys ++ x ∷ [])) (said_in (ys ++ x ∷ [])) ≡ cond b (row_said (build_meant y) ∷ said_in ys) (said_in ys) ++ cond (is_loaded (row_said (build_meant x))) (row_said (build_meant x) ∷ []) []
-    go true more = ap (λ l. row_said (build_meant y) ∷ l) more
-    go false more = more
-
-load_push : (ls : List Load) (l : Load) → map load_said (ls ++ l ∷ []) ≡ map load_said ls ++ load_said l ∷ []
-load_push [] l = refl
-load_push (k ∷ ks) l = ap (λ m. load_said k ∷ m) (load_push ks l)
+said_push xs x = simp (map-append, filter-append) refl
 
 module _ (rows : List BuildRow) (i : ℕ) (row : BuildRow) (lt : i < length rows) (read : row ≡ get_or rows i row) (loads : List Load) (before : map load_said loads ≡ said_in (take i rows)) where
   next : (b : Bool) → is_loaded (row_said (build_meant row)) ≡ b → said_in (take (i + 1) rows) ≡ said_in (take i rows) ++ cond b (row_said (build_meant row) ∷ []) []
@@ -25,7 +16,7 @@ module _ (rows : List BuildRow) (i : ℕ) (row : BuildRow) (lt : i < length rows
 
   pub load_taken : (load : Load) (after : List Load) → is_loaded (row_said (build_meant row)) ≡ true → load_said load ≡ row_said (build_meant row) → after ≡ loads ++ load ∷ [] → map load_said after ≡ said_in (take (i + 1) rows)
   load_taken load after is same then =
-      ap (map load_said) then ∙ load_push loads load ∙ ap₂ (λ l s. l ++ s ∷ []) before same ∙ sym (next true is)
+      ap (map load_said) then ∙ map-append load_said loads (load ∷ []) ∙ ap₂ (λ l s. l ++ s ∷ []) before same ∙ sym (next true is)
 
   pub load_passed : is_loaded (row_said (build_meant row)) ≡ false → map load_said loads ≡ said_in (take (i + 1) rows)
   load_passed is = before ∙ sym (append-nil (said_in (take i rows))) ∙ sym (next false is)

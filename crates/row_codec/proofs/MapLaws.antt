@@ -1,6 +1,7 @@
 -- What holds of each entry of a map holds at each key, and the other way round.
-use Rattle.row_codec.proofs.Common.{AllByRecursion, Bool, Equal, FinMap, Greater, IsAntisymmetric, IsAscending, IsTotalOrder, Less, List, Ordering, Some, [], all_both, all_weaker, ap, ap₂, cond, entries, entries_rise, eq_by_cmp, eq_by_cmp_equiv, false, get, get-entries, get-insert, insert, is_eq, list_all, refl, subst, sym, tied_itself, true, ◌&&◌, ◌∙◌, ◌∷◌, ◌≡◌}
+use Rattle.row_codec.proofs.Common.{AllByRecursion, Bool, Equal, FinMap, Greater, IsAntisymmetric, IsAscending, IsTotalOrder, Less, List, Ordering, Some, [], all_both, all_weaker, ap, ap₂, cond, entries, entries_rise, eq_by_cmp, eq_by_cmp_equiv, false, get, get-entries, get-insert, insert, is_eq, list_all, refl, subst, sym, tied_itself, true, ◌∙◌, ◌∷◌, ◌≡◌}
 use Rattle.std.specs.FinMap.{find}
+use Rattle.sqlite_keyed.proofs.ListLemmas.{all_from_test, test_from_all}
 
 pub is_tied : (o : Ordering) → is_eq o ≡ true → o ≡ Equal
 is_tied Less h = absurd (cc)
@@ -10,21 +11,8 @@ is_tied Greater h = absurd (cc)
 turn : {K : Type 0} (R : K → K → Ordering) → IsTotalOrder R → (x y : K) → eq_by_cmp R x y ≡ eq_by_cmp R y x
 turn R total = (eq_by_cmp_equiv total).symm
 
-pub first : (a b : Bool) → (a && b) ≡ true → a ≡ true
-first true b h = refl
-first false b h = cc
-
-pub second : (a b : Bool) → (a && b) ≡ true → b ≡ true
-second true b h = h
-second false b h = cc
-
 pub each_passes : {X : Type 0} (p : X → Bool) (xs : List X) → list_all p xs ≡ true → AllByRecursion (λ x. p x ≡ true) xs
-each_passes p [] h = tt
-each_passes p (x ∷ xs) h = (first (p x) (list_all p xs) h, each_passes p xs (second (p x) (list_all p xs) h))
-
-pub all_pass : {X : Type 0} (p : X → Bool) (xs : List X) → AllByRecursion (λ x. p x ≡ true) xs → list_all p xs ≡ true
-all_pass p [] h = refl
-all_pass p (x ∷ xs) h = rw h.0 (all_pass p xs h.1)
+each_passes p xs h = all_from_test p xs h
 
 pub key_is : {K : Type 0} (R : K → K → Ordering) → IsAntisymmetric R → (q k : K) → eq_by_cmp R q k ≡ true → q ≡ k
 key_is R same q k tied = same q k (is_tied _ tied)
@@ -44,18 +32,17 @@ module _ {K V : Type 0} (R : K → K → Ordering) (total : IsTotalOrder R) wher
   module _ (same : IsAntisymmetric R) where
     found_in : (P : K × V → Type 0) (q : K) (v : V) (es : List (K × V)) → AllByRecursion P es → find R q es ≡ Some v → P (q, v)
     found_in P q v [] all is = absurd (cc)
-    found_in P q v (e ∷ es) all is = go (eq_by_cmp R q e.0) refl is (found_in P q v es all.1)
-      where
-        go : (b : Bool) → eq_by_cmp R q e.0 ≡ b → cond b (Some e.1) (find R q es) ≡ Some v → (find R q es ≡ Some v → P (q, v)) → P (q, v)
-        go true tied has more = let value : e.1 ≡ v = cc in subst P (ap₂ (λ a b. (a, b)) (sym (same q e.0 (is_tied _ tied))) value) all.0
-        go false tied has more = more has
+    found_in P q v (e ∷ es) all is = elim (eq_by_cmp R q e.0) as (λ b. eq_by_cmp R q e.0 ≡ b → cond b (Some e.1) (find R q es) ≡ Some v → P (q, v)) [
+      | true ↦ λ tied has. let value : e.1 ≡ v = cc in subst P (ap₂ (λ a b. (a, b)) (sym (key_is R same q e.0 tied)) value) all.0
+      | false ↦ λ tied has. found_in P q v es all.1 has
+    ] refl is
 
     pub at_key : (P : K × V → Type 0) (m : FinMap R V) → AllByRecursion P (entries m) → (q : K) (v : V) → get m q ≡ Some v → P (q, v)
     at_key P m all q v has = found_in P q v (entries m) all (sym (get-entries m q) ∙ has)
 
     -- a test that each entry passes
     pub all-insert : (p : K × V → Bool) (m : FinMap R V) (k : K) (v : V) → list_all p (entries m) ≡ true → p (k, v) ≡ true → list_all p (entries (insert m k v)) ≡ true
-    all-insert p m k v all new = all_pass p (entries (insert m k v)) (each_entry (λ e. p e ≡ true) (insert m k v) (λ q w has. go q w (eq_by_cmp R q k) refl (sym (get-insert total m k v q) ∙ has)))
+    all-insert p m k v all new = test_from_all p (entries (insert m k v)) (each_entry (λ e. p e ≡ true) (insert m k v) (λ q w has. go q w (eq_by_cmp R q k) refl (sym (get-insert total m k v q) ∙ has)))
       where
         go : (q : K) (w : V) (b : Bool) → eq_by_cmp R q k ≡ b → cond b (Some v) (get m q) ≡ Some w → p (q, w) ≡ true
         go q w true tied has = let value : v ≡ w = cc in ap₂ (λ a b. p (a, b)) (key_is R same q k tied) (sym value) ∙ new

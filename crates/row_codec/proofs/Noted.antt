@@ -1,6 +1,6 @@
 -- What is noted of flights and what they are to bring, as readers are given them: in the order of their rows' keys.
 use Rattle.std.proofs.Common.{◌≡◌, ℕ, ◌<◌, ◌≤◌, length, ℤ, pos, negsuc, Bool, true, false, cond, ◌&&◌, Option, Some, None, option_map, List, [], ◌∷◌, map, take, drop, is_lt, int_cmp, refl, sym, ap, ap₂, subst, ◌∙◌, true≢false, arith, Ordering, Less, Equal, Greater, T}
-use Rattle.row_codec.proofs.Common.{AllByRecursion, AreExpectations, AreNoted, Designator, Expected, ExpectedKey, FinMap, Flight, FlightDate, FlightKey, IfSome, IsTrue, Means, State, Tables, and_parts, below_all, by_expectation, by_flight, bytes_eq-true, count_of, drop_while, entries, entries_sorted, eq_by_cmp, expectation_by, expected_by, expected_cmp, expected_in, expected_key, find, flight_cmp, flight_date_of, flight_key, flight_of, flight_text, flights_in, get, get-entries, ints, is_carrier, is_designator, is_expected_row, is_flight_row, is_flight_text, is_sorted, is_within, is_written, le-leb, leb-true, list_all, nat_cmp, nat_le, natural, noted_by, ordering_then, outbound_by, same_flight_date, suffix_of, take_while, where_true, ◌>>=◌, ◌^◌}
+use Rattle.row_codec.proofs.Common.{AllByRecursion, AreExpectations, AreNoted, Designator, Expected, ExpectedKey, FinMap, Flight, FlightDate, FlightKey, IfSome, IsTrue, Means, State, Tables, and_parts, below_all, by_expectation, by_flight, bytes_eq-true, count_of, drop_while, entries, entries_sorted, eq_by_cmp, expectation_by, expected_by, expected_cmp, expected_key, false_from_ne_true, find, flight_cmp, flight_date_of, flight_key, flight_of, flight_text, get, get-entries, ints, is_carrier, is_day, is_designator, is_expected_row, is_flight_row, is_flight_text, is_sorted, is_within, is_written, le-leb, leb-true, list_all, nat_cmp, nat_le, natural, noted_by, ordering_then, outbound_by, same_flight_date, suffix_of, take_while, where_true, ◌>>=◌, ◌^◌}
 use Rattle.std.specs.Cmp.Lexicographic.{slice_cmp}
 use Rattle.std.specs.FinMap as tree
 use Rattle.std.proofs.Math.Nat.{pow-le-pow_right}
@@ -51,64 +51,65 @@ is_read text f h =
     (designator_test (record { carrier = carrier.0; number = number.0; suffix = suffix.0 })
     (ap is_carrier (sym of_two.1) ∙ of_two.0, leb-true 1 number.0 fits.0, leb-true number.0 9999 fits.1, letter (drop_while is_digit (drop 2 text)) suffix.0 suffix.1.0))
 
+is_so : (b : Bool) → T b → b ≡ true
+is_so true h = refl
+is_so false h = absurd h
+
 -- ---- rows that are entries
 
-module _ {K V D N W : Type 0} (R : K → K → Ordering) (S : D → D → Ordering) (key : D → K) (at : N → D) (value : N → W) (by : V → W) (same : D → D → Bool) (may : D → Bool) where
+module _ {K V D N W : Type 0} (key : D → K) (at : N → D) (value : N → W) (by : V → W) (may : D → Bool) where
   -- a row is of an entry
   pub record IsOf (e : K × V) (row : N) : Type 0 where
     pub key_is : e.0 ≡ key (at row)
     pub value_is : value row ≡ by e.1
     pub may_be : may (at row) ≡ true
 
-  abbrev pub AreOf : List (K × V) → List N → Type 0
+  abbrev AreOf : List (K × V) → List N → Type 0
   AreOf [] [] = Unit {0}
   AreOf (e ∷ es) (row ∷ rows) = IsOf e row × AreOf es rows
   AreOf _ _ = ⊥
 
-  abbrev pub pairs : List N → List (D × W)
-  pairs rows = map (λ row. (at row, value row)) rows
+  module _ (R : K → K → Ordering) (S : D → D → Ordering) (same : D → D → Bool) (read : K × V → Option N) (fits : K × V → Bool)
+      (reads : (e : K × V) (row : N) → Some row ≡ read e → fits e ≡ true → IsOf e row)
+      (tied : (a b : D) → may a ≡ true → may b ≡ true → eq_by_cmp R (key a) (key b) ≡ same a b) (one : (a b : D) → may b ≡ true → same a b ≡ true → may a ≡ true)
+      (orders : (a b : D) → R (key a) (key b) ≡ S a b) where
+    each : (es : List (K × V)) (rows : List N) → map Some rows ≡ map read es → AllByRecursion (λ e. fits e ≡ true) es → AreOf es rows
+    each [] [] is all = tt
+    each (e ∷ es) (row ∷ rows) is all = (reads e row (cc) all.0, each es rows (cc) all.1)
+    each _ _ is all = absurd (cc)
 
-  module _ (tied : (a b : D) → may a ≡ true → may b ≡ true → eq_by_cmp R (key a) (key b) ≡ same a b) where
-    pub found : (d : D) → may d ≡ true → (es : List (K × V)) (rows : List N) → AreOf es rows → option_map by (tree.find R (key d) es) ≡ option_map value (find (λ row. same d (at row)) rows)
+    found : (d : D) → may d ≡ true → (es : List (K × V)) (rows : List N) → AreOf es rows → option_map by (tree.find R (key d) es) ≡ option_map value (find (λ row. same d (at row)) rows)
     found d is [] [] h = refl
-    found d is [] (row ∷ rows) h = absurd h
-    found d is (e ∷ es) [] h = absurd h
     found d is (e ∷ es) (row ∷ rows) h =
-        ap (λ b. option_map by (cond b (Some e.1) (tree.find R (key d) es))) (ap (eq_by_cmp R (key d)) h.0.key_is ∙ tied d (at row) is h.0.may_be)
-        ∙ go (same d (at row)) (found d is es rows h.1)
-      where
-        go : (b : Bool) → option_map by (tree.find R (key d) es) ≡ option_map value (find (λ row. same d (at row)) rows)
-            → option_map by (cond b (Some e.1) (tree.find R (key d) es)) ≡ option_map value (cond b (Some row) (find (λ row. same d (at row)) rows))
-        go true more = ap Some (sym h.0.value_is)
-        go false more = more
+        let t = ap (eq_by_cmp R (key d)) h.0.key_is ∙ tied d (at row) is h.0.may_be in
+        grind (arith, t, h.0.value_is, found d is es rows h.1)
+    found d is _ _ h = absurd h
 
-  module _ (one : (a b : D) → may b ≡ true → same a b ≡ true → may a ≡ true) where
-    pub not_found : (d : D) → may d ≡ false → (es : List (K × V)) (rows : List N) → AreOf es rows → None ≡ option_map value (find (λ row. same d (at row)) rows)
+    not_found : (d : D) → may d ≡ false → (es : List (K × V)) (rows : List N) → AreOf es rows → None ≡ option_map value (find (λ row. same d (at row)) rows)
     not_found d fails [] [] h = refl
-    not_found d fails [] (row ∷ rows) h = absurd h
-    not_found d fails (e ∷ es) [] h = absurd h
-    not_found d fails (e ∷ es) (row ∷ rows) h = go (same d (at row)) refl (not_found d fails es rows h.1)
-      where
-        go : (b : Bool) → same d (at row) ≡ b → None ≡ option_map value (find (λ row. same d (at row)) rows) → None ≡ option_map value (cond b (Some row) (find (λ row. same d (at row)) rows))
-        go true is more = absurd (true≢false (sym (one d (at row) h.0.may_be is) ∙ fails))
-        go false is more = more
+    not_found d fails (e ∷ es) (row ∷ rows) h = rw (false_from_ne_true (same d (at row)) (λ is. true≢false (sym (one d (at row) h.0.may_be is) ∙ fails))) (not_found d fails es rows h.1)
+    not_found d fails _ _ h = absurd h
 
-  module _ (orders : (a b : D) → R (key a) (key b) ≡ S a b) where
-    below : (e : K × V) (row : N) → IsOf e row → (es : List (K × V)) (rows : List N) → AreOf es rows → below_all R e.0 es ≡ below_all S (at row) (pairs rows)
+    below : (e : K × V) (row : N) → IsOf e row → (es : List (K × V)) (rows : List N) → AreOf es rows → below_all R e.0 es ≡ below_all S (at row) (map (λ row. (at row, value row)) rows)
     below e row is [] [] h = refl
-    below e row is [] (other ∷ rows) h = absurd h
-    below e row is (d ∷ es) [] h = absurd h
     below e row is (d ∷ es) (other ∷ rows) h = ap₂ (λ a b. is_lt a && b) (ap₂ R is.key_is h.0.key_is ∙ orders (at row) (at other)) (below e row is es rows h.1)
+    below e row is _ _ h = absurd h
 
-    pub sorted : (es : List (K × V)) (rows : List N) → AreOf es rows → is_sorted R es ≡ is_sorted S (pairs rows)
+    sorted : (es : List (K × V)) (rows : List N) → AreOf es rows → is_sorted R es ≡ is_sorted S (map (λ row. (at row, value row)) rows)
     sorted [] [] h = refl
-    sorted [] (row ∷ rows) h = absurd h
-    sorted (e ∷ es) [] h = absurd h
-    sorted (e ∷ es) (row ∷ rows) h = ap₂ (λ a b. a && b) (below e row h.0 es rows h.1) (sorted es rows h.1)
+    sorted (e ∷ es) (row ∷ rows) h = ap₂ ◌&&◌ (below e row h.0 es rows h.1) (sorted es rows h.1)
+    sorted _ _ h = absurd h
 
-is_so : (b : Bool) → T b → b ≡ true
-is_so true h = refl
-is_so false h = absurd h
+    -- the rows of all entries are in order, and a look-up finds what the map has
+    pub rows_told : (m : FinMap R V) (rows : List N) → list_all fits (entries m) ≡ true → map Some rows ≡ map read (entries m)
+        → IsTrue (is_sorted S (map (λ row. (at row, value row)) rows)) × ((d : D) → cond (may d) (option_map by (get m (key d))) None ≡ option_map value (find (λ row. same d (at row)) rows))
+    rows_told m rows all is =
+        let are = each (entries m) rows is (each_passes fits (entries m) all) in
+        (sym (sorted (entries m) rows are) ∙ is_so _ (entries_sorted m), λ d. go are d (may d) refl)
+      where
+        go : AreOf (entries m) rows → (d : D) (b : Bool) → may d ≡ b → cond b (option_map by (get m (key d))) None ≡ option_map value (find (λ row. same d (at row)) rows)
+        go are d true may_be = ap (option_map by) (get-entries m (key d)) ∙ found d may_be (entries m) rows are
+        go are d false fails = not_found d fails (entries m) rows are
 
 pub day_again : (low high : ℕ) (z : ℤ) → is_within low high z ≡ true → z ≡ pos (natural z)
 day_again low high (pos n) h = refl
@@ -116,12 +117,6 @@ day_again low high (negsuc n) h = absurd (let no : ⊥ = grind (arith, ints) in 
 
 number_order : (a b : ℕ) → int_cmp (pos a) (pos b) ≡ nat_cmp a b
 number_order a b = grind (arith, ints)
-
-head_row : {X : Type 0} (x y : X) (xs ys : List X) → ◌≡◌ {A = List X} (x ∷ xs) (y ∷ ys) → x ≡ y
-head_row x y xs ys e = cc
-
-tail_rows : {X : Type 0} (x y : X) (xs ys : List X) → ◌≡◌ {A = List X} (x ∷ xs) (y ∷ ys) → xs ≡ ys
-tail_rows x y xs ys e = cc
 
 -- ---- flights
 
@@ -144,52 +139,24 @@ flight_of_row text day f is written number = go (flight_of text) refl is written
           ap is_designator named ∙ is_read text d read,
         )
 
-abbrev IsNoted : FlightKey × Flight → NotedFlight → Type 0
-IsNoted = IsOf flight_cmp by_flight flight_key (λ (row : NotedFlight). row.flight) (λ (row : NotedFlight). row.outbound) outbound_by same_flight_date (λ (f : FlightDate). is_designator f.flight)
+-- and so is a row that is made of the flight
+flight_made : {N : Type 0} (text : List ℕ) (day : ℤ) (make : FlightDate → N) (row : N) → Some row ≡ option_map make (flight_date_of text day) → is_flight_text text ≡ true → is_day day ≡ true
+    → (f : FlightDate) × (row ≡ make f) × (text ≡ flight_text f.flight) × (day ≡ pos f.day) × (is_designator f.flight ≡ true)
+flight_made {N} text day make row is written within = go (flight_date_of text day) refl is
+  where
+    go : (o : Option FlightDate) → flight_date_of text day ≡ o → Some row ≡ option_map make o
+        → (f : FlightDate) × (row ≡ make f) × (text ≡ flight_text f.flight) × (day ≡ pos f.day) × (is_designator f.flight ≡ true)
+    go None read is = absurd (cc)
+    go (Some f) read is = let key = flight_of_row text day f (sym read) written (day_again _ _ day within) in (f, cc, key.0, key.1, key.2)
 
-abbrev AreNotedOf : List (FlightKey × Flight) → List NotedFlight → Type 0
-AreNotedOf = AreOf flight_cmp by_flight flight_key (λ (row : NotedFlight). row.flight) (λ (row : NotedFlight). row.outbound) outbound_by same_flight_date (λ (f : FlightDate). is_designator f.flight)
+abbrev IsNoted : FlightKey × Flight → NotedFlight → Type 0
+IsNoted = IsOf flight_key (λ (row : NotedFlight). row.flight) (λ (row : NotedFlight). row.outbound) outbound_by (λ (f : FlightDate). is_designator f.flight)
 
 is_noted : (e : FlightKey × Flight) (row : NotedFlight) → Some row ≡ noted_by e → is_flight_row e ≡ true → IsNoted e row
-is_noted e row is fits = go (flight_date_of e.0.0 e.0.1) refl is
-  where
-    go : (o : Option FlightDate) → flight_date_of e.0.0 e.0.1 ≡ o → Some row ≡ option_map (λ f. record { flight = f; outbound = outbound_by e.1 }) o → IsNoted e row
-    go None read is = absurd (cc)
-    go (Some f) read is =
-        let same : row ≡ record { flight = f; outbound = outbound_by e.1 } = cc in
-        let three = and_parts _ _ (and_parts _ _ fits).0 in
-        let two = and_parts _ _ three.0 in
-        let key = flight_of_row e.0.0 e.0.1 f (sym read) two.0 (day_again _ _ e.0.1 two.1) in
-        let at : row.flight ≡ f = ap (λ (x : NotedFlight). x.flight) same in
-        record {
-          key_is = (λ i. (key.0 i, key.1 i)) ∙ ap flight_key (sym at);
-          value_is = ap (λ (x : NotedFlight). x.outbound) same;
-          may_be = ap (λ (x : FlightDate). is_designator x.flight) at ∙ key.2;
-        }
-
-each_noted : (es : List (FlightKey × Flight)) (rows : List NotedFlight) → map Some rows ≡ map noted_by es → AllByRecursion (λ e. is_flight_row e ≡ true) es → AreNotedOf es rows
-each_noted [] [] is fits = tt
-each_noted [] (row ∷ rows) is fits = absurd (cc)
-each_noted (e ∷ es) [] is fits = absurd (cc)
-each_noted (e ∷ es) (row ∷ rows) is fits = (is_noted e row (head_row _ _ _ _ is) fits.0, each_noted es rows (tail_rows _ _ _ _ is) fits.1)
-
-noted_found : (flights : FinMap flight_cmp Flight) (rows : List NotedFlight) → AreNotedOf (entries flights) rows → (f : FlightDate)
-    → flights_in flights f ≡ option_map (λ (row : NotedFlight). row.outbound) (find (λ (row : NotedFlight). same_flight_date f row.flight) rows)
-noted_found flights rows are f = go (is_designator f.flight) refl
-  where
-    go : (b : Bool) → is_designator f.flight ≡ b → cond b (option_map outbound_by (get flights (flight_key f))) None ≡ option_map (λ (row : NotedFlight). row.outbound) (find (λ (row : NotedFlight). same_flight_date f row.flight) rows)
-    go true is = ap (option_map outbound_by) (get-entries flights (flight_key f))
-        ∙ found flight_cmp by_flight flight_key (λ (row : NotedFlight). row.flight) (λ (row : NotedFlight). row.outbound) outbound_by same_flight_date (λ (x : FlightDate). is_designator x.flight) same_key f is (entries flights) rows are
-    go false fails = not_found flight_cmp by_flight flight_key (λ (row : NotedFlight). row.flight) (λ (row : NotedFlight). row.outbound) outbound_by same_flight_date (λ (x : FlightDate). is_designator x.flight) same_designator f fails (entries flights) rows are
-
-noted_in_rows : (flights : FinMap flight_cmp Flight) (rows : List NotedFlight) → list_all is_flight_row (entries flights) ≡ true → map Some rows ≡ map noted_by (entries flights) → AreNoted (flights_in flights) rows
-noted_in_rows flights rows fits is =
-    let are = each_noted (entries flights) rows is (each_passes is_flight_row (entries flights) fits) in
-    record {
-      rising = sym (sorted flight_cmp by_flight flight_key (λ (row : NotedFlight). row.flight) (λ (row : NotedFlight). row.outbound) outbound_by same_flight_date (λ (x : FlightDate). is_designator x.flight) by_flight_order (entries flights) rows are)
-          ∙ is_so _ (entries_sorted flights);
-      same = noted_found flights rows are;
-    }
+is_noted e row is fits =
+    let two = and_parts _ _ (and_parts _ _ (and_parts _ _ fits).0).0 in
+    let of = flight_made e.0.0 e.0.1 (λ f. record { flight = f; outbound = outbound_by e.1 }) row is two.0 two.1 in
+    subst (IsNoted e) (sym of.1) (record { key_is = λ i. (of.2 i, of.3 i); value_is = refl; may_be = of.4 })
 
 -- ---- what flights are to bring
 
@@ -210,58 +177,26 @@ by_expectation_order a b =
     ap₂ (λ day awb. ordering_then text (ordering_then day awb)) (number_order a.0.day b.0.day) (number_order a.1 b.1) ∙ then_then text (nat_cmp a.0.day b.0.day) (nat_cmp a.1 b.1)
 
 abbrev IsExpected : ExpectedKey × Expected → Expectation → Type 0
-IsExpected = IsOf expected_cmp by_expectation key_of at_waybill (λ (row : Expectation). row.expected) expected_by same_expected (λ (d : FlightDate × ℕ). is_designator d.0.flight)
-
-abbrev AreExpectedOf : List (ExpectedKey × Expected) → List Expectation → Type 0
-AreExpectedOf = AreOf expected_cmp by_expectation key_of at_waybill (λ (row : Expectation). row.expected) expected_by same_expected (λ (d : FlightDate × ℕ). is_designator d.0.flight)
+IsExpected = IsOf key_of at_waybill (λ (row : Expectation). row.expected) expected_by (λ (d : FlightDate × ℕ). is_designator d.0.flight)
 
 is_expectation : (e : ExpectedKey × Expected) (row : Expectation) → Some row ≡ expectation_by e → is_expected_row e ≡ true → IsExpected e row
-is_expectation e row is fits = go (flight_date_of e.0.0 e.0.1.0) refl is
-  where
-    go : (o : Option FlightDate) → flight_date_of e.0.0 e.0.1.0 ≡ o → Some row ≡ option_map (λ f. record { flight = f; awb = natural e.0.1.1; expected = expected_by e.1 }) o → IsExpected e row
-    go None read is = absurd (cc)
-    go (Some f) read is =
-        let same : row ≡ record { flight = f; awb = natural e.0.1.1; expected = expected_by e.1 } = cc in
-        let three = and_parts _ _ (and_parts _ _ (and_parts _ _ (and_parts _ _ fits).0).0).0 in
-        let two = and_parts _ _ three.0 in
-        let key = flight_of_row e.0.0 e.0.1.0 f (sym read) two.0 (day_again _ _ e.0.1.0 two.1) in
-        let at : at_waybill row ≡ (f, natural e.0.1.1) = ap at_waybill same in
-        let number = day_again _ _ e.0.1.1 three.1 in
-        record {
-          key_is = (λ i. (key.0 i, (key.1 i, number i))) ∙ ap key_of (sym at);
-          value_is = ap (λ (x : Expectation). x.expected) same;
-          may_be = ap (λ (d : FlightDate × ℕ). is_designator d.0.flight) at ∙ key.2;
-        }
-
-each_expected : (es : List (ExpectedKey × Expected)) (rows : List Expectation) → map Some rows ≡ map expectation_by es → AllByRecursion (λ e. is_expected_row e ≡ true) es → AreExpectedOf es rows
-each_expected [] [] is fits = tt
-each_expected [] (row ∷ rows) is fits = absurd (cc)
-each_expected (e ∷ es) [] is fits = absurd (cc)
-each_expected (e ∷ es) (row ∷ rows) is fits = (is_expectation e row (head_row _ _ _ _ is) fits.0, each_expected es rows (tail_rows _ _ _ _ is) fits.1)
-
-expected_found : (expected : FinMap expected_cmp Expected) (rows : List Expectation) → AreExpectedOf (entries expected) rows → (d : FlightDate × ℕ)
-    → expected_in expected d.0 d.1 ≡ option_map (λ (row : Expectation). row.expected) (find (λ (row : Expectation). same_expected d (at_waybill row)) rows)
-expected_found expected rows are d = go (is_designator d.0.flight) refl
-  where
-    go : (b : Bool) → is_designator d.0.flight ≡ b → cond b (option_map expected_by (get expected (key_of d))) None ≡ option_map (λ (row : Expectation). row.expected) (find (λ (row : Expectation). same_expected d (at_waybill row)) rows)
-    go true is = ap (option_map expected_by) (get-entries expected (key_of d))
-        ∙ found expected_cmp by_expectation key_of at_waybill (λ (row : Expectation). row.expected) expected_by same_expected (λ (x : FlightDate × ℕ). is_designator x.0.flight) same_expected_key d is (entries expected) rows are
-    go false fails = not_found expected_cmp by_expectation key_of at_waybill (λ (row : Expectation). row.expected) expected_by same_expected (λ (x : FlightDate × ℕ). is_designator x.0.flight) same_expected_designator d fails (entries expected) rows are
-
-expectations_in_rows : (expected : FinMap expected_cmp Expected) (rows : List Expectation) → list_all is_expected_row (entries expected) ≡ true → map Some rows ≡ map expectation_by (entries expected) → AreExpectations (expected_in expected) rows
-expectations_in_rows expected rows fits is =
-    let are = each_expected (entries expected) rows is (each_passes is_expected_row (entries expected) fits) in
-    record {
-      rising = sym (sorted expected_cmp by_expectation key_of at_waybill (λ (row : Expectation). row.expected) expected_by same_expected (λ (x : FlightDate × ℕ). is_designator x.0.flight) by_expectation_order (entries expected) rows are)
-          ∙ is_so _ (entries_sorted expected);
-      same = λ f w. expected_found expected rows are (f, w);
-    }
+is_expectation e row is fits =
+    let three = and_parts _ _ (and_parts _ _ (and_parts _ _ (and_parts _ _ fits).0).0).0 in
+    let two = and_parts _ _ three.0 in
+    let of = flight_made e.0.0 e.0.1.0 (λ f. record { flight = f; awb = natural e.0.1.1; expected = expected_by e.1 }) row is two.0 two.1 in
+    subst (IsExpected e) (sym of.1) (record { key_is = λ i. (of.2 i, (of.3 i, day_again _ _ e.0.1.1 three.1 i)); value_is = refl; may_be = of.4 })
 
 -- ---- of tables that mean a state
 
 module _ (t : Tables) (s : State) (means : Means t (Some s)) where
   pub noted_told : (rows : List NotedFlight) → map Some rows ≡ map noted_by (entries t.flights) → AreNoted s.cargo.flights rows
-  noted_told rows is = subst (λ (x : State). AreNoted x.cargo.flights rows) means.1 (noted_in_rows t.flights rows means.0.flights is)
+  noted_told rows is =
+      let told = rows_told flight_key (λ (row : NotedFlight). row.flight) (λ (row : NotedFlight). row.outbound) outbound_by (λ (f : FlightDate). is_designator f.flight)
+      flight_cmp by_flight same_flight_date noted_by is_flight_row is_noted same_key same_designator by_flight_order t.flights rows means.0.flights is in
+      subst (λ (x : State). AreNoted x.cargo.flights rows) means.1 (record { rising = told.0; same = told.1 })
 
   pub expectations_told : (rows : List Expectation) → map Some rows ≡ map expectation_by (entries t.expected) → AreExpectations s.cargo.expected rows
-  expectations_told rows is = subst (λ (x : State). AreExpectations x.cargo.expected rows) means.1 (expectations_in_rows t.expected rows means.0.expected is)
+  expectations_told rows is =
+      let told = rows_told key_of at_waybill (λ (row : Expectation). row.expected) expected_by (λ (d : FlightDate × ℕ). is_designator d.0.flight)
+      expected_cmp by_expectation same_expected expectation_by is_expected_row is_expectation same_expected_key same_expected_designator by_expectation_order t.expected rows means.0.expected is in
+      subst (λ (x : State). AreExpectations x.cargo.expected rows) means.1 (record { rising = told.0; same = λ f w. told.1 (f, w) })

@@ -1,10 +1,10 @@
 -- What is noted of a flight, of what it brings, and of a part of its manifest is written.
-use Rattle.std.proofs.Common.{◌≡◌, ◌==◌, ◌&&◌, ℕ, true, cond, Option, Some, None, option_map, List, sym, ap, subst, ◌∙◌}
-use Rattle.row_codec.proofs.Common.{Expect, Expected, FinMap, Flight, FlightDate, Means, NoteFlight, NotePart, Outbound, Part, State, Tables, changing_expected, changing_flight, expected_by, expected_cmp, expected_in, expected_key, expected_row, expected_same, expected_total, flight_cmp, flight_key, flight_same, flight_total, flights_in, get, insert, is_designator, is_expected_row, is_flight_row, is_part_row, meaning_of, on_cargo, outbound_by, outbound_row, part_cmp, part_key, part_same, part_total, parts_in, same_flight_date, same_part, with_expected, with_flight, with_part, written}
+use Rattle.std.proofs.Common.{◌≡◌, ◌==◌, ◌&&◌, ℕ, true, cond, Option, Some, None, option_map, List, ap, ◌∙◌}
+use Rattle.row_codec.proofs.Common.{Expect, FlightDate, Means, NoteFlight, NotePart, Outbound, Part, State, Tables, expected_by, expected_cmp, expected_in, expected_key, expected_row, expected_same, expected_total, flight_cmp, flight_key, flight_same, flight_total, flights_in, insert, is_designator, is_expected_row, is_flight_row, is_part_row, meaning_of, on_cargo, outbound_by, outbound_row, part_cmp, part_key, part_same, part_total, parts_in, same_flight_date, same_part, with_expected, with_flight, with_part, written}
 use Rattle.shipment_machine.specs.declared.moves.Expected as cargo
 use Rattle.row_codec.proofs.Declaring.{flag_again}
 use Rattle.row_codec.proofs.FlightKeys.{same_key, same_designator, same_expected, same_expected_key, same_expected_designator, same_part_key, same_part_designator}
-use Rattle.row_codec.proofs.Guarded.{adjusted, seen-insert}
+use Rattle.row_codec.proofs.Guarded.{seen-insert}
 use Rattle.row_codec.proofs.MapLaws.{all-insert}
 
 -- ---- an outbound flight
@@ -19,18 +19,11 @@ module _ (t : Tables) (f : FlightDate) (o : Outbound) (is : is_designator f.flig
       ∙ ap (λ (x : Outbound). cond (same_flight_date k f) (Some x) (flights_in t.flights k)) (outbound_again o)
 
   module _ (s : State) (text : List ℕ) (fits : is_flight_row (flight_key f, outbound_row o) ≡ true) (means : Means t (Some s)) where
-    -- a row that is added
     pub notes_flight : Means (with_flight (flight_key f) (outbound_row o) t) (Some (on_cargo (written text (NoteFlight f o)) s))
     notes_flight = (
       assumption (all-insert flight_cmp flight_total flight_same is_flight_row t.flights (flight_key f) (outbound_row o) means.0.flights fits, means),
       (λ i. record (meaning_of t) { cargo = record (meaning_of t).cargo { flights = λ k. flight_inserted k i } }) ∙ ap (on_cargo (written text (NoteFlight f o))) means.1,
     )
-
-    -- a row that is there
-    pub notes_flight_again : (was : Flight) → get t.flights (flight_key f) ≡ Some was → Means (changing_flight (flight_key f) (outbound_row o) t) (Some (on_cargo (written text (NoteFlight f o)) s))
-    notes_flight_again was has =
-        subst (λ (m : FinMap flight_cmp Flight). Means (record t { flights = m }) (Some (on_cargo (written text (NoteFlight f o)) s)))
-        (sym (adjusted t.flights (flight_key f) (outbound_row o) was has)) notes_flight
 
 -- ---- what a flight is to bring of a waybill
 
@@ -45,18 +38,11 @@ module _ (t : Tables) (f : FlightDate) (w : ℕ) (e : cargo.Expected) (is : is_d
       ∙ ap (λ (x : cargo.Expected). cond (same_flight_date k f && (q == w)) (Some x) (expected_in t.expected k q)) (expected_again e)
 
   module _ (s : State) (text : List ℕ) (fits : is_expected_row (expected_key f w, expected_row e) ≡ true) (means : Means t (Some s)) where
-    -- a row that is added
     pub expects : Means (with_expected (expected_key f w) (expected_row e) t) (Some (on_cargo (written text (Expect f w e)) s))
     expects = (
       assumption (all-insert expected_cmp expected_total expected_same is_expected_row t.expected (expected_key f w) (expected_row e) means.0.expected fits, means),
       (λ i. record (meaning_of t) { cargo = record (meaning_of t).cargo { expected = λ k q. expected_inserted k q i } }) ∙ ap (on_cargo (written text (Expect f w e))) means.1,
     )
-
-    -- a row that is there
-    pub expects_again : (was : Expected) → get t.expected (expected_key f w) ≡ Some was → Means (changing_expected (expected_key f w) (expected_row e) t) (Some (on_cargo (written text (Expect f w e)) s))
-    expects_again was has =
-        subst (λ (m : FinMap expected_cmp Expected). Means (record t { expected = m }) (Some (on_cargo (written text (Expect f w e)) s)))
-        (sym (adjusted t.expected (expected_key f w) (expected_row e) was has)) expects
 
 -- ---- a part of a manifest
 

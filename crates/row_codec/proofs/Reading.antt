@@ -1,37 +1,14 @@
 -- What was read of a row is what the state has.
-use Rattle.std.proofs.Common.{◌≡◌, ℕ, ℤ, pos, Bool, true, false, cond, Option, Some, None, option_map, is_some, List, [], ◌∷◌, int_eq, refl, sym, ap, ◌∙◌, true≢false}
-use Rattle.row_codec.proofs.Common.{FlightDate, Means, Part, State, Station, Tables, airport_in, confirmed_in, declared_by, expected_by, expected_key, expected_meant, flight_key, flight_meant, get, get_by, is_designator, is_station, kept_by, kept_meant, natural, outbound_by, part_key, station_id, waybill_id, waybill_meant}
+use Rattle.std.proofs.Common.{◌≡◌, ℕ, ℤ, pos, true, Option, Some, option_map, is_some, List, sym, ap, ◌∙◌}
+use Rattle.row_codec.proofs.Common.{FlightDate, Means, Part, State, Tables, declared_by, expected_by, expected_key, expected_meant, flight_key, flight_meant, get, get_by, is_designator, kept_by, kept_meant, natural, outbound_by, part_key, waybill_id, waybill_meant}
 use Rattle.station_rows.specs.declared.waybills.WaybillRow.{WaybillRow}
 use Rattle.station_rows.specs.declared.flights.FlightRow.{FlightRow}
 use Rattle.station_rows.specs.declared.expected.ExpectedRow.{ExpectedRow}
 use Rattle.station_rows.specs.declared.kept.KeptRow.{KeptRow}
-use Rattle.row_codec.proofs.Telling.{here_told, confirmed_told, declared_told, outbound_told, expected_told, part_told, kept_key_told, kept_text_told}
-
--- the one row of the station
-only_row : (rows : List Station) (row : Station) → is_station rows ≡ true → get_by station_id rows (pos 1) ≡ Some row → rows ≡ row ∷ []
-only_row [] row h has = absurd (true≢false (sym h))
-only_row (one ∷ []) row h has = go (int_eq one.id (pos 1)) has
-  where
-    go : (b : Bool) → cond b (Some one) None ≡ Some row → one ∷ [] ≡ row ∷ []
-    go true e = let same : one ≡ row = cc in ap (λ (r : Station). r ∷ []) same
-    go false e = cc
-only_row (one ∷ other ∷ rows) row h has = absurd (true≢false (sym h))
-
-pub twice : {X Y Z : Type 0} (f : Y → Z) (g : X → Y) (o : Option X) → option_map f (option_map g o) ≡ option_map (λ x. f (g x)) o
-twice f g None = refl
-twice f g (Some x) = refl
-
-same_some : {X Y : Type 0} (f : X → Y) (o : Option X) → is_some (option_map f o) ≡ is_some o
-same_some f None = refl
-same_some f (Some x) = refl
+use Rattle.row_codec.proofs.Tests.{same_some, twice}
+use Rattle.row_codec.proofs.Telling.{declared_told, outbound_told, expected_told, part_told, kept_key_told, kept_text_told}
 
 module _ (t : Tables) (s : State) (means : Means t (Some s)) where
-  pub airport_read : (row : Station) → get_by station_id t.stations (pos 1) ≡ Some row → row.airport ≡ s.cargo.here
-  airport_read row has = sym (ap airport_in (only_row t.stations row means.0.station has)) ∙ here_told t s means
-
-  pub mark_read : (row : Station) → get_by station_id t.stations (pos 1) ≡ Some row → natural row.confirmed ≡ s.cargo.confirmed
-  mark_read row has = sym (ap confirmed_in (only_row t.stations row means.0.station has)) ∙ confirmed_told t s means
-
   pub declared_read : (w : ℕ) (found : Option WaybillRow) → option_map waybill_meant found ≡ get_by waybill_id t.waybills (pos w)
       → option_map (λ (row : WaybillRow). declared_by (waybill_meant row)) found ≡ s.cargo.declared w
   declared_read w found is = sym (twice declared_by waybill_meant found) ∙ ap (option_map declared_by) is ∙ declared_told t s means w

@@ -1,5 +1,6 @@
 -- From the calls of a store to what was posted.
 use Rattle.std.proofs.Common.{◌≡◌, Bool, true, false, is_some, Ordering, Option, Some, None, Result, option_map, refl, sym, ap, ap₂, subst, ◌∙◌}
+use Rattle.row_codec.proofs.Tests.{same_some, twice}
 use Rattle.row_codec.proofs.Common.{Build, BuildKey, Displays, Err, FinMap, IfOk, IsShowing, Ok, OnOk, Reads, Seen, ShowsChange, Survives, Tables, Tally, View, adjust, come_to, get, insert, inside, remove, running_on, stored}
 
 pub survives_on : (old mid new : View) → Survives old mid → Survives mid new → Survives old new
@@ -28,13 +29,9 @@ come_told : {V : Type 0} (amount : V → Tally) (o : Option V) (by : Tally) → 
 come_told amount None by = refl
 come_told amount (Some v) by = refl
 
-some_told : {V : Type 0} (amount : V → Tally) (o : Option V) → is_some o ≡ is_some (option_map amount o)
-some_told amount None = refl
-some_told amount (Some v) = refl
-
 module _ {V : Type 0} (amount : V → Tally) (o : Option V) (t : Option Tally) (told : t ≡ option_map amount o) where
   same_there : is_some t ≡ is_some o
-  same_there = ap is_some told ∙ sym (some_told amount o)
+  same_there = ap is_some told ∙ same_some amount o
 
   same_sum : (by : Tally) → come_to (λ t. t) t by ≡ come_to amount o by
   same_sum by = ap (λ r. come_to (λ x. x) r by) told ∙ sym (come_told amount o by)
@@ -53,11 +50,7 @@ row_posted rows amount made storing mid new before now key by t sum there surviv
 
 -- a row that was read with its key
 pub tally_read : (key : BuildKey) (p : Option Build) (found : Option (BuildKey × Build)) (t : Option Tally) → found ≡ option_map (λ v. (key, v)) p → t ≡ option_map (λ (e : BuildKey × Build). running_on e.1) found → t ≡ option_map running_on p
-tally_read key p found t is told = told ∙ ap (option_map (λ (e : BuildKey × Build). running_on e.1)) is ∙ again p
-  where
-    again : (q : Option Build) → option_map (λ (e : BuildKey × Build). running_on e.1) (option_map (λ v. (key, v)) q) ≡ option_map running_on q
-    again None = refl
-    again (Some v) = refl
+tally_read key p found t is told = told ∙ ap (option_map (λ (e : BuildKey × Build). running_on e.1)) is ∙ twice (λ (e : BuildKey × Build). running_on e.1) (λ v. (key, v)) p
 
 answered : {X E A : Type 0} (r : Result X E) → A → OnOk r A
 answered (Ok x) a = a

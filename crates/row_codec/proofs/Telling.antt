@@ -1,14 +1,8 @@
 -- What the rows of tables say is what the state has that they mean.
 use Rattle.std.proofs.Common.{◌≡◌, ℕ, pos, true, Some, None, option_map, List, length, sym, ap, ◌∙◌}
-use Rattle.row_codec.proofs.Common.{FlightDate, Means, Message, Part, State, Tables, airport_in, book_in, cond-true, confirmed_in, declared_by, expected_by, expected_key, flight_key, get, get_by, holders_in, is_designator, kept_by, length-map, line_by, move_by, natural, outbound_by, outbox_in, part_key, trail_in, waybill_id}
+use Rattle.row_codec.proofs.Common.{FlightDate, Means, Part, State, Tables, book_in, cond-true, declared_by, expected_by, expected_key, flight_key, get, get_by, holders_in, is_designator, kept_by, length-map, move_by, natural, outbound_by, outbox_in, part_key, trail_in, waybill_id}
 
 module _ (t : Tables) (s : State) (means : Means t (Some s)) where
-  pub here_told : airport_in t.stations ≡ s.cargo.here
-  here_told = ap (λ (x : State). x.cargo.here) means.1
-
-  pub confirmed_told : confirmed_in t.stations ≡ s.cargo.confirmed
-  confirmed_told = ap (λ (x : State). x.cargo.confirmed) means.1
-
   pub declared_told : (w : ℕ) → option_map declared_by (get_by waybill_id t.waybills (pos w)) ≡ s.cargo.declared w
   declared_told w = ap (λ (x : State). x.cargo.declared w) means.1
 
@@ -43,9 +37,3 @@ module _ (t : Tables) (s : State) (means : Means t (Some s)) where
 
   pub moves_counted : length t.moves ≡ length s.cargo.book
   moves_counted = sym (length-map t.moves move_by) ∙ ap length book_told
-
-  pub lines_counted : length t.trail ≡ length s.cargo.trail
-  lines_counted = sym (length-map t.trail line_by) ∙ ap length trail_told
-
-  pub messages_counted : length t.outbox ≡ length s.cargo.outbox
-  messages_counted = sym (length-map t.outbox (λ (row : Message). row.body)) ∙ ap length outbox_told

@@ -1,22 +1,14 @@
 -- Small laws of tests, options and numbers.
-use Rattle.row_codec.proofs.Common.{Bool, None, Option, Some, arith, false, int_eq, ints, nat_tests, pos, refl, sym, true, ℕ, ℤ, ◌&&◌, ◌+ℤ◌, ◌-ℤ◌, ◌-◌, ◌==◌, ◌≡◌}
+use Rattle.row_codec.proofs.Common.{Bool, None, Option, Some, arith, false, int_eq, ints, is_some, nat_tests, option_map, pos, refl, true, ℕ, ℤ, ◌&&◌, ◌+ℤ◌, ◌-ℤ◌, ◌-◌, ◌==◌, ◌≡◌}
 
 pub same_bool : (a b : Bool) → (a ≡ true → b ≡ true) → (b ≡ true → a ≡ true) → a ≡ b
-same_bool true b f g = sym (f refl)
-same_bool false true f g = g refl
-same_bool false false f g = refl
+same_bool a b f g = grind (arith, f, g)
 
 pub is_false : (b : Bool) → (b ≡ true → false ≡ true) → b ≡ false
-is_false true f = sym (f refl)
-is_false false f = refl
-
-pub both_true : (a b : Bool) → a ≡ true → b ≡ true → (a && b) ≡ true
-both_true true b h k = k
-both_true false b h k = h
+is_false b f = grind (arith, f)
 
 pub and_no : (a : Bool) → (a && false) ≡ false
-and_no true = refl
-and_no false = refl
+and_no a = grind arith
 
 pub some_is : {X : Type 0} (x y : X) → ◌≡◌ {A = Option X} (Some x) (Some y) → x ≡ y
 some_is x y h = cc
@@ -45,8 +37,10 @@ left x y n h = omega (arith, ints)
 pub left_over : (x y n : ℕ) → pos 0 -ℤ (pos x -ℤ pos y) ≡ pos n → n ≡ y - x
 left_over x y n h = omega (arith, ints)
 
-pub nothing_left : (x y : ℕ) → pos x -ℤ pos y ≡ pos 0 → 0 ≡ x - y
-nothing_left x y h = omega (arith, ints)
+pub twice : {X Y Z : Type 0} (f : Y → Z) (g : X → Y) (o : Option X) → option_map f (option_map g o) ≡ option_map (λ x. f (g x)) o
+twice f g None = refl
+twice f g (Some x) = refl
 
-pub nothing_over : (x y : ℕ) → pos x -ℤ pos y ≡ pos 0 → 0 ≡ y - x
-nothing_over x y h = omega (arith, ints)
+pub same_some : {X Y : Type 0} (f : X → Y) (o : Option X) → is_some (option_map f o) ≡ is_some o
+same_some f None = refl
+same_some f (Some x) = refl

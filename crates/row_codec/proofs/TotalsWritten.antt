@@ -1,9 +1,10 @@
 -- What is built on a flight, by the flight's written form.
 use Rattle.std.proofs.Common.{◌≡◌, ℕ, ℤ, pos, negsuc, ◌==◌, Bool, true, false, cond, ◌&&◌, List, Option, Some, None, option_map, refl, sym, ap, ap₂, ◌∙◌, true≢false, arith, int_eq, int_cmp, is_eq}
-use Rattle.row_codec.proofs.Common.{BuildKey, Built, Designator, FlightDate, IsTrue, Place, Sums, Tally, build_cmp, build_here, build_in, build_row, bytes_cmp, bytes_eq, bytes_eq-true, eq_by_cmp, first_true, flight_of, flight_text, int_tied, is_built, is_designator, is_written, nat_tests, one_by_fields, pair_cmp, pair_eq, plus, posting, same_flight, same_of_one, same_place, second_true, texts_same, texts_total, tied_itself, unless_nothing, written_flight}
+use Rattle.row_codec.proofs.Common.{BuildKey, Built, Designator, FlightDate, IsTrue, Place, Sums, Tally, build_cmp, build_here, build_in, build_row, bytes_cmp, bytes_eq, bytes_eq-true, eq_by_cmp, flight_of, flight_text, int_tied, is_built, is_designator, is_written, nat_tests, one_by_fields, pair_cmp, pair_eq, plus, posting, same_flight, same_of_one, same_place, texts_same, texts_total, tied_itself, unless_nothing, written_flight}
+use Rattle.row_codec.proofs.Codes.{row_after}
 use Rattle.row_codec.proofs.FlightKeys.{read_again, written_reads}
 use Rattle.row_codec.proofs.MapLaws.{is_tied}
-use Rattle.row_codec.proofs.Tests.{same_bool, is_false, and_no, some_is, none_is, int_pos, is_nat}
+use Rattle.row_codec.proofs.Tests.{same_bool, is_false, and_no, some_is, none_is, int_pos}
 
 -- a designator as it is written is read as itself
 pub written_again : (f : Designator) → IsTrue (is_designator f) → written_flight (flight_text f) ≡ Some f
@@ -32,34 +33,14 @@ build_eq text t day d w a = pair_eq bytes_cmp (pair_cmp int_cmp int_cmp) (text, 
     ∙ ap (λ b. eq_by_cmp bytes_cmp text t && b) (pair_eq int_cmp int_cmp (day, w) (d, a) ∙ ap₂ ◌&&◌ (int_tied day d) (int_tied w a))
 
 turned : (s d w : Bool) → (s && (d && w)) ≡ (w && (s && d))
-turned true true true = refl
-turned true true false = refl
-turned true false true = refl
-turned true false false = refl
-turned false d true = refl
-turned false d false = refl
+turned s d w = grind arith
 
 nat_turned : (a b : ℕ) → (a == b) ≡ (b == a)
 nat_turned a b = grind (arith, nat_tests)
 
-no_more : (s d : Bool) → (s && (d && false)) ≡ false
-no_more true true = refl
-no_more _ _ = refl
-
 module _ (sums : Sums) (a : ℕ) (f : FlightDate) (by : Tally) (designator : IsTrue (is_designator f.flight)) where
   pub at_key : build_in sums (flight_text f.flight, (pos f.day, pos a)) ≡ option_map build_row (unless_nothing (sums a (Built f)))
   at_key = ap (build_here sums f.day a) (written_again f.flight designator)
-
-  where_same : (w day : ℕ) (d : Designator) (b : Bool) → ((a == w) && (same_flight d f.flight && (day == f.day))) ≡ b
-      → option_map build_row (unless_nothing (cond b (plus (sums w (Built (record { flight = d; day = day }))) by) (sums w (Built (record { flight = d; day = day })))))
-      ≡ cond b (option_map build_row (unless_nothing (plus (sums a (Built f)) by))) (option_map build_row (unless_nothing (sums w (Built (record { flight = d; day = day })))))
-  where_same w day d true e =
-      let waybill : a ≡ w = is_nat a w (first_true (a == w) (same_flight d f.flight && (day == f.day)) e) in
-      let place : (same_flight d f.flight && (day == f.day)) ≡ true = second_true (a == w) (same_flight d f.flight && (day == f.day)) e in
-      let flight : d ≡ f.flight = one_by_fields d f.flight (first_true (same_flight d f.flight) (day == f.day) place) in
-      let on : day ≡ f.day = is_nat day f.day (second_true (same_flight d f.flight) (day == f.day) place) in
-      λ i. option_map build_row (unless_nothing (plus (sums (sym waybill i) (Built (record { flight = flight i; day = on i }))) by))
-  where_same w day d false e = refl
 
   same_text : (text : List ℕ) (d : Designator) → written_flight text ≡ Some d → eq_by_cmp bytes_cmp text (flight_text f.flight) ≡ same_flight d f.flight
   same_text text d e = same_bool _ _
@@ -81,15 +62,13 @@ module _ (sums : Sums) (a : ℕ) (f : FlightDate) (by : Tally) (designator : IsT
           → build_here (posting a (Built f) by sums) day w o ≡ cond (eq_by_cmp build_cmp (text, (pos day, pos w)) (flight_text f.flight, (pos f.day, pos a))) (option_map build_row (unless_nothing (plus (sums a (Built f)) by))) (build_here sums day w o)
       go None e = ap (λ b. cond b (option_map build_row (unless_nothing (plus (sums a (Built f)) by))) None) (sym (eq ∙ ap (λ b. b && ((f.day == day) && (a == w))) (no_text text e)))
       go (Some d) e =
-          where_same w day d ((a == w) && (same_flight d f.flight && (day == f.day))) refl
+          row_after build_row sums a (Built f) by w (Built (record { flight = d; day = day }))
           ∙ ap (λ b. cond b (option_map build_row (unless_nothing (plus (sums a (Built f)) by))) (option_map build_row (unless_nothing (sums w (Built (record { flight = d; day = day }))))))
           (sym (eq ∙ ap₂ (λ s t. s && (t && (a == w))) (same_text text d e) (nat_turned f.day day) ∙ turned (same_flight d f.flight) (day == f.day) (a == w)))
   after (text, (pos day, negsuc n)) = ap (λ b. cond b (option_map build_row (unless_nothing (plus (sums a (Built f)) by))) None)
-      (sym (build_eq text (flight_text f.flight) (pos day) (pos f.day) (negsuc n) (pos a) ∙ no_more (eq_by_cmp bytes_cmp text (flight_text f.flight)) (int_eq (pos day) (pos f.day))))
-  after (text, (negsuc n, pos w)) = ap (λ b. cond b (option_map build_row (unless_nothing (plus (sums a (Built f)) by))) None)
-      (sym (build_eq text (flight_text f.flight) (negsuc n) (pos f.day) (pos w) (pos a) ∙ and_no (eq_by_cmp bytes_cmp text (flight_text f.flight))))
-  after (text, (negsuc n, negsuc k)) = ap (λ b. cond b (option_map build_row (unless_nothing (plus (sums a (Built f)) by))) None)
-      (sym (build_eq text (flight_text f.flight) (negsuc n) (pos f.day) (negsuc k) (pos a) ∙ and_no (eq_by_cmp bytes_cmp text (flight_text f.flight))))
+      (sym (build_eq text (flight_text f.flight) (pos day) (pos f.day) (negsuc n) (pos a) ∙ ap (λ b. eq_by_cmp bytes_cmp text (flight_text f.flight) && b) (and_no _) ∙ and_no _))
+  after (text, (negsuc n, w)) = ap (λ b. cond b (option_map build_row (unless_nothing (plus (sums a (Built f)) by))) None)
+      (sym (build_eq text (flight_text f.flight) (negsuc n) (pos f.day) w (pos a) ∙ and_no _))
 
 pub off : (g : FlightDate) (p : Place) → is_built p ≡ false → same_place (Built g) p ≡ false
 off g (Built f) h = absurd (true≢false h)
@@ -104,5 +83,4 @@ builds_stay sums a place by plain (text, (pos day, pos w)) = go (written_flight 
     go (Some d) = ap (λ b. option_map build_row (unless_nothing (cond b (plus (sums w (Built (record { flight = d; day = day }))) by) (sums w (Built (record { flight = d; day = day }))))))
         (ap (λ b. (a == w) && b) (off (record { flight = d; day = day }) place plain) ∙ and_no (a == w))
 builds_stay sums a place by plain (text, (pos day, negsuc n)) = refl
-builds_stay sums a place by plain (text, (negsuc n, pos w)) = refl
-builds_stay sums a place by plain (text, (negsuc n, negsuc k)) = refl
+builds_stay sums a place by plain (text, (negsuc n, w)) = refl

@@ -1,14 +1,6 @@
 -- Running counts: the sums of a waybill's moves at each place, in the rows of `counts` and `build`.
 use Rattle.std.specs.Prelude.{◌≡◌, ℕ, pos, negsuc, Bool, ◌&&◌, if◌then◌else◌, Option, Some, None, List}
-use Rattle.std.specs.Option.{option_map}
-use Rattle.std.specs.Ordering.{int_eq}
-use Rattle.std.specs.FinMap.{FinMap, get}
-use Rattle.imp_fields.specs.Flight.{Designator, flight_of}
-use Rattle.shipment_machine.specs.Book.{balance, pieces_of, tenths_of, same_place}
-use Rattle.shipment_machine.specs.declared.moves.Move.{Move}
-use Rattle.shipment_machine.specs.declared.moves.Place.{Place}
-use Rattle.shipment_machine.specs.declared.moves.Place.TheVariants.{Built}
-use Rattle.station_schema.specs.Tables.{Count, CountKey, count_cmp, Build, BuildKey, build_cmp}
+use Rattle.row_codec.specs.Common.{option_map, int_eq, FinMap, get, Designator, flight_of, balance, pieces_of, tenths_of, same_place, Move, Place, Built, Count, CountKey, count_cmp, Build, BuildKey, build_cmp}
 use Rattle.row_codec.specs.Flights.{is_flight_text}
 use Rattle.row_codec.specs.Moves.{plain_place}
 use Rattle.row_codec.specs.declared.tally.Tally.{Tally}

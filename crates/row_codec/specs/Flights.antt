@@ -1,15 +1,6 @@
 -- Outbound flights in the rows of `flight`. A flight is stored in its written form.
 use Rattle.std.specs.Prelude.{ℕ, ℤ, pos, Bool, true, false, ◌&&◌, nat_le, if◌then◌else◌, Option, Some, None, List}
-use Rattle.std.specs.Option.{option_map}
-use Rattle.std.specs.Str.{bytes_eq}
-use Rattle.std.specs.FinMap.{FinMap, get}
-use Rattle.awb_number.specs.Digits.{is_letter}
-use Rattle.imp_fields.specs.Airport.{is_airport}
-use Rattle.imp_fields.specs.Flight.{Designator, is_carrier, flight_of, flight_text, most_flight_number}
-use Rattle.shipment_machine.specs.declared.flight.FlightDate.{FlightDate}
-use Rattle.shipment_machine.specs.declared.moves.Outbound.{Outbound}
-use Rattle.station_core.specs.declared.rows.NotedFlight.{NotedFlight}
-use Rattle.station_schema.specs.Tables.{Flight, FlightKey, flight_cmp}
+use Rattle.row_codec.specs.Common.{option_map, bytes_eq, FinMap, get, is_letter, is_airport, Designator, is_carrier, flight_of, flight_text, most_flight_number, FlightDate, Outbound, NotedFlight, Flight, FlightKey, flight_cmp}
 use Rattle.row_codec.specs.Numbers.{natural, is_day, flag, is_set, is_flag}
 
 abbrev is_letter_or_none : Option ℕ → Bool

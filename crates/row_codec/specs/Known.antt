@@ -1,11 +1,8 @@
 -- Sums that are kept in memory beside the rows.
 use Rattle.std.specs.Prelude.{◌≡◌, ℕ, if◌then◌else◌, Option, Some, None, IfSome}
 use Rattle.std.specs.BTreeMap.{get}
-use Rattle.std.specs.Option.{option_map}
-use Rattle.std.specs.Ordering.{nat_cmp}
+use Rattle.row_codec.specs.Common.{option_map, nat_cmp, Place, Hand, Surplus, Free, Built, Departed, Delivered, Missing, Transferred}
 use Rattle.shipment_machine.specs.Places.{same_place}
-use Rattle.shipment_machine.specs.declared.moves.Place.{Place}
-use Rattle.shipment_machine.specs.declared.moves.Place.TheVariants.{Hand, Surplus, Free, Built, Departed, Delivered, Missing, Transferred}
 use Rattle.row_codec.specs.Counts.{unless_nothing, Sums}
 use Rattle.row_codec.specs.declared.tally.Tally.{Tally}
 use Rattle.row_codec.specs.declared.known.LoadSums.{LoadSums}

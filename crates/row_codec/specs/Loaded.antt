@@ -1,9 +1,8 @@
 -- What the rows of a flight say.
 use Rattle.std.specs.Prelude.{ℤ, pos, int_lt, Bool}
-use Rattle.station_schema.specs.Tables.{Build, BuildKey}
+use Rattle.row_codec.specs.Common.{Build, BuildKey, Load}
 use Rattle.row_codec.specs.Counts.{running_on}
 use Rattle.row_codec.specs.declared.tally.Tally.{Tally}
-use Rattle.station_core.specs.declared.stored.Load.{Load}
 
 -- a waybill and its amount
 abbrev pub load_said : Load → ℤ × Tally

@@ -1,10 +1,6 @@
 -- The lines of status messages and the messages sent, by the rows of `trail` and `outbox`.
 use Rattle.std.specs.Prelude.{ℕ, pos, Bool, ◌&&◌, List, map}
-use Rattle.std.specs.Str.{is_utf8}
-use Rattle.imp_fields.specs.Characters.{is_line}
-use Rattle.station_core.specs.Readers.{trail_row}
-use Rattle.station_core.specs.declared.rows.TrailRow.{TrailRow}
-use Rattle.station_schema.specs.Tables.{TrailLine, Message}
+use Rattle.row_codec.specs.Common.{is_utf8, is_line, trail_row, TrailRow, TrailLine, Message}
 use Rattle.row_codec.specs.Numbers.{natural, is_number}
 
 abbrev pub line_by : TrailLine → ℕ × List ℕ

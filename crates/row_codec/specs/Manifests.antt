@@ -1,18 +1,9 @@
 -- Expectations and parts in the rows of `expected` and `part`.
 use Rattle.std.specs.Prelude.{ℕ, pos, Bool, ◌&&◌, if◌then◌else◌, Option, None, List}
-use Rattle.std.specs.Option.{option_map}
-use Rattle.std.specs.Str.{is_utf8}
-use Rattle.std.specs.FinMap.{FinMap, get}
-use Rattle.imp_fields.specs.Airport.{is_airport}
-use Rattle.imp_fields.specs.Flight.{flight_text}
-use Rattle.shipment_machine.specs.declared.flight.FlightDate.{FlightDate}
-use Rattle.shipment_machine.specs.declared.moves.Part.{Part}
+use Rattle.row_codec.specs.Common.{option_map, is_utf8, FinMap, get, is_airport, flight_text, FlightDate, Part, Expectation, Expected, ExpectedKey, expected_cmp, PartKey, part_cmp, most_pieces, most_parts, most_tenths}
 use Rattle.shipment_machine.specs.declared.moves.Expected as cargo
-use Rattle.station_core.specs.declared.rows.Expectation.{Expectation}
-use Rattle.station_schema.specs.Tables.{Expected, ExpectedKey, expected_cmp, PartKey, part_cmp}
 use Rattle.row_codec.specs.Numbers.{natural, is_within, is_number, is_day, flag, is_set, is_flag}
 use Rattle.row_codec.specs.Flights.{flight_date_of, is_designator, is_flight_text}
-use Rattle.imp_fields.specs.Amount.{most_pieces, most_parts, most_tenths}
 
 abbrev pub expected_key : FlightDate → ℕ → ExpectedKey
 expected_key f w = (flight_text f.flight, (pos f.day, pos w))

@@ -1,11 +1,6 @@
 -- The state in the tables of a station.
 use Rattle.std.specs.Prelude.{◌≡◌, ℕ, pos, Bool, false, ◌&&◌, IsTrue, List, [], ◌∷◌, Option, Some, None}
-use Rattle.std.specs.List.{list_all}
-use Rattle.std.specs.Ordering.{int_eq}
-use Rattle.std.specs.FinMap.{entries}
-use Rattle.imp_fields.specs.Airport.{is_airport}
-use Rattle.station_core.specs.Step.{State}
-use Rattle.station_schema.specs.Tables.{Tables, Station, move_id, trail_id, message_id}
+use Rattle.row_codec.specs.Common.{list_all, int_eq, entries, is_airport, State, Tables, Station, move_id, trail_id, message_id}
 use Rattle.row_codec.specs.Numbers.{natural, is_count, AreNumbered}
 use Rattle.row_codec.specs.Waybills.{declared_in, is_waybill_row}
 use Rattle.row_codec.specs.Stock.{holders_in, AreStockRows}

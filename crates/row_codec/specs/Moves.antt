@@ -1,18 +1,9 @@
 -- The movement book in the rows of `moves`.
 use Rattle.std.specs.Prelude.{ℕ, ℤ, pos, ◌==◌, Bool, ◌&&◌, ◌||◌, if◌then◌else◌, is_some, Option, Some, None, List, [], map, length}
-use Rattle.std.specs.Option.{option_map, unwrap_or}
-use Rattle.std.specs.Ordering.{int_eq}
-use Rattle.imp_fields.specs.Flight.{flight_text}
-use Rattle.shipment_machine.specs.declared.flight.FlightDate.{FlightDate}
-use Rattle.shipment_machine.specs.declared.moves.Move.{Move}
-use Rattle.shipment_machine.specs.declared.moves.Place.{Place}
-use Rattle.shipment_machine.specs.declared.moves.Place.TheVariants.{Hand, Surplus, Free, Built, Departed, Delivered, Missing, Transferred}
-use Rattle.station_core.specs.Readers.{book_row}
-use Rattle.station_core.specs.declared.rows.BookRow.{BookRow}
+use Rattle.row_codec.specs.Common.{option_map, unwrap_or, int_eq, flight_text, FlightDate, Move, Place, Hand, Surplus, Free, Built, Departed, Delivered, Missing, Transferred, book_row, BookRow, most_pieces, most_tenths}
 use Rattle.station_schema.specs.Tables as table
 use Rattle.row_codec.specs.Numbers.{natural, is_within, is_number, is_day}
 use Rattle.row_codec.specs.Flights.{is_flight_text, flight_date_of}
-use Rattle.imp_fields.specs.Amount.{most_pieces, most_tenths}
 
 abbrev pub place_code : Place → ℕ
 place_code Hand = 0

@@ -1,10 +1,6 @@
 -- Whole numbers in rows.
 use Rattle.std.specs.Prelude.{◌≡◌, ℕ, ◌-◌, ℤ, pos, negsuc, int_le, Bool, ◌&&◌, ◌||◌, if◌then◌else◌, List, map, length}
-use Rattle.std.specs.List.{range_with_len}
-use Rattle.std.specs.Ordering.{int_eq}
-use Rattle.awb_number.specs.Number.{key_of, serials}
-use Rattle.station_core.specs.Step.{most_rows}
-use Rattle.station_days.specs.Date.{first_moment_day, last_moment_day}
+use Rattle.row_codec.specs.Common.{range_with_len, int_eq, key_of, serials, most_rows, first_moment_day, last_moment_day}
 
 abbrev pub natural : ℤ → ℕ
 natural (pos n) = n

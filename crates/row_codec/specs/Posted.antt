@@ -1,10 +1,6 @@
 -- Tables whose running counts have moved on.
 use Rattle.std.specs.Prelude.{◌≡◌, ℤ, false, List}
-use Rattle.std.specs.FinMap.{FinMap, get}
-use Rattle.shipment_machine.specs.Book.{balance, pieces_of, same_place}
-use Rattle.shipment_machine.specs.declared.moves.Move.{Move}
-use Rattle.station_schema.specs.Store.{View, inside, IsShowing}
-use Rattle.station_schema.specs.Tables.{Tables, Count, CountKey, count_cmp, Build, BuildKey, build_cmp}
+use Rattle.row_codec.specs.Common.{FinMap, get, balance, pieces_of, same_place, Move, View, inside, IsShowing, Tables, Count, CountKey, count_cmp, Build, BuildKey, build_cmp}
 use Rattle.row_codec.specs.Counts.{Sums, count_in, build_in, running}
 
 -- in a transaction a store shows these tables, but with running counts that are these sums

@@ -1,13 +1,6 @@
 -- Queries of tables for queries of a station.
 use Rattle.std.specs.Prelude.{◌≡◌, ℕ, Some, length, map}
-use Rattle.station_core.specs.Step.{State}
-use Rattle.station_core.specs.Readers.{book_by, trail_by}
-use Rattle.station_core.specs.declared.rows.BookQuery.{BookQuery}
-use Rattle.station_core.specs.declared.rows.TrailQuery.{TrailQuery}
-use Rattle.station_rows.specs.Meant.{moves_for, lines_for}
-use Rattle.station_rows.specs.declared.moves.MoveQuery.{MoveQuery}
-use Rattle.station_rows.specs.declared.trail.LineQuery.{LineQuery}
-use Rattle.station_schema.specs.Tables.{Tables}
+use Rattle.row_codec.specs.Common.{State, book_by, trail_by, BookQuery, TrailQuery, moves_for, lines_for, MoveQuery, LineQuery, Tables}
 use Rattle.row_codec.specs.Meaning.{Means}
 use Rattle.row_codec.specs.Moves.{book_row_by}
 use Rattle.row_codec.specs.Logs.{trail_row_by}

@@ -1,12 +1,7 @@
 -- Accepted inputs in the rows of `kept_key` and `kept_text`.
 use Rattle.std.specs.Prelude.{◌≡◌, ℕ, ℤ, pos, Bool, ◌&&◌, Option, Some, List}
-use Rattle.std.specs.Option.{option_map}
-use Rattle.std.specs.Str.{is_utf8}
-use Rattle.std.specs.FinMap.{FinMap, get}
-use Rattle.station_core.specs.Key.{is_key}
+use Rattle.row_codec.specs.Common.{option_map, is_utf8, FinMap, get, is_key, IsRequest, Kept, kept_cmp, kept_text_cmp}
 use Rattle.station_core.specs.Step as step
-use Rattle.station_core.specs.Told.{IsRequest}
-use Rattle.station_schema.specs.Tables.{Kept, kept_cmp, kept_text_cmp}
 use Rattle.row_codec.specs.Numbers.{natural, is_count}
 
 -- the entry under a key

@@ -1,16 +1,7 @@
 -- Holders of numbers in the rows of `stock`.
 use Rattle.std.specs.Prelude.{ℕ, ℤ, pos, ◌+◌, ◌-◌, ◌*◌, int_le, int_lt, ◌==◌, Bool, true, ◌&&◌, ◌||◌, IsTrue, if◌then◌else◌, is_some, Option, Some, None, List, [], ◌∷◌, length}
-use Rattle.std.specs.Option.{option_and_then}
-use Rattle.std.specs.Ordering.{int_eq}
-use Rattle.std.specs.List.{find, list_all}
-use Rattle.std.specs.FinMap.{FinMap, entries}
-use Rattle.awb_number.specs.Number.{prefix_of, serial_of, serials}
-use Rattle.agent_stock.specs.Code.{is_agent_code}
-use Rattle.agent_stock.specs.Stock.{Holders}
-use Rattle.agent_stock.specs.declared.stock.Holder.{Holder}
+use Rattle.row_codec.specs.Common.{option_and_then, int_eq, find, list_all, FinMap, entries, prefix_of, serial_of, serials, is_agent_code, Holders, Holder, StockRun, Stock, StockKey, stock_cmp}
 use Rattle.agent_stock.specs.declared.stock.Holder.TheVariants as holder
-use Rattle.agent_stock.specs.declared.runs.StockRun.{StockRun}
-use Rattle.station_schema.specs.Tables.{Stock, StockKey, stock_cmp}
 use Rattle.row_codec.specs.Numbers.{natural, is_within}
 
 -- 0 is the desk, 2 used, 3 void

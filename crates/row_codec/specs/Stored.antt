@@ -1,9 +1,6 @@
 -- A row that is written, or removed where nothing is left.
 use Rattle.std.specs.Prelude.{ℤ, pos, Bool, if◌then◌else◌, is_some, Option, Some, None}
-use Rattle.std.specs.declared.cmp.Ordering.{Ordering}
-use Rattle.std.specs.FinMap.{FinMap, get, insert, remove}
-use Rattle.station_schema.specs.ColumnKeys.{adjust}
-use Rattle.station_schema.specs.Tables.{Tables, Count, CountKey, Build, BuildKey}
+use Rattle.row_codec.specs.Common.{Ordering, FinMap, get, insert, remove, adjust, Tables, Count, CountKey, Build, BuildKey}
 use Rattle.row_codec.specs.Counts.{is_nothing, running_in, running_on, count_row, build_row}
 use Rattle.row_codec.specs.Sums.{plus}
 use Rattle.row_codec.specs.declared.tally.Tally.{Tally}

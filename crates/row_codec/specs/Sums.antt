@@ -1,10 +1,6 @@
 -- Sums of each waybill at each place, and what moves make of them.
 use Rattle.std.specs.Prelude.{ℕ, pos, ◌+ℤ◌, neg_ℤ, ◌==◌, Bool, true, false, ◌&&◌, if◌then◌else◌, FitsSigned}
-use Rattle.std.specs.Int.{w64}
-use Rattle.shipment_machine.specs.Book.{same_place}
-use Rattle.shipment_machine.specs.declared.moves.Move.{Move}
-use Rattle.shipment_machine.specs.declared.moves.Place.{Place}
-use Rattle.shipment_machine.specs.declared.moves.Place.TheVariants.{Built}
+use Rattle.row_codec.specs.Common.{w64, same_place, Move, Place, Built}
 use Rattle.row_codec.specs.Counts.{Sums}
 use Rattle.row_codec.specs.declared.tally.Tally.{Tally}
 

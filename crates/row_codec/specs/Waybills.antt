@@ -1,14 +1,7 @@
 -- Declarations in the rows of `waybill2`.
 use Rattle.std.specs.Prelude.{ℕ, ℤ, zero, suc, pos, negsuc, Bool, ◌&&◌, ◌||◌, if◌then◌else◌, Option, Some, None, List}
-use Rattle.std.specs.Ordering.{int_eq}
-use Rattle.std.specs.Option.{option_map}
-use Rattle.sqlite_keyed.specs.Keyed.{get_by}
-use Rattle.imp_fields.specs.Airport.{is_airport}
-use Rattle.imp_fields.specs.Name.{is_goods}
-use Rattle.shipment_machine.specs.declared.moves.Declared.{Declared}
-use Rattle.station_schema.specs.Tables.{Waybill, waybill_id}
+use Rattle.row_codec.specs.Common.{int_eq, option_map, get_by, is_airport, is_goods, Declared, Waybill, waybill_id, most_pieces, most_tenths}
 use Rattle.row_codec.specs.Numbers.{natural, is_within, is_number, is_day, flag, is_set, is_flag}
-use Rattle.imp_fields.specs.Amount.{most_pieces, most_tenths}
 
 -- the day of a declaration, if recorded
 abbrev pub since_of : ℤ → Option ℕ

@@ -1,11 +1,5 @@
 ghost use Rattle.std.specs.Prelude.{◌≡◌, List, Option, option_map, IfOk, IfSome, OnErr, OnOk};
-ghost use Rattle.std.specs.FinMap.{get};
-ghost use Rattle.shipment_machine.specs.Book.{built};
-ghost use Rattle.shipment_machine.specs.declared.moves.Place.TheVariants.{Built};
-ghost use Rattle.station_schema.specs.Store.{Seen, Survives, IsShowing, inside};
-ghost use Rattle.station_schema.specs.Tables.{Tables};
-ghost use Rattle.station_rows.specs.Meant.{build_meant};
-ghost use Rattle.station_rows.specs.Clauses.{Reads, ShowsChange, ShowsStill};
+ghost use Rattle.row_codec.specs.Common.{get, built, Built, Seen, Survives, IsShowing, inside, Tables, build_meant, Reads, ShowsChange, ShowsStill};
 ghost use Rattle.row_codec.specs.Counts.{AreBuilds, build_row, running, running_on};
 ghost use Rattle.row_codec.specs.Known.{AreKnown, IsRowOf};
 ghost use Rattle.row_codec.specs.Stored.{pieces_found, storing_build, posting_build};

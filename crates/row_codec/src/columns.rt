@@ -1,9 +1,7 @@
 //! Reading the columns of a row. The result is `None` if the value is out of range.
 ghost use Rattle.std.specs.Prelude.{◌≡◌, pos, is_some, IfSome};
-ghost use Rattle.imp_fields.specs.Airport.{is_airport};
-ghost use Rattle.imp_fields.specs.Name.{is_goods};
+ghost use Rattle.row_codec.specs.Common.{is_airport, is_goods, most_tenths, most_pieces, most_parts};
 ghost use Rattle.row_codec.specs.Numbers.{natural, is_within, is_number, is_count, is_day, is_set, is_flag};
-ghost use Rattle.imp_fields.specs.Amount.{most_tenths, most_pieces, most_parts};
 
 use awb_number::Awb;
 use imp_fields::{Airport, BookTenths, Goods, PartNumber, Pieces};

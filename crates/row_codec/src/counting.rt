@@ -1,12 +1,5 @@
 ghost use Rattle.std.specs.Prelude.{◌≡◌, ℕ, ℤ, pos, false, List, Option, map, filter, option_map, option_copied, IfOk, IfSome, OnErr, OnOk};
-ghost use Rattle.std.specs.FinMap.{FinMap, entries, get};
-ghost use Rattle.std.specs.List.{find};
-ghost use Rattle.std.specs.Ordering.{int_eq};
-ghost use Rattle.shipment_machine.specs.Book.{balances_of, drawn, held, same_place};
-ghost use Rattle.station_schema.specs.Store.{Seen, Survives, IsShowing, inside};
-ghost use Rattle.station_schema.specs.Tables.{Count, Tables, count_cmp};
-ghost use Rattle.station_rows.specs.Meant.{count_meant, counts_for};
-ghost use Rattle.station_rows.specs.Clauses.{Reads, ShowsChange, ShowsStill};
+ghost use Rattle.row_codec.specs.Common.{FinMap, entries, get, find, int_eq, balances_of, drawn, held, same_place, Seen, Survives, IsShowing, inside, Count, Tables, count_cmp, count_meant, counts_for, Reads, ShowsChange, ShowsStill};
 ghost use Rattle.row_codec.specs.Counts.{AreCounts, count_row, running, running_in};
 ghost use Rattle.row_codec.specs.Known.{AreKnown, AreSumsOf, IsRowOf};
 ghost use Rattle.row_codec.specs.Sums.{is_built};

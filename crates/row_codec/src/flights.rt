@@ -1,9 +1,5 @@
 ghost use Rattle.std.specs.Prelude.{◌≡◌, ◌&&◌, pos, is_some, IsTrue, IfSome, IfOk, Some, string_bytes};
-ghost use Rattle.std.specs.Str.{bytes_eq};
-ghost use Rattle.imp_fields.specs.Airport.{is_airport};
-ghost use Rattle.imp_fields.specs.Flight.{flight_of, flight_text};
-ghost use Rattle.station_rows.specs.Meant.{flight_meant, noted_flight_meant};
-ghost use Rattle.station_schema.specs.Tables.{FlightKey};
+ghost use Rattle.row_codec.specs.Common.{bytes_eq, is_airport, flight_of, flight_text, flight_meant, noted_flight_meant, FlightKey};
 ghost use Rattle.row_codec.specs.Numbers.{is_number, is_day, is_flag};
 ghost use Rattle.row_codec.specs.Flights.{is_designator, is_flight_text, flight_date_of, is_flight_key, noted_by, outbound_by, outbound_row, is_flight_row};
 

@@ -1,8 +1,6 @@
 //! Sums of waybills that are known, since they were read or written a moment before.
 ghost use Rattle.std.specs.Prelude.{◌≡◌, ℕ, Some, IfSome, IfOk};
-ghost use Rattle.std.specs.BTreeMap.{Updates};
-ghost use Rattle.std.specs.Ordering.{nat_cmp};
-ghost use Rattle.shipment_machine.specs.declared.moves.Place.TheVariants.{Built};
+ghost use Rattle.row_codec.specs.Common.{Updates, nat_cmp, Built};
 ghost use Rattle.row_codec.specs.Counts.{unless_nothing, Sums};
 ghost use Rattle.row_codec.specs.Known.{AreKnown, AreSumsOf, AreSumsOn, sum_at, sum_on, with_sum};
 ghost use Rattle.row_codec.specs.Sums.{posting};

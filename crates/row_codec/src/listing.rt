@@ -1,12 +1,5 @@
 ghost use Rattle.std.specs.Prelude.{◌≡◌, ◌≤◌, ◌∷◌, ◌++◌, [], pos, length, List, map, filter, IfOk, OnOk};
-ghost use Rattle.std.specs.FinMap.{FinMap, entries};
-ghost use Rattle.std.specs.List.{prefix_len};
-ghost use Rattle.std.specs.Ordering.{int_eq};
-ghost use Rattle.shipment_machine.specs.Book.{balances_of};
-ghost use Rattle.station_core.specs.Told.{AreAllBalances};
-ghost use Rattle.station_schema.specs.Tables.{Count, count_cmp};
-ghost use Rattle.station_rows.specs.Meant.{count_meant, counts_for};
-ghost use Rattle.station_rows.specs.Clauses.{Reads};
+ghost use Rattle.row_codec.specs.Common.{FinMap, entries, prefix_len, int_eq, balances_of, AreAllBalances, Count, count_cmp, count_meant, counts_for, Reads};
 ghost use Rattle.row_codec.specs.Counts.{AreCounts};
 
 use crate::columns::awb_by;

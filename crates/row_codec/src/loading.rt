@@ -1,9 +1,5 @@
 ghost use Rattle.std.specs.Prelude.{◌≡◌, ◌∷◌, ◌++◌, [], pos, int_lt, length, All, List, map, filter, IfOk, IfSome, OnErr, OnOk};
-ghost use Rattle.shipment_machine.specs.Book.{waybills_on};
-ghost use Rattle.shipment_machine.specs.declared.moves.Place.TheVariants.{Built};
-ghost use Rattle.station_core.specs.Told.{loads_on};
-ghost use Rattle.station_rows.specs.Meant.{build_meant};
-ghost use Rattle.station_rows.specs.Clauses.{Reads};
+ghost use Rattle.row_codec.specs.Common.{waybills_on, Built, loads_on, build_meant, Reads};
 ghost use Rattle.row_codec.specs.Counts.{AreBuilds, running, Sums};
 ghost use Rattle.row_codec.specs.Known.{AreKnown, AreSumsOn};
 ghost use Rattle.row_codec.specs.Loaded.{load_said, row_said, is_loaded};

@@ -1,8 +1,5 @@
 ghost use Rattle.std.specs.Prelude.{◌≡◌, ◌&&◌, is_some, IsTrue, IfSome, IfOk, OnOk};
-ghost use Rattle.std.specs.List.{list_all};
-ghost use Rattle.imp_fields.specs.Characters.{is_printable, is_line};
-ghost use Rattle.station_core.specs.Readers.{message};
-ghost use Rattle.station_rows.specs.Meant.{trail_meant, message_meant};
+ghost use Rattle.row_codec.specs.Common.{list_all, is_printable, is_line, message, trail_meant, message_meant};
 ghost use Rattle.row_codec.specs.Numbers.{natural, is_count};
 ghost use Rattle.row_codec.specs.Logs.{trail_row_by, line_row, is_trail_row, message_row, is_message_row};
 

@@ -1,9 +1,7 @@
 ghost use Rattle.std.specs.Prelude.{◌≡◌, ◌&&◌, is_some, IsTrue, IfSome, Some};
-ghost use Rattle.station_rows.specs.Meant.{expected_meant, listed_waybill_meant};
-ghost use Rattle.station_schema.specs.Tables.{ExpectedKey};
+ghost use Rattle.row_codec.specs.Common.{expected_meant, listed_waybill_meant, ExpectedKey, most_pieces, most_tenths};
 ghost use Rattle.row_codec.specs.Numbers.{is_within, is_flag};
 ghost use Rattle.row_codec.specs.Manifests.{is_expected_key, expectation_by, expected_by, expected_row, is_expected_row, is_part_key, part_by};
-ghost use Rattle.imp_fields.specs.Amount.{most_pieces, most_tenths};
 
 use crate::columns::{airport_of, awb_by, flag_by, part_number_by, pieces_by, tenths_by};
 use crate::flights::flight_date_by;

@@ -1,5 +1,5 @@
 ghost use Rattle.std.specs.Prelude.{◌≡◌, ◌<◌, ◌&&◌, pos, true, is_some, IsTrue, IfSome, IfOk, OnOk, Some, string_bytes};
-ghost use Rattle.station_rows.specs.Meant.{move_meant};
+ghost use Rattle.row_codec.specs.Common.{move_meant};
 ghost use Rattle.row_codec.specs.Flights.{flight_date_of};
 ghost use Rattle.row_codec.specs.Moves.{place_code, place_of, book_row_by, move_by, flight_column, day_column, move_row, is_move_row, are_flight_columns};
 ghost use Rattle.row_codec.specs.Numbers.{natural, is_count, is_day, is_within};

@@ -1,6 +1,5 @@
 ghost use Rattle.std.specs.Prelude.{◌≡◌, ◌∷◌, [], ◌++◌, List, IfOk, OnOk};
-ghost use Rattle.station_schema.specs.Store.{Survives, IsShowing, inside};
-ghost use Rattle.station_schema.specs.Tables.{Tables};
+ghost use Rattle.row_codec.specs.Common.{Survives, IsShowing, inside, Tables};
 ghost use Rattle.row_codec.specs.Counts.{AreCounts, AreBuilds, running, Sums};
 ghost use Rattle.row_codec.specs.Known.{AreKnown};
 ghost use Rattle.row_codec.specs.Sums.{come, gone, posting};

@@ -1,8 +1,6 @@
 ghost use Rattle.std.specs.Prelude.{◌≡◌, List, ℕ, is_some, IsTrue, IfSome};
-ghost use Rattle.station_rows.specs.Meant.{kept_meant};
-ghost use Rattle.station_core.specs.Key.{is_key};
+ghost use Rattle.row_codec.specs.Common.{kept_meant, is_key, kept_of};
 ghost use Rattle.row_codec.specs.Replies.{kept_by, is_kept_row};
-ghost use Rattle.station_core.specs.Told.{kept_of};
 
 use crate::columns::count_of;
 use station_core::KeptReply;

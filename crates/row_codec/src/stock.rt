@@ -1,6 +1,5 @@
 ghost use Rattle.std.specs.Prelude.{◌≡◌, ◌&&◌, ◌+◌, ◌-◌, ◌*◌, pos, int_le, is_some, IsTrue, IfSome};
-ghost use Rattle.awb_number.specs.Number.{serials};
-ghost use Rattle.station_rows.specs.Meant.{stock_meant};
+ghost use Rattle.row_codec.specs.Common.{serials, stock_meant};
 ghost use Rattle.row_codec.specs.Numbers.{natural, is_within};
 ghost use Rattle.row_codec.specs.Stock.{holder_by, run_in, is_stock_row};
 

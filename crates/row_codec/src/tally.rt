@@ -1,6 +1,5 @@
-ghost use Rattle.std.specs.Option.{SomeIff};
+ghost use Rattle.row_codec.specs.Common.{SomeIff, build_meant, count_meant};
 ghost use Rattle.std.specs.Prelude.{◌≡◌, ℤ, pos, ◌-ℤ◌, option_map, IfOk};
-ghost use Rattle.station_rows.specs.Meant.{build_meant, count_meant};
 ghost use Rattle.row_codec.specs.Counts.{is_nothing, running_in, running_on, unless_nothing};
 ghost use Rattle.row_codec.specs.Sums.{negated, plus, IsTally};
 ghost use Rattle.row_codec.specs.Stored.{come_to, pieces_found};

@@ -1,5 +1,5 @@
 ghost use Rattle.std.specs.Prelude.{◌≡◌, IfOk, OnOk, IsTrue, string_bytes};
-ghost use Rattle.std.specs.Str.{is_utf8};
+ghost use Rattle.row_codec.specs.Common.{is_utf8};
 
 use station_rows::StoreFault;
 use std::alloc::Global;

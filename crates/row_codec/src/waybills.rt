@@ -1,5 +1,5 @@
 ghost use Rattle.std.specs.Prelude.{◌≡◌, is_some, IsTrue, IfSome, IfOk};
-ghost use Rattle.station_rows.specs.Meant.{waybill_meant};
+ghost use Rattle.row_codec.specs.Common.{waybill_meant};
 ghost use Rattle.row_codec.specs.Numbers.{natural};
 ghost use Rattle.row_codec.specs.Waybills.{since_of, since_column, is_since, declared_by, waybill_row, is_waybill_row};
 

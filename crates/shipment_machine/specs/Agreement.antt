@@ -1,6 +1,6 @@
 -- Views of a state for a command, and the answers from them.
 use Rattle.std.specs.Prelude.{◌≡◌, ℕ, ◌+◌, ◌≤◌, false, true, ◌==◌, ⊤, if◌then◌else◌, Option, None, IsSome, Result, Ok, Err, is_some, List, [], map, length, All}
-use Rattle.station_days.specs.Date.{LocalMinute, resolved}
+use Rattle.shipment_machine.specs.Common.{LocalMinute, resolved}
 use Rattle.shipment_machine.specs.declared.moves.Balances.{Balances}
 use Rattle.shipment_machine.specs.declared.view.FlightLoad.{FlightLoad}
 use Rattle.shipment_machine.specs.declared.view.RowsKey.{RowsKey}

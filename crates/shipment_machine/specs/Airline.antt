@@ -1,7 +1,6 @@
 -- Airlines, by their designators.
 use Rattle.std.specs.Prelude.{ℕ, List, Option}
-use Rattle.imp_fields.specs.Flight.{is_carrier}
-use Rattle.station_days.specs.Steps.{where_true}
+use Rattle.shipment_machine.specs.Common.{is_carrier, where_true}
 
 -- exactly two upper-case letters or digits, at least one of them a letter
 abbrev pub airline_of : List ℕ → Option (List ℕ)

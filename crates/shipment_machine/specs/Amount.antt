@@ -1,7 +1,6 @@
 -- Amounts of cargo: pieces, with their weight in tenths of a kilogram.
 use Rattle.std.specs.Prelude.{ℕ, ◌+◌, ◌-◌, ◌≤◌, Bool, ◌&&◌, ◌==◌, nat_le, if◌then◌else◌, decimal, List, ◌++◌, codes}
-use Rattle.imp_fields.specs.Amount.{share_of, most_pieces, most_tenths}
-use Rattle.imp_fields.specs.Quantity.{weight_text}
+use Rattle.shipment_machine.specs.Common.{share_of, most_pieces, most_tenths, weight_text}
 use Rattle.shipment_machine.specs.declared.amount.Amount.{Amount}
 
 abbrev pub amount : ℕ → ℕ → Amount

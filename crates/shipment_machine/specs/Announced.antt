@@ -4,7 +4,7 @@ use Rattle.shipment_machine.specs.declared.flight.FlightDate.{FlightDate}
 use Rattle.shipment_machine.specs.declared.moves.Expected.{Expected}
 use Rattle.shipment_machine.specs.declared.view.LineView.{LineView}
 use Rattle.shipment_machine.specs.declared.command.CargoLine.{CargoLine}
-use Rattle.std.specs.Option.{unwrap_or}
+use Rattle.shipment_machine.specs.Common.{unwrap_or, Holder}
 use Rattle.shipment_machine.specs.declared.moves.Part.{Part}
 use Rattle.imp_fields.specs.declared.fault.Why.TheVariants as why
 use Rattle.shipment_machine.specs.declared.plans.Detail.TheVariants as detail
@@ -13,7 +13,6 @@ use Rattle.shipment_machine.specs.declared.plans.Change.{Change}
 use Rattle.shipment_machine.specs.declared.plans.Refusal.{Refusal}
 use Rattle.shipment_machine.specs.declared.plans.PlanFault.{PlanFault}
 use Rattle.shipment_machine.specs.declared.plans.PlanFault.TheVariants as fault
-use Rattle.agent_stock.specs.declared.stock.Holder.{Holder}
 use Rattle.shipment_machine.specs.declared.moves.Declared.{Declared}
 use Rattle.shipment_machine.specs.Effect.{Outcome, first_refusal, declare, announced, is_day, lines_for, unless_refused, then_write, row_refusals, row_changes, expected_after}
 

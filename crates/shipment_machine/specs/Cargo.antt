@@ -1,10 +1,8 @@
 -- A station's state of its cargo, and how a row changes it.
 use Rattle.std.specs.Prelude.{ℕ, Bool, ◌&&◌, ◌==◌, if◌then◌else◌, Option, Some, None, List, [], ◌∷◌, ◌++◌}
-use Rattle.std.specs.Str.{bytes_eq}
+use Rattle.shipment_machine.specs.Common.{bytes_eq, Holders, Used}
 use Rattle.shipment_machine.specs.Flights.{same_flight_date}
 use Rattle.shipment_machine.specs.declared.flight.FlightDate.{FlightDate}
-use Rattle.agent_stock.specs.Stock.{Holders}
-use Rattle.agent_stock.specs.declared.stock.Holder.TheVariants.{Used}
 use Rattle.shipment_machine.specs.declared.moves.Move.{Move}
 use Rattle.shipment_machine.specs.declared.moves.Declared.{Declared}
 use Rattle.shipment_machine.specs.declared.moves.Outbound.{Outbound}

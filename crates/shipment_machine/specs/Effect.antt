@@ -1,16 +1,11 @@
 -- The rule of each command: it is refused for the first reason that holds, or it makes moves,
 -- notices and row changes.
 use Rattle.std.specs.Prelude.{ℕ, zero, suc, ◌+◌, ◌-◌, min, max, Bool, true, false, not, ◌&&◌, ◌||◌, ◌==◌, nat_lt, nat_le, if◌then◌else◌, Option, Some, None, is_some, is_none, Result, Ok, Err, List, [], ◌∷◌, ◌++◌, map, length}
-use Rattle.std.specs.Option.{unwrap_or}
-use Rattle.std.specs.List.{filter, flat_map, sum_by}
-use Rattle.std.specs.Str.{bytes_eq}
-use Rattle.imp_fields.specs.Amount.{share_of, book_weight_of}
+use Rattle.shipment_machine.specs.Common.{unwrap_or, filter, flat_map, sum_by, bytes_eq, share_of, book_weight_of, LocalMinute, resolved, is_moment_day, Holder, WaybillSummary, Discrepancy, most_waybills}
 use Rattle.shipment_machine.specs.Amount.{amount, part, less, plus, fits}
 use Rattle.shipment_machine.specs.declared.amount.Amount.{Amount}
-use Rattle.station_days.specs.Date.{LocalMinute, resolved, is_moment_day}
 use Rattle.shipment_machine.specs.declared.flight.FlightDate.{FlightDate}
 use Rattle.imp_fields.specs.declared.fault.Why.TheVariants as why
-use Rattle.agent_stock.specs.declared.stock.Holder.{Holder}
 use Rattle.agent_stock.specs.declared.stock.Holder.TheVariants as holder
 use Rattle.shipment_machine.specs.declared.moves.Place.{Place}
 use Rattle.shipment_machine.specs.declared.moves.Place.TheVariants as place
@@ -19,8 +14,6 @@ use Rattle.shipment_machine.specs.declared.moves.Declared.{Declared}
 use Rattle.shipment_machine.specs.declared.moves.Outbound.{Outbound}
 use Rattle.shipment_machine.specs.declared.moves.Expected.{Expected}
 use Rattle.shipment_machine.specs.declared.moves.Part.{Part}
-use Rattle.imp_fields.specs.declared.waybill_summary.WaybillSummary.{WaybillSummary}
-use Rattle.imp_fields.specs.declared.discrepancy.Discrepancy.{Discrepancy}
 use Rattle.imp_fields.specs.declared.discrepancy.Discrepancy.TheVariants as discrepancy
 use Rattle.shipment_machine.specs.declared.notice.Event.{Event}
 use Rattle.shipment_machine.specs.declared.notice.Event.TheVariants as event
@@ -49,7 +42,6 @@ use Rattle.shipment_machine.specs.declared.view.Rows.{Rows}
 use Rattle.shipment_machine.specs.declared.view.Rows.TheVariants as rows
 use Rattle.shipment_machine.specs.Cargo.{Cargo, written_all}
 use Rattle.shipment_machine.specs.Views.{undeclared, declaration_view, rows_of}
-use Rattle.imp_fields.specs.Flight.{most_waybills}
 
 -- the outcome of a command that isn't refused
 pub record Outcome : Type 0 where

@@ -1,10 +1,7 @@
 -- Invariants of every state of a station.
 use Rattle.std.specs.Prelude.{◌≡◌, ℕ, ◌≤◌, Bool, false, ◌&&◌, ◌↔◌, IsTrue, IsSome, IfSome, ⊤, Option, Some, List, [], ◌∷◌, length, All}
-use Rattle.std.specs.List.{AllByRecursion, list_all, list_any}
-use Rattle.imp_fields.specs.Characters.{is_line}
-use Rattle.std.specs.Str.{bytes_eq}
+use Rattle.shipment_machine.specs.Common.{AllByRecursion, list_all, list_any, is_line, bytes_eq, Used, most_pieces, most_tenths, most_waybills}
 use Rattle.shipment_machine.specs.declared.flight.FlightDate.{FlightDate}
-use Rattle.agent_stock.specs.declared.stock.Holder.TheVariants.{Used}
 use Rattle.shipment_machine.specs.declared.moves.Place.{Place}
 use Rattle.shipment_machine.specs.declared.moves.Place.TheVariants.{Hand, Built, Departed}
 use Rattle.shipment_machine.specs.declared.moves.Move.{Move}
@@ -17,8 +14,6 @@ pub use Rattle.shipment_machine.specs.Places.{is_outside, is_pair}
 use Rattle.shipment_machine.specs.Cargo.{Cargo}
 use Rattle.shipment_machine.specs.Amount.{fits}
 use Rattle.shipment_machine.specs.Effect.{is_closed}
-use Rattle.imp_fields.specs.Amount.{most_pieces, most_tenths}
-use Rattle.imp_fields.specs.Flight.{most_waybills}
 
 -- No more of a waybill moved out of a place than into it. What is there weighs at least a tenth a
 -- piece, and nothing if there are no pieces.

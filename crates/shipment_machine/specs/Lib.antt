@@ -1,3 +1,4 @@
+pub mod Common
 pub mod Amount
 pub mod Numbers
 pub mod Flights

@@ -1,6 +1,6 @@
 -- Lists of numbers in ascending order.
 use Rattle.std.specs.Prelude.{ℕ, ◌<◌, Bool, ◌==◌, ⊤, List, [], ◌∷◌}
-use Rattle.std.specs.List.{AllByRecursion, list_any}
+use Rattle.shipment_machine.specs.Common.{AllByRecursion, list_any}
 
 -- each number is above those before it
 abbrev pub IsAscending : List ℕ → Type 0

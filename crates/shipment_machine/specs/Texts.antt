@@ -1,9 +1,6 @@
 -- Texts of flight dates and refusals.
 use Rattle.std.specs.Prelude.{ℕ, decimal, List, [], ◌∷◌, ◌++◌, codes}
-use Rattle.awb_number.specs.Number.{number_text}
-use Rattle.station_days.specs.Date.{day_line}
-use Rattle.imp_fields.specs.Fault.{why_word}
-use Rattle.imp_fields.specs.Flight.{flight_text}
+use Rattle.shipment_machine.specs.Common.{number_text, day_line, why_word, flight_text}
 use Rattle.shipment_machine.specs.declared.flight.FlightDate.{FlightDate}
 use Rattle.shipment_machine.specs.declared.plans.Detail.{Detail}
 use Rattle.shipment_machine.specs.declared.plans.Detail.TheVariants as detail

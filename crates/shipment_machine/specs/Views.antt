@@ -1,6 +1,6 @@
 -- A state's rows for a waybill, a flight and a manifest line.
 use Rattle.std.specs.Prelude.{ℕ, false, None, List, [], map, length}
-use Rattle.std.specs.Option.{unwrap_or}
+use Rattle.shipment_machine.specs.Common.{unwrap_or}
 use Rattle.shipment_machine.specs.declared.flight.FlightDate.{FlightDate}
 use Rattle.shipment_machine.specs.declared.moves.Declared.{Declared}
 use Rattle.shipment_machine.specs.declared.view.DeclarationView.{DeclarationView}

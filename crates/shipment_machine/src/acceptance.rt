@@ -4,7 +4,7 @@ ghost use Rattle.shipment_machine.specs.Amount.{IsHeld, amount, fits};
 ghost use Rattle.shipment_machine.specs.Effect.{decided, at_desk_or_void, amending, booked, dated, declare, declared_by, declaring, has_room, receiving, withdrawing};
 ghost use Rattle.shipment_machine.specs.Agreement.{IsAnswer};
 ghost use Rattle.shipment_machine.specs.Claims.{claimed};
-ghost use Rattle.imp_fields.specs.Amount.{most_pieces};
+ghost use Rattle.shipment_machine.specs.Common.{most_pieces};
 
 use crate::amount::{Amount, is_within, part_of};
 use crate::command::CargoLine;

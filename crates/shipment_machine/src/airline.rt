@@ -1,5 +1,5 @@
 ghost use Rattle.std.specs.Prelude.{◌≡◌, ℕ, List, IsTrue};
-ghost use Rattle.imp_fields.specs.Flight.{is_carrier};
+ghost use Rattle.shipment_machine.specs.Common.{is_carrier};
 ghost use Rattle.shipment_machine.specs.Airline.{airline_of};
 
 use std::marker::Model;

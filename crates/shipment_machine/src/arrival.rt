@@ -4,7 +4,7 @@ ghost use Rattle.shipment_machine.specs.Amount.{GoesWith, IsHeld, IsPartOf, amou
 ghost use Rattle.shipment_machine.specs.Effect.{decided, came_in, expected_amount, counted_in, uncounted, counted_more, check_in_moves, check_in_notices, checking_in, struck, striking};
 ghost use Rattle.shipment_machine.specs.Agreement.{IsAnswer};
 ghost use Rattle.shipment_machine.specs.declared.notice.Event.TheVariants as event;
-ghost use Rattle.imp_fields.specs.Amount.{most_pieces};
+ghost use Rattle.shipment_machine.specs.Common.{most_pieces};
 
 use crate::amount::Amount;
 use crate::command::PieceCount;

@@ -1,7 +1,7 @@
 ghost use Rattle.std.specs.Prelude.{◌≡◌, ℕ, ◌≤◌, ◌↔◌, length, IsSome, IfSome};
 ghost use Rattle.shipment_machine.specs.Amount.{IsCount};
 ghost use Rattle.shipment_machine.specs.Effect.{reads};
-ghost use Rattle.imp_fields.specs.TextSize.{most_lines};
+ghost use Rattle.shipment_machine.specs.Common.{most_lines};
 
 use crate::airline::Airline;
 use crate::flight::FlightDate;

@@ -1,10 +1,9 @@
 //! Flight departures.
 ghost use Rattle.std.specs.Prelude.{◌≡◌, ◌==◌, false, ◌+◌, ◌*◌, ◌≤◌, ◌<◌, All, IsSome, IfOk, map, length};
-ghost use Rattle.std.specs.List.{flat_map, sum_by};
+ghost use Rattle.shipment_machine.specs.Common.{flat_map, sum_by, most_waybills};
 ghost use Rattle.shipment_machine.specs.Effect.{decided, departing, depart_moves, manifest_line, status_of};
 ghost use Rattle.shipment_machine.specs.Agreement.{IsAnswer, IsOnBoard};
 ghost use Rattle.shipment_machine.specs.declared.notice.Event.TheVariants as event;
-ghost use Rattle.imp_fields.specs.Flight.{most_waybills};
 
 use crate::flight::FlightDate;
 use crate::moves::{Move, Outbound, Place};

@@ -1,7 +1,6 @@
 //! Parts of a manifest that arrived.
 ghost use Rattle.std.specs.Prelude.{◌≡◌, ◌≤◌, ℕ, [], ◌∷◌, ◌++◌, Some, None, Ok, nat_eq, OnOk, IfOk, IfErr, IfSome, if◌then◌else◌, length, not, true, false, All};
-ghost use Rattle.std.specs.HashMap.{get};
-ghost use Rattle.station_days.specs.Date.{resolved};
+ghost use Rattle.shipment_machine.specs.Common.{get, resolved};
 ghost use Rattle.shipment_machine.specs.Amount.{amount, fits};
 ghost use Rattle.shipment_machine.specs.Effect.{dated, declared_by, expected_after, lines_for, is_day};
 ghost use Rattle.shipment_machine.specs.Lawful.{HasPieces};

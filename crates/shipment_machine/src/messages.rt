@@ -1,7 +1,6 @@
 //! Confirmed messages, and status messages that arrived.
 ghost use Rattle.std.specs.Prelude.{◌≡◌, IfOk, IsTrue, map};
-ghost use Rattle.std.specs.List.{list_all};
-ghost use Rattle.imp_fields.specs.Characters.{is_line};
+ghost use Rattle.shipment_machine.specs.Common.{list_all, is_line};
 ghost use Rattle.shipment_machine.specs.Effect.{decided, confirming, noting_status};
 ghost use Rattle.shipment_machine.specs.declared.plans.Change.TheVariants as change;
 ghost use Rattle.shipment_machine.specs.Agreement.{IsAnswer};

@@ -1,7 +1,6 @@
 //! Parts of a plan.
 ghost use Rattle.std.specs.Prelude.{◌≡◌, ◌<◌, ◌^◌, ◌+◌, ◌≤◌, ◌++◌, [], OnOk};
-ghost use Rattle.std.specs.Str.{bytes_eq};
-ghost use Rattle.imp_fields.specs.Amount.{IsPieces, IsBookTenths, most_pieces, most_tenths};
+ghost use Rattle.shipment_machine.specs.Common.{bytes_eq, IsPieces, IsBookTenths, most_pieces, most_tenths};
 ghost use Rattle.shipment_machine.specs.Amount.{IsHeld, amount, plus, fits};
 ghost use Rattle.shipment_machine.specs.Effect.{about as waybill_refusal, only_free as free_refusal, on_flight as flight_refusal, move_of, status_of, consigned, came_in};
 ghost use Rattle.shipment_machine.specs.declared.plans.PlanFault.TheVariants as fault;

@@ -1,7 +1,6 @@
 //! Planning of each command from a view that a lawful state can have.
 ghost use Rattle.std.specs.Prelude.{◌≡◌, ◌↔◌, Ok, IfOk, IfErr, IsTrue, All, length};
-ghost use Rattle.std.specs.List.{filter};
-ghost use Rattle.std.specs.Str.{bytes_eq};
+ghost use Rattle.shipment_machine.specs.Common.{filter, bytes_eq};
 ghost use Rattle.shipment_machine.specs.Amount.{IsHeld};
 ghost use Rattle.shipment_machine.specs.declared.command.ShipmentCommand.TheVariants as order;
 ghost use Rattle.shipment_machine.specs.Cargo.{Cargo};

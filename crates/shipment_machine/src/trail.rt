@@ -1,7 +1,5 @@
 ghost use Rattle.std.specs.Prelude.{◌≡◌, ◌≤◌, IsTrue, length};
-ghost use Rattle.std.specs.List.{list_all};
-ghost use Rattle.imp_fields.specs.Characters.{is_line};
-ghost use Rattle.imp_fields.specs.TextSize.{most_lines};
+ghost use Rattle.shipment_machine.specs.Common.{list_all, is_line, most_lines};
 
 use std::marker::Model;
 

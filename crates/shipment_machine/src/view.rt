@@ -1,5 +1,5 @@
 ghost use Rattle.std.specs.Prelude.{◌≡◌, ◌≤◌, ◌↔◌, length, IsSome, IfSome};
-ghost use Rattle.imp_fields.specs.Flight.{most_waybills};
+ghost use Rattle.shipment_machine.specs.Common.{most_waybills};
 
 use crate::amount::Amount;
 use crate::flight::{FlightDate, MOST_WAYBILLS};

@@ -1,6 +1,6 @@
 //! The waybills of a book.
 ghost use Rattle.std.specs.Prelude.{◌≡◌, ◌≤◌, nat_lt, length, IfOk, OnOk};
-ghost use Rattle.std.specs.List.{prefix_len};
+ghost use Rattle.shipment_machine.specs.Common.{prefix_len};
 ghost use Rattle.shipment_machine.specs.Book.{put_rising, waybills_of};
 
 use crate::moves::Move;

@@ -1,13 +1,8 @@
 -- Queries of the book and of the trail: the first row, and the waybill or flight.
 use Rattle.std.specs.Prelude.{ℕ, ◌-◌, Bool, true, ◌==◌, if◌then◌else◌, List, [], ◌∷◌}
 use Rattle.std.proofs.Common.{min}
-use Rattle.shipment_machine.specs.declared.moves.Move.{Move}
-use Rattle.station_core.specs.Readers.{is_of_flight}
-use Rattle.station_core.specs.declared.rows.BookRow.{BookRow}
-use Rattle.station_core.specs.declared.rows.BookQuery.{BookQuery}
+use Rattle.state_store.specs.Common.{Move, is_of_flight, BookRow, BookQuery, TrailRow, TrailQuery}
 use Rattle.station_core.specs.declared.rows.BookQuery.TheVariants as book
-use Rattle.station_core.specs.declared.rows.TrailRow.{TrailRow}
-use Rattle.station_core.specs.declared.rows.TrailQuery.{TrailQuery}
 use Rattle.station_core.specs.declared.rows.TrailQuery.TheVariants as trail
 
 abbrev pub first_movement : BookQuery → ℕ → ℕ

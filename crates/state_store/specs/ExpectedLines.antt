@@ -1,9 +1,6 @@
 -- Expectations, line by line: a line is the expectation of a waybill on a flight.
 use Rattle.std.specs.Prelude.{ℕ, Bool, ◌&&◌, ◌==◌, if◌then◌else◌, Option, None}
-use Rattle.std.specs.Map.{lookup}
-use Rattle.shipment_machine.specs.Flights.{same_flight_date}
-use Rattle.shipment_machine.specs.declared.flight.FlightDate.{FlightDate}
-use Rattle.shipment_machine.specs.declared.moves.Expected.{Expected}
+use Rattle.state_store.specs.Common.{lookup, same_flight_date, FlightDate, Expected}
 use Rattle.state_store.specs.declared.expected_lines.ExpectedLines.{ExpectedLines}
 use Rattle.state_store.specs.declared.flight_key.FlightKey.{FlightKey}
 

@@ -1,12 +1,7 @@
 -- The flights in a map, ordered as readers do.
 use Rattle.std.specs.Prelude.{Bool}
 use Rattle.std.proofs.Common.{ap, Ordering, is_eq}
-use Rattle.std.specs.Ordering.{eq_by_cmp}
-use Rattle.std.specs.Cmp.{IsTotalOrder, IsEquivalence, IsPartialEquivalence, Equal-is, both_ways, partial_equiv_from_equiv, tied_itself, tied_back, on_total, then_total, nat_cmp_total}
-use Rattle.std.specs.Cmp.Lexicographic.{nat_list_cmp_total}
-use Rattle.imp_fields.specs.Flight.{flight_text}
-use Rattle.shipment_machine.specs.declared.flight.FlightDate.{FlightDate}
-use Rattle.station_core.specs.Readers.{by_flight}
+use Rattle.state_store.specs.Common.{eq_by_cmp, IsTotalOrder, IsEquivalence, IsPartialEquivalence, Equal-is, both_ways, partial_equiv_from_equiv, tied_itself, tied_back, on_total, then_total, nat_cmp_total, nat_list_cmp_total, flight_text, FlightDate, by_flight}
 use Rattle.state_store.specs.declared.flight_key.FlightKey.{FlightKey}
 
 -- flights are ordered by written form, and then by day

@@ -1,10 +1,6 @@
 -- Flows into a place and out of it, summed next to the book.
 use Rattle.std.specs.Prelude.{ℕ, ◌+◌, ◌-◌, if◌then◌else◌, List}
-use Rattle.shipment_machine.specs.declared.amount.Amount.{Amount}
-use Rattle.shipment_machine.specs.declared.moves.Move.{Move}
-use Rattle.shipment_machine.specs.declared.moves.Place.{Place}
-use Rattle.shipment_machine.specs.Amount.{amount}
-use Rattle.shipment_machine.specs.Book.{moved_in, moved_out, pieces_of, same_place, tenths_of}
+use Rattle.state_store.specs.Common.{Amount, Move, Place, amount, moved_in, moved_out, pieces_of, same_place, tenths_of}
 use Rattle.state_store.specs.declared.maps.flow.Flow.{Flow}
 use Rattle.state_store.specs.declared.maps.flow.Total.{Total}
 

@@ -1,11 +1,6 @@
 -- Entries under keys and for texts.
 use Rattle.std.specs.Prelude.{ℕ, Option, List, Vec}
-use Rattle.std.specs.HashMap.{HashMap, get_by}
-use Rattle.std.specs.Option.{option_map}
-use Rattle.std.specs.Str.{bytes_eq}
-use Rattle.station_core.specs.Step.{Kept}
-use Rattle.station_core.specs.Told.{kept_of}
-use Rattle.station_core.specs.declared.stored.KeptReply.{KeptReply}
+use Rattle.state_store.specs.Common.{HashMap, get_by, option_map, bytes_eq, Kept, kept_of, KeptReply}
 
 abbrev pub kept_under : {Z S : Type 0} → HashMap (Vec ℕ Z) KeptReply S → List ℕ → Option Kept
 kept_under replies key = option_map kept_of (get_by (λ k. bytes_eq key k.items) replies)

@@ -1,3 +1,4 @@
+pub mod Common
 pub mod Asked
 pub mod ExpectedLines
 pub mod FlightKey

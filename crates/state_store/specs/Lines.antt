@@ -1,15 +1,7 @@
 -- The rows of a flight.
 use Rattle.std.specs.Prelude.{ℕ, is_some, map}
-use Rattle.shipment_machine.specs.declared.command.InboundPart.{InboundPart}
-use Rattle.shipment_machine.specs.declared.flight.FlightDate.{FlightDate}
-use Rattle.shipment_machine.specs.declared.moves.Part.{Part}
-use Rattle.shipment_machine.specs.declared.view.FlightLoad.{FlightLoad}
-use Rattle.shipment_machine.specs.declared.view.Rows.{Rows}
+use Rattle.state_store.specs.Common.{InboundPart, FlightDate, Part, FlightLoad, Rows, Cargo, lines_for, declaration, line_view_of, Load}
 use Rattle.shipment_machine.specs.declared.view.Rows.TheVariants as rows
-use Rattle.shipment_machine.specs.Cargo.{Cargo}
-use Rattle.shipment_machine.specs.Effect.{lines_for}
-use Rattle.shipment_machine.specs.Views.{declaration, line_view_of}
-use Rattle.station_core.specs.declared.stored.Load.{Load}
 
 -- a load with the declaration of its waybill
 abbrev pub aboard_of : Cargo → Load → FlightLoad

@@ -1,13 +1,8 @@
 -- Rows made from the sums next to the book.
 use Rattle.std.specs.Prelude.{ℕ, nat_lt, if◌then◌else◌, List, [], ◌∷◌}
-use Rattle.shipment_machine.specs.declared.moves.Declared.{Declared}
-use Rattle.shipment_machine.specs.declared.moves.Move.{Move}
+use Rattle.state_store.specs.Common.{Declared, Move, has_come, AnnouncedRow, Load, WaybillBalances}
 use Rattle.state_store.specs.Waybills.{is_asked_for}
 use Rattle.state_store.specs.declared.query.WaybillQuery.{WaybillQuery}
-use Rattle.station_core.specs.Readers.{has_come}
-use Rattle.station_core.specs.declared.rows.AnnouncedRow.{AnnouncedRow}
-use Rattle.station_core.specs.declared.stored.Load.{Load}
-use Rattle.station_core.specs.declared.stored.WaybillBalances.{WaybillBalances}
 use Rattle.state_store.specs.Flow.{held_of}
 use Rattle.state_store.specs.WaybillFlows.{balances_by}
 use Rattle.state_store.specs.declared.maps.flow.Flow.{Flow}

@@ -1,17 +1,7 @@
 -- The cargo in maps and lists of rows.
 use Rattle.std.specs.Prelude.{ℕ, Option, List, Vec, map}
-use Rattle.std.specs.BTreeMap.{BTreeMap, get}
-use Rattle.std.specs.Map.{lookup}
-use Rattle.std.specs.Option.{option_map}
-use Rattle.std.specs.Ordering.{nat_cmp}
-use Rattle.shipment_machine.specs.Cargo.{Cargo, same_part}
-use Rattle.shipment_machine.specs.Flights.{same_flight_date}
-use Rattle.shipment_machine.specs.declared.flight.FlightDate.{FlightDate}
-use Rattle.shipment_machine.specs.declared.moves.Declared.{Declared}
-use Rattle.shipment_machine.specs.declared.moves.Outbound.{Outbound}
-use Rattle.shipment_machine.specs.declared.moves.Part.{Part}
+use Rattle.state_store.specs.Common.{BTreeMap, get, lookup, option_map, nat_cmp, Cargo, same_part, same_flight_date, FlightDate, Declared, Outbound, Part, texts_in}
 use Rattle.state_store.specs.ExpectedLines.{lines_in}
-use Rattle.station_core.specs.Texts.{texts_in}
 use Rattle.state_store.specs.Stock.{holders_of}
 use Rattle.state_store.specs.declared.flight_key.FlightKey.{FlightKey}
 use Rattle.state_store.specs.declared.maps.state.MapState.{MapState}

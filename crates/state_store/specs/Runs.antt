@@ -1,7 +1,6 @@
 -- The holder of each number, by entries that hold up to the next one.
 use Rattle.std.specs.Prelude.{ℕ, ◌&&◌, nat_le, nat_lt, if◌then◌else◌, Option, Some, None, List, [], ◌∷◌}
-use Rattle.agent_stock.specs.Stock.{Holders}
-use Rattle.agent_stock.specs.declared.stock.Holder.{Holder}
+use Rattle.state_store.specs.Common.{Holders, Holder}
 
 -- the holder named by the last entry up to the number, `before` if there is none
 abbrev pub named_by : Option Holder → List (ℕ × Option Holder) → ℕ → Option Holder

@@ -1,6 +1,6 @@
 -- The state in maps and lists in memory.
 use Rattle.std.specs.Prelude.{◌≡◌, true}
-use Rattle.station_core.specs.Step.{State, has_room}
+use Rattle.state_store.specs.Common.{State, has_room}
 use Rattle.state_store.specs.Kept.{count_under, kept_under}
 use Rattle.state_store.specs.Maps.{cargo_of}
 use Rattle.state_store.specs.Summed.{IsSummed}

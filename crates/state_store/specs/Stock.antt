@@ -1,6 +1,6 @@
 -- The stock in a map of runs.
 use Rattle.std.specs.Prelude.{None}
-use Rattle.agent_stock.specs.Stock.{Holders}
+use Rattle.state_store.specs.Common.{Holders}
 use Rattle.state_store.specs.Runs.{named_by}
 use Rattle.state_store.specs.declared.maps.stock.MapStock.{MapStock}
 

@@ -1,8 +1,6 @@
 -- The view of a store of a station's state, and the effect of calls.
 use Rattle.std.specs.Prelude.{◌≡◌, ◌⊎◌, Bool, true, false, List, Option, Some, Result, IfOk, OnOk}
-use Rattle.row_sinks.specs.Handed.{HandedOut, Hands}
-use Rattle.station_core.specs.Keeping.{KeepsPremise}
-use Rattle.station_core.specs.Step.{State}
+use Rattle.state_store.specs.Common.{HandedOut, Hands, KeepsPremise, State}
 
 -- the state in the transaction, and that of the last commit
 pub record Seen : Type 0 where

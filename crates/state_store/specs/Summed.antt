@@ -1,11 +1,6 @@
 -- The sums next to a movement book are those of its moves.
 use Rattle.std.specs.Prelude.{◌≡◌, ℕ, is_some, List, Option, Some, None}
-use Rattle.std.specs.BTreeMap.{BTreeMap, get}
-use Rattle.std.specs.Option.{unwrap_or}
-use Rattle.std.specs.Ordering.{nat_cmp}
-use Rattle.shipment_machine.specs.Book.{has_moves}
-use Rattle.shipment_machine.specs.declared.moves.Move.{Move}
-use Rattle.shipment_machine.specs.declared.moves.Place.TheVariants.{Built}
+use Rattle.state_store.specs.Common.{BTreeMap, get, unwrap_or, nat_cmp, has_moves, Move, Built}
 use Rattle.state_store.specs.FlightKey.{by_key}
 use Rattle.state_store.specs.Flow.{flow_of, still}
 use Rattle.state_store.specs.WaybillFlows.{flows_of, no_flows}

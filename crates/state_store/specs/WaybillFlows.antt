@@ -1,8 +1,6 @@
 -- Flows of a waybill at each place except the built ones.
 use Rattle.std.specs.Prelude.{ℕ, List}
-use Rattle.shipment_machine.specs.declared.moves.Balances.{Balances}
-use Rattle.shipment_machine.specs.declared.moves.Move.{Move}
-use Rattle.shipment_machine.specs.declared.moves.Place.TheVariants.{Delivered, Departed, Free, Hand, Missing, Surplus, Transferred}
+use Rattle.state_store.specs.Common.{Balances, Move, Delivered, Departed, Free, Hand, Missing, Surplus, Transferred}
 use Rattle.state_store.specs.Flow.{drawn_of, flow_of, flow_with, held_of, still}
 use Rattle.state_store.specs.declared.maps.waybill_flows.WaybillFlows.{WaybillFlows}
 

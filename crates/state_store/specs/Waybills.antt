@@ -1,11 +1,6 @@
 -- The waybills that a store lists, by their balances.
 use Rattle.std.specs.Prelude.{ℕ, Bool, ◌||◌, nat_lt, if◌then◌else◌, List, [], ◌∷◌}
-use Rattle.std.specs.List.{flat_map}
-use Rattle.shipment_machine.specs.Book.{balances_of, waybills_of}
-use Rattle.shipment_machine.specs.declared.moves.Balances.{Balances}
-use Rattle.shipment_machine.specs.declared.moves.Move.{Move}
-use Rattle.station_core.specs.Told.{stored_of}
-use Rattle.station_core.specs.declared.stored.WaybillBalances.{WaybillBalances}
+use Rattle.state_store.specs.Common.{flat_map, balances_of, waybills_of, Balances, Move, stored_of, WaybillBalances}
 use Rattle.state_store.specs.declared.query.WaybillQuery.{WaybillQuery}
 use Rattle.state_store.specs.declared.query.WaybillQuery.TheVariants.{Stored, Irregular}
 

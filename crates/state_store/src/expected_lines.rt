@@ -1,6 +1,6 @@
 //! Expectations, in the order in which readers list them.
 ghost use Rattle.std.specs.Prelude.{◌≡◌, Some, None, IfOk, OnOk, OnErr};
-ghost use Rattle.station_core.specs.Readers.{AreExpectations};
+ghost use Rattle.state_store.specs.Common.{AreExpectations};
 ghost use Rattle.state_store.specs.ExpectedLines.{Lines, lines_in, no_lines, with_line};
 
 use crate::flight_key::FlightKey;

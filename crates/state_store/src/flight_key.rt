@@ -1,6 +1,6 @@
 ghost use Rattle.std.specs.Prelude.{◌≡◌, ◌≤◌, take};
 ghost use Rattle.std.proofs.Props.{props};
-ghost use Rattle.imp_fields.specs.Flight.{IsDesignator, flight_text};
+ghost use Rattle.state_store.specs.Common.{IsDesignator, flight_text};
 
 use shipment_machine::FlightDate;
 

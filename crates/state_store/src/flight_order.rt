@@ -1,6 +1,6 @@
 //! The order of flights in a map.
 ghost use Rattle.std.specs.Prelude.{refl, Some};
-ghost use Rattle.std.specs.Cmp.{po};
+ghost use Rattle.state_store.specs.Common.{po};
 ghost use Rattle.state_store.specs.FlightKey.{by_key, key_equiv, key_per, key_total, same_key};
 
 use crate::flight_key::FlightKey;

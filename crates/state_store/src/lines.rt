@@ -1,8 +1,6 @@
 //! The rows of a flight: its loads, and the rows for each line of its manifest.
 ghost use Rattle.std.specs.Prelude.{◌≡◌, ◌++◌, ◌∷◌, [], false, None, Some, map};
-ghost use Rattle.shipment_machine.specs.Agreement.{rows_for};
-ghost use Rattle.shipment_machine.specs.Effect.{lines_for};
-ghost use Rattle.shipment_machine.specs.Views.{loads_of, line_view_of};
+ghost use Rattle.state_store.specs.Common.{rows_for, lines_for, loads_of, line_view_of};
 ghost use Rattle.shipment_machine.specs.declared.command.ShipmentCommand.TheVariants as order;
 ghost use Rattle.shipment_machine.specs.declared.view.Rows.TheVariants as rows;
 ghost use Rattle.state_store.specs.Lines.{aboard_of, part_rows_on};

@@ -1,6 +1,6 @@
 //! Queries of waybills by their balances.
 ghost use Rattle.std.specs.Prelude.{◌≡◌, nat_lt};
-ghost use Rattle.station_core.specs.Told.{stored_of};
+ghost use Rattle.state_store.specs.Common.{stored_of};
 ghost use Rattle.state_store.specs.Waybills.{is_asked_for};
 
 use shipment_machine::Balances;

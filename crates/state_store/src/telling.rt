@@ -1,13 +1,8 @@
 //! The readers of the state in a store, which change nothing.
 ghost use Rattle.std.specs.Prelude.{◌≡◌, ◌≤◌, ℕ, ◌+◌, ◌-◌, length, map, IfOk};
-ghost use Rattle.std.specs.List.{sum_by};
-ghost use Rattle.shipment_machine.specs.Book.{balances_of, store};
+ghost use Rattle.state_store.specs.Common.{sum_by, balances_of, store, IsLawful, declaration, told_of, waybill_of, irregular_rows, shed_rows, flight_row, AreFlightRows, expected_row, AreExpectedBy, stored_of, irregular_by, shed_by};
 ghost use Rattle.shipment_machine.specs.Cargo.{Cargo as AnyCargo};
-ghost use Rattle.shipment_machine.specs.Lawful.{IsLawful};
-ghost use Rattle.shipment_machine.specs.Views.{declaration};
-ghost use Rattle.station_core.specs.Readers.{told_of, waybill_of, irregular_rows, shed_rows, flight_row, AreFlightRows, expected_row, AreExpectedBy};
 ghost use Rattle.state_store.specs.Store.{ReadsAtRest};
-ghost use Rattle.station_core.specs.Told.{stored_of, irregular_by, shed_by};
 
 use crate::query::WaybillQuery;
 use crate::store::StateStore;

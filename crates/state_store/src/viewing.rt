@@ -1,8 +1,6 @@
 //! The views from which commands are planned. Each asks the store only for what its command reads.
 ghost use Rattle.std.specs.Prelude.{◌≡◌, IfOk, length};
-ghost use Rattle.shipment_machine.specs.Agreement.{rows_for, view_of};
-ghost use Rattle.shipment_machine.specs.Book.{built};
-ghost use Rattle.shipment_machine.specs.Views.{declaration_view, waybill_view, flight_view, loads_of, rows_of};
+ghost use Rattle.state_store.specs.Common.{rows_for, view_of, built, declaration_view, waybill_view, flight_view, loads_of, rows_of};
 ghost use Rattle.shipment_machine.specs.declared.view.Rows.TheVariants as rows;
 ghost use Rattle.state_store.specs.Store.{Reads, Says};
 

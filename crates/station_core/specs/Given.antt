@@ -1,6 +1,6 @@
 -- The history of a reader or a writer.
 use Rattle.std.specs.Prelude.{ℕ, List, [], refl}
-use Rattle.std.specs.Coded.{Coded, code_by, coded×, coded_ℕ, coded_list}
+use Rattle.station_core.specs.Common.{Coded, code_by, coded×, coded_ℕ, coded_list}
 
 -- the bytes moved, the number of calls, of failed calls, and of calls that moved 0 bytes of a
 -- buffer that wasn't empty

@@ -1,14 +1,12 @@
 -- The effect of an input on a station, whatever the answer.
 use Rattle.std.specs.Prelude.{◌≡◌, ◌⊎◌, ℕ, ◌+◌, ◌<◌, Bool, true, false, Result, Ok, Err, IfErr, IfOk, OnOk, OnErr, List, take, length, Option, Some, None}
-use Rattle.shipment_machine.specs.Cargo.{Cargo}
+use Rattle.station_core.specs.Common.{Cargo, LocalMinute, HandedOut}
 use Rattle.station_core.specs.declared.answer.Reply.{Reply}
 use Rattle.station_core.specs.declared.answer.Answer.{Answer}
 use Rattle.station_core.specs.declared.answer.Answer.TheVariants as answer
 use Rattle.station_core.specs.declared.answer.ActFault.{ActFault}
 use Rattle.station_core.specs.declared.answer.ActFault.TheVariants as fault
-use Rattle.station_days.specs.Date.{LocalMinute}
 use Rattle.station_core.specs.declared.input.Input.{Input}
-use Rattle.row_sinks.specs.Handed.{HandedOut}
 use Rattle.station_core.specs.Step.{State, step, after_all}
 
 -- The keeper is broken afterwards exactly after Store.

@@ -1,3 +1,4 @@
+pub mod Common
 pub mod Counted
 pub mod Ends
 pub mod Gathered

@@ -1,18 +1,6 @@
 -- The ranges of inputs, guaranteed by their types.
 use Rattle.std.specs.Prelude.{◌≤◌, IsTrue, IfSome, List}
-use Rattle.std.specs.List.{AllByRecursion, list_all}
-use Rattle.imp_fields.specs.Characters.{is_line}
-use Rattle.awb_number.specs.Number.{IsNumber}
-use Rattle.imp_fields.specs.Amount.{IsPieces, IsTenths, most_parts}
-use Rattle.imp_fields.specs.Airport.{is_airport}
-use Rattle.imp_fields.specs.Flight.{IsDesignator}
-use Rattle.station_days.specs.Date.{IsCalendarDay, LocalMinute}
-use Rattle.imp_fields.specs.Name.{is_goods}
-use Rattle.shipment_machine.specs.declared.command.CargoLine.{CargoLine}
-use Rattle.shipment_machine.specs.declared.command.InboundLine.{InboundLine}
-use Rattle.telegrams.specs.declared.telegram.Content.{Content}
-use Rattle.telegrams.specs.declared.telegram.Content.TheVariants.{Fwb, Ffm, Fsu}
-use Rattle.desk_commands.specs.Command.{IsCommand}
+use Rattle.station_core.specs.Common.{AllByRecursion, list_all, is_line, IsNumber, IsPieces, IsTenths, most_parts, is_airport, IsDesignator, IsCalendarDay, LocalMinute, is_goods, CargoLine, InboundLine, Content, Fwb, Ffm, Fsu, IsCommand}
 use Rattle.station_core.specs.Key.{is_key}
 use Rattle.station_core.specs.declared.input.Input.{Input}
 use Rattle.station_core.specs.declared.input.Input.TheVariants.{Keyed, Wire}

@@ -1,23 +1,6 @@
 -- The rows that a station's readers hand out.
 use Rattle.std.specs.Prelude.{◌≡◌, max, ℕ, ◌+◌, ◌-◌, Bool, ◌||◌, ◌&&◌, ◌==◌, not, nat_lt, if◌then◌else◌, IsTrue, Option, Some, None, List, [], ◌∷◌, length, map, drop, filter, true, false}
-use Rattle.std.specs.List.{find, flat_map, sum_by}
-use Rattle.std.specs.FinMap.{is_sorted}
-use Rattle.std.specs.Ordering.{nat_cmp, ordering_then}
-use Rattle.std.specs.Cmp.Lexicographic.{slice_cmp}
-use Rattle.std.specs.declared.cmp.Ordering.{Ordering}
-use Rattle.std.specs.Option.{option_map}
-use Rattle.imp_fields.specs.Flight.{flight_text}
-use Rattle.shipment_machine.specs.Amount.{less}
-use Rattle.shipment_machine.specs.declared.moves.Declared.{Declared}
-use Rattle.shipment_machine.specs.declared.flight.FlightDate.{FlightDate}
-use Rattle.shipment_machine.specs.declared.moves.Expected.{Expected}
-use Rattle.shipment_machine.specs.declared.moves.Move.{Move}
-use Rattle.shipment_machine.specs.declared.moves.Outbound.{Outbound}
-use Rattle.shipment_machine.specs.declared.moves.Place.TheVariants.{Built}
-use Rattle.shipment_machine.specs.Flights.{same_flight_date}
-use Rattle.shipment_machine.specs.Book.{taken, found, free, store, departed, delivered, missing, transferred, waybills_of, waybills_on, built, same_place}
-use Rattle.shipment_machine.specs.Cargo.{Cargo}
-use Rattle.shipment_machine.specs.Views.{declaration}
+use Rattle.station_core.specs.Common.{find, flat_map, sum_by, is_sorted, nat_cmp, ordering_then, slice_cmp, Ordering, option_map, flight_text, less, Declared, FlightDate, Expected, Move, Outbound, Built, same_flight_date, taken, found, free, store, departed, delivered, missing, transferred, waybills_of, waybills_on, built, same_place, Cargo, declaration}
 use Rattle.station_core.specs.declared.rows.AnnouncedRow.{AnnouncedRow}
 use Rattle.station_core.specs.declared.rows.IrregularRow.{IrregularRow}
 use Rattle.station_core.specs.declared.rows.ShedRow.{ShedRow}

@@ -1,12 +1,9 @@
 -- A caller that repeats its inputs, and a station whose power may fail at any moment.
 use Rattle.std.specs.Prelude.{◌≡◌, Bool, true, false, ◌&&◌, IsTrue, is_none, if◌then◌else◌, ◌⊎◌, List, [], ◌∷◌, ◌++◌, Some}
-use Rattle.std.specs.List.{AllByRecursion, list_any}
-use Rattle.std.specs.Str.{bytes_eq}
-use Rattle.station_days.specs.Date.{LocalMinute}
+use Rattle.station_core.specs.Common.{AllByRecursion, list_any, bytes_eq, LocalMinute, command_text}
 use Rattle.station_core.specs.declared.answer.Reply.{Reply}
 use Rattle.station_core.specs.declared.input.Input.{Input}
 use Rattle.station_core.specs.declared.input.Input.TheVariants.{Keyed, Wire}
-use Rattle.desk_commands.specs.Command.{command_text}
 use Rattle.station_core.specs.declared.answer.Answer.{Answer}
 use Rattle.station_core.specs.declared.answer.Answer.TheVariants.{Done, Refused}
 use Rattle.station_core.specs.Step.{State, repeated, step, after_all, answers_of}

@@ -1,23 +1,9 @@
 -- The state of a station, one step, and a run of steps.
 use Rattle.std.specs.Prelude.{ℕ, Bool, ◌&&◌, nat_le, if◌then◌else◌, Option, Some, None, Result, Ok, Err, IsSome, IfSome, List, [], ◌∷◌, ◌++◌, map, length}
-use Rattle.std.specs.Str.{bytes_eq}
-use Rattle.station_days.specs.Date.{LocalMinute}
-use Rattle.agent_stock.specs.Stock.{run_of, order_refusal, after_order}
-use Rattle.agent_stock.specs.declared.stock.Order.{Order}
-use Rattle.shipment_machine.specs.declared.moves.Part.{Part}
-use Rattle.shipment_machine.specs.declared.notice.Notice.{Notice}
-use Rattle.shipment_machine.specs.declared.command.ShipmentCommand.{ShipmentCommand}
+use Rattle.station_core.specs.Common.{bytes_eq, LocalMinute, run_of, order_refusal, after_order, Order, Part, Notice, ShipmentCommand, Refusal, Detail, Cargo, opening_cargo, Outcome, effect, carried_out, IsLawful, Content, notice_text, command_text}
 use Rattle.shipment_machine.specs.declared.command.ShipmentCommand.TheVariants as shipment
-use Rattle.shipment_machine.specs.declared.plans.Refusal.{Refusal}
-use Rattle.shipment_machine.specs.declared.plans.Detail.{Detail}
 use Rattle.shipment_machine.specs.declared.plans.Detail.TheVariants as detail
-use Rattle.shipment_machine.specs.Cargo.{Cargo, opening_cargo}
-use Rattle.shipment_machine.specs.Effect.{Outcome, effect, carried_out}
-use Rattle.shipment_machine.specs.Lawful.{IsLawful}
-use Rattle.telegrams.specs.declared.telegram.Content.{Content}
 use Rattle.telegrams.specs.declared.telegram.Content.TheVariants as content
-use Rattle.telegrams.specs.NoticeText.{notice_text}
-use Rattle.desk_commands.specs.Command.{command_text}
 use Rattle.desk_commands.specs.declared.command.Command.TheVariants as command
 use Rattle.station_core.specs.declared.answer.Answer.{Answer}
 use Rattle.station_core.specs.declared.answer.Answer.TheVariants.{Done, Refused}

@@ -1,21 +1,6 @@
 -- Values that a store returns from a state, and the changes that its calls make.
 use Rattle.std.specs.Prelude.{◌≡◌, ℕ, ◌+◌, ◌-◌, ◌==◌, IsTrue, string_bytes, List, ◌++◌, length, map}
-use Rattle.std.specs.FinMap.{is_sorted}
-use Rattle.std.specs.List.{find}
-use Rattle.std.specs.Option.{option_map, unwrap_or}
-use Rattle.std.specs.Ordering.{nat_cmp}
-use Rattle.shipment_machine.specs.Amount.{amount, less}
-use Rattle.shipment_machine.specs.declared.amount.Amount.{Amount}
-use Rattle.shipment_machine.specs.declared.moves.Balances.{Balances}
-use Rattle.agent_stock.specs.Stock.{after_order}
-use Rattle.agent_stock.specs.declared.stock.Order.{Order}
-use Rattle.shipment_machine.specs.declared.flight.FlightDate.{FlightDate}
-use Rattle.shipment_machine.specs.declared.moves.Move.{Move}
-use Rattle.shipment_machine.specs.Book.{balances_of, built, waybills_on}
-use Rattle.shipment_machine.specs.Cargo.{Cargo}
-use Rattle.shipment_machine.specs.Views.{declaration}
-use Rattle.desk_commands.specs.Command.{IsCommand, command_text}
-use Rattle.desk_commands.specs.declared.command.Command.{Command}
+use Rattle.station_core.specs.Common.{is_sorted, find, option_map, unwrap_or, nat_cmp, amount, less, Amount, Balances, after_order, Order, FlightDate, Move, balances_of, built, waybills_on, Cargo, declaration, IsCommand, command_text, Command}
 use Rattle.station_core.specs.declared.rows.IrregularRow.{IrregularRow}
 use Rattle.station_core.specs.declared.rows.ShedRow.{ShedRow}
 use Rattle.station_core.specs.Step.{State, Kept, keeping, keeping_text, sent}

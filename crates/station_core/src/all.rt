@@ -1,5 +1,5 @@
 ghost use Rattle.std.specs.Prelude.{◌≡◌, ◌<◌, true, false, [], take, length, None, Some, Err, Option, IfErr, All};
-ghost use Rattle.station_days.specs.Date.{LocalMinute};
+ghost use Rattle.station_core.specs.Common.{LocalMinute};
 ghost use Rattle.station_core.specs.declared.input.Input.{Input as AnyInput};
 ghost use Rattle.station_core.specs.declared.answer.ActFault.{ActFault};
 ghost use Rattle.station_core.specs.Step.{State, after_all, answers_of};

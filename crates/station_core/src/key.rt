@@ -1,5 +1,5 @@
 ghost use Rattle.std.specs.Prelude.{◌≡◌, ◌↔◌, IsTrue, IsSome, IfSome, Some};
-ghost use Rattle.std.specs.List.{list_all};
+ghost use Rattle.station_core.specs.Common.{list_all};
 ghost use Rattle.station_core.specs.Key.{is_key, is_key_byte};
 
 use awb_number::ascii_text;

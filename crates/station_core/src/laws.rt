@@ -1,7 +1,6 @@
 //! Laws about the definitions.
 ghost use Rattle.std.specs.Prelude.{◌≡◌, ℕ, List, None};
-ghost use Rattle.station_days.specs.Date.{LocalMinute};
-ghost use Rattle.shipment_machine.specs.Laws.{IsConserved, AreBalances};
+ghost use Rattle.station_core.specs.Common.{LocalMinute, IsConserved, AreBalances};
 ghost use Rattle.station_core.specs.declared.input.Input.{Input};
 ghost use Rattle.station_core.specs.Ranges.{IsInput, AreInputs};
 ghost use Rattle.station_core.specs.Retries.{RetryEvent, ActsOnce};

@@ -1,13 +1,7 @@
 //! The ranges of a telegram's fields, guaranteed by their types.
 
 ghost use Rattle.std.specs.Prelude.{◌≤◌, IsTrue, IfSome};
-ghost use Rattle.std.specs.List.{AllByRecursion, list_all};
-ghost use Rattle.awb_number.specs.Number.{IsNumber};
-ghost use Rattle.imp_fields.specs.Airport.{is_airport};
-ghost use Rattle.imp_fields.specs.Amount.{IsPieces, most_parts};
-ghost use Rattle.imp_fields.specs.Characters.{is_line};
-ghost use Rattle.station_days.specs.Date.{IsCalendarDay};
-ghost use Rattle.imp_fields.specs.Flight.{IsDesignator};
+ghost use Rattle.station_core.specs.Common.{AllByRecursion, list_all, IsNumber, is_airport, IsPieces, most_parts, is_line, IsCalendarDay, IsDesignator};
 ghost use Rattle.station_core.specs.Ranges.{IsCargoLine, IsInboundLine, IsContent};
 
 use awb_number::Awb;

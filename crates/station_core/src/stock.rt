@@ -1,5 +1,5 @@
 ghost use Rattle.std.specs.Prelude.{◌≡◌};
-ghost use Rattle.agent_stock.specs.Stock.{run_of};
+ghost use Rattle.station_core.specs.Common.{run_of};
 ghost use Rattle.station_core.specs.Step.{waybill_or_nothing};
 
 use agent_stock::Order;

@@ -1,6 +1,6 @@
 //! Replies, refusals and notices as texts.
 ghost use Rattle.std.specs.Prelude.{◌≡◌, ◌++◌, ◌∷◌, [], map, IfOk, OnOk, string_bytes};
-ghost use Rattle.telegrams.specs.NoticeText.{notice_text};
+ghost use Rattle.station_core.specs.Common.{notice_text};
 ghost use Rattle.station_core.specs.Texts.{detail_text, refusal_text, reply_text, texts_in};
 
 use crate::answer::Reply;

@@ -1,8 +1,6 @@
 -- The state of a station, and what reopening it may find.
 use Rattle.std.specs.Prelude.{◌⊎◌, Option, Some, None, Bool}
-use Rattle.station_core.specs.Keeping.{Keeping}
-use Rattle.station_core.specs.Step.{State, IsLawfulState}
-use Rattle.state_store.specs.Store.{Storing, at_rest}
+use Rattle.station_engine.specs.Common.{Keeping, State, IsLawfulState, Storing, at_rest}
 
 -- a lawful state that the store may hold; any other isn't a station's and means None
 abbrev pub Finds : (Option State → Type 0) → Option State → Type 0

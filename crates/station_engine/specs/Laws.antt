@@ -1,7 +1,7 @@
 -- Reopening finds what a store shows.
 use Rattle.std.specs.Prelude.{◌≡◌, Option, Some, None}
 use Rattle.std.proofs.Common.{inl, inr, sym, ap, subst}
-use Rattle.station_core.specs.Step.{State, IsLawfulState}
+use Rattle.station_engine.specs.Common.{State, IsLawfulState}
 use Rattle.station_engine.specs.Found.{Finds}
 
 abbrev option_value : State → Option State → State

@@ -1,3 +1,4 @@
+pub mod Common
 pub mod Found
 pub mod Laws
 pub mod Room

@@ -1,18 +1,6 @@
 -- Answers to inputs.
 use Rattle.std.specs.Prelude.{◌≡◌, ◌⊎◌, ℕ, List, [], Option, Some, None, Result, Ok, Err, IfOk}
-use Rattle.station_days.specs.Date.{LocalMinute}
-use Rattle.desk_commands.specs.Command.{command_text, IsCommand}
-use Rattle.shipment_machine.specs.declared.plans.Plan.{Plan}
-use Rattle.shipment_machine.specs.declared.plans.Refusal.{Refusal}
-use Rattle.shipment_machine.specs.Agreement.{outcome_of}
-use Rattle.shipment_machine.specs.Effect.{Outcome, carried_out}
-use Rattle.shipment_machine.specs.Lawful.{IsLawful}
-use Rattle.station_core.specs.declared.answer.Answer.{Answer}
-use Rattle.station_core.specs.declared.input.Input.{Input}
-use Rattle.station_core.specs.declared.input.Input.TheVariants.{Keyed, Wire}
-use Rattle.station_core.specs.Keeping.{KeepsPremise}
-use Rattle.station_core.specs.Step.{State, IsLawfulState, acted, cargo_acted, repeated, step}
-use Rattle.state_store.specs.Store.{Storing, at_rest}
+use Rattle.station_engine.specs.Common.{LocalMinute, command_text, IsCommand, Plan, Refusal, outcome_of, Outcome, carried_out, IsLawful, Answer, Input, Keyed, Wire, KeepsPremise, State, IsLawfulState, acted, cargo_acted, repeated, step, Storing, at_rest}
 
 -- the text by which a command is compared with the stored one; empty for a telegram
 abbrev pub request_of : Input → List ℕ

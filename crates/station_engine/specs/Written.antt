@@ -1,12 +1,6 @@
 -- Writing the effect of an accepted input.
 use Rattle.std.specs.Prelude.{ℕ, List}
-use Rattle.shipment_machine.specs.declared.plans.Change.{Change}
-use Rattle.shipment_machine.specs.declared.plans.Plan.{Plan}
-use Rattle.shipment_machine.specs.Agreement.{outcome_of}
-use Rattle.shipment_machine.specs.Cargo.{written_all}
-use Rattle.shipment_machine.specs.Effect.{carried_out}
-use Rattle.station_core.specs.Step.{State, sent}
-use Rattle.station_core.specs.Told.{on_cargo}
+use Rattle.station_engine.specs.Common.{Change, Plan, outcome_of, written_all, carried_out, State, sent, on_cargo}
 
 abbrev pub with_changes : List ℕ → List Change → State → State
 with_changes text changes = on_cargo (written_all text changes)

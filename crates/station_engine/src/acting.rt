@@ -1,16 +1,8 @@
 //! Acting once on an input, over any store.
 ghost use Rattle.std.specs.Prelude.{◌≡◌, ◌++◌, ◌∷◌, [], None, Ok, IfOk, OnOk, map};
-ghost use Rattle.station_days.specs.Date.{LocalMinute};
-ghost use Rattle.agent_stock.specs.Stock.{order_refusal};
-ghost use Rattle.shipment_machine.specs.Agreement.{StaysLawful};
+ghost use Rattle.station_engine.specs.Common.{LocalMinute, order_refusal, StaysLawful, effect, IsLawful, notice_text, IsLawfulState, acted, stock_acted, cargo_acted, Reads, texts_in};
 ghost use Rattle.shipment_machine.specs.Cargo.{Cargo as AnyCargo};
-ghost use Rattle.shipment_machine.specs.Effect.{effect};
-ghost use Rattle.shipment_machine.specs.Lawful.{IsLawful};
-ghost use Rattle.telegrams.specs.NoticeText.{notice_text};
-ghost use Rattle.station_core.specs.Step.{IsLawfulState, acted, stock_acted, cargo_acted};
 ghost use Rattle.station_engine.specs.Serving.{IfPlanned, IsEffect, IsNewTo, IsPlanned, IsRequestOf, Served};
-ghost use Rattle.state_store.specs.Store.{Reads};
-ghost use Rattle.station_core.specs.Texts.{texts_in};
 
 use crate::carrying::{commit_plan, keep_and_commit};
 use crate::replying::known;

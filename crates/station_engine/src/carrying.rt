@@ -1,12 +1,8 @@
 //! Writing the effect of an accepted input.
 ghost use Rattle.std.specs.Prelude.{OnOk};
-ghost use Rattle.station_core.specs.Keeping.{KeepsPremise};
-ghost use Rattle.station_core.specs.Step.{State, kept_with};
+ghost use Rattle.station_engine.specs.Common.{KeepsPremise, State, kept_with, Changes, Commits, MayLeave, at_rest, with_moves, with_messages, texts_in};
 ghost use Rattle.station_engine.specs.Serving.{IsRequestOf};
-ghost use Rattle.state_store.specs.Store.{Changes, Commits, MayLeave, at_rest};
-ghost use Rattle.station_core.specs.Told.{with_moves, with_messages};
 ghost use Rattle.station_engine.specs.Written.{with_changes, with_plan};
-ghost use Rattle.station_core.specs.Texts.{texts_in};
 
 use crate::replying::keep;
 use shipment_machine::{Change, Move, Plan};

@@ -1,10 +1,7 @@
 //! Known inputs, and storing new ones.
 ghost use Rattle.std.specs.Prelude.{◌≡◌, string_bytes, IfOk};
-ghost use Rattle.station_core.specs.Step.{repeated, key_answer, text_answer, kept_with};
-ghost use Rattle.std.specs.Option.{option_map};
+ghost use Rattle.station_engine.specs.Common.{repeated, key_answer, text_answer, kept_with, option_map, Changes, Reads, kept_of};
 ghost use Rattle.station_engine.specs.Serving.{IsRequestOf};
-ghost use Rattle.state_store.specs.Store.{Changes, Reads};
-ghost use Rattle.station_core.specs.Told.{kept_of};
 
 use desk_commands::command_text;
 use state_store::{StateStore, StoreFault};

@@ -1,13 +1,8 @@
 //! Limits on numbered rows.
 ghost use Rattle.std.specs.Prelude.{◌≡◌, ◌+◌, ◌&&◌, nat_le, List, ℕ, length};
-ghost use Rattle.std.specs.List.{filter};
+ghost use Rattle.station_engine.specs.Common.{filter, outcome_of, carried_out, has_room, sent, most_rows, sizes_of, texts_in};
 ghost use Rattle.shipment_machine.specs.Cargo.{Cargo as AnyCargo};
-ghost use Rattle.shipment_machine.specs.Agreement.{outcome_of};
-ghost use Rattle.shipment_machine.specs.Effect.{carried_out};
-ghost use Rattle.station_core.specs.Step.{has_room, sent, most_rows};
 ghost use Rattle.station_engine.specs.Room.{is_line};
-ghost use Rattle.station_core.specs.Told.{sizes_of};
-ghost use Rattle.station_core.specs.Texts.{texts_in};
 
 use shipment_machine::{Change, Plan};
 use station_core::Sizes;

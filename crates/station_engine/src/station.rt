@@ -1,10 +1,7 @@
 ghost use Rattle.std.specs.Prelude.{◌≡◌, true, false, Err, Option, IfOk, IfErr};
-ghost use Rattle.agent_stock.specs.Runs.{AreStockRuns};
-ghost use Rattle.station_core.specs.Keeping.{Acts, Breaks, FindsOnly, IfWorks, KeepsPremise, Leaves, Reads, Reopens};
-ghost use Rattle.station_core.specs.Readers.{AreAnnounced, AreExpectedBy, AreFlightRows, irregular_rows, shed_rows};
-ghost use Rattle.station_core.specs.Step.{State, IsLawfulState};
+ghost use Rattle.station_engine.specs.Common.{AreStockRuns, Acts, Breaks, FindsOnly, IfWorks, KeepsPremise, Leaves, Reopens, AreAnnounced, AreExpectedBy, AreFlightRows, irregular_rows, shed_rows, State, IsLawfulState, at_rest};
+ghost use Rattle.station_core.specs.Keeping.{Reads};
 ghost use Rattle.station_engine.specs.Found.{Finds, station_over};
-ghost use Rattle.state_store.specs.Store.{at_rest};
 
 use crate::acting::serve;
 use crate::replying::request_of;

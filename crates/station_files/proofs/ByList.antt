@@ -1,5 +1,6 @@
 -- What files hold by a list of their trees: found at an opening, left by a crash and by a close.
-use Rattle.station_files.proofs.Common.{AreDatabases, Bool, FileStore, Files, Ghosts, Held, HoldsByList, HoldsByListAlone, HoldsDatabase, HoldsPages, Image, IsCopiedByList, IsIgnored, IsOurs, LeavesByList, List, Names, Option, PageMap, Some, Trees, Wanted, adopts_of, arith, bytes_of, cases_eq, false, inl, inr, reading, recovers, refl, reserved, schema_in, size_by_file, size_by_log, size_in_file, size_is_allowed, state, stored_size, subst, sym, ℕ, ∥∥₁_elim, ∥∥₁_map, ◌≡◌, ◌≤◌}
+use Rattle.station_files.proofs.Common.{AreDatabases, Bool, FileStore, Files, Ghosts, Held, HoldsByList, HoldsDatabase, HoldsPages, HoldsShown, Image, IsCopiedAs, IsHeldAlone, IsIgnored, IsOurs, IsSound, LeavesAs, List, Names, Option, PageMap, Recovers, Some, Trees, Wanted, adopts_of, arith, bytes_of, cases_eq, false, file_state, file_trees, inl, inr, reading, recovers, refl, reserved, schema_in, size_by_file, size_by_log, size_in_file, size_is_allowed, state, stored_size, subst, sym, ℕ, ∥∥₁_elim, ∥∥₁_map, ◌≡◌, ◌≤◌}
+use Rattle.sqlite_schema.specs.declared.schema.Schema.{Schema}
 use Rattle.sqlite_wal.specs.Format.{be32}
 use Rattle.sqlite_wal.specs.declared.page_size.PageSize.{PageSize}
 use Rattle.sqlite.specs.Closing.{HoldsAlone, IsCopied}
@@ -37,38 +38,45 @@ by_list_of image db held = record {
   sound = held.2.sound;
 }
 
-alone_by_list : (image : Image) (db : Trees) → HoldsAlone image db → HoldsByListAlone image db
+alone_by_list : (image : Image) (db : Trees) → HoldsAlone image db → IsHeldAlone HoldsByList image db
 alone_by_list image db held = record { both = ∥∥₁_map held.both (λ h. by_list_of _ db h); alone = ∥∥₁_map held.alone (λ h. by_list_of _ db h) }
 
-module _ {D : Type 0} {g : Ghosts D} where
-  -- each image that a crash may leave holds one of the databases that the store allows
-  pub leaves : (it : FileStore D g) → AreDatabases (recovers it) → LeavesByList it
-  leaves it sound left may = ∥∥₁_elim it.safe squash₁ (λ all.
-      let found = all left may in
-      let db = reading it found.0 in
-      let allowed : recovers it db = (left, found.0, may, ∣ found.1 ∣₁, refl) in
-      let schema = sound db allowed in
-      ∥∥₁_elim (size_is_allowed it.pool) squash₁ (λ size. ∥∥₁_map found.2 (λ ours. let r : (x : Trees) × recovers it x × HoldsByList left x = (
-        db,
-        allowed,
-        record {
-          size = (state it).page_size;
-          valid = size;
-          pages = found.0;
-          wanted = schema_in it found.0;
-          schema = schema.0;
-          found = adopts_of _ left found.0 found.1;
-          ours = in_any_order ours;
-          reads = refl;
-          sound = schema.1;
-        },
-      ) in r)))
+-- what the library reads of files that were closed, their list reads
+pub copied_by_list : {D : Type 0} {g : Ghosts D} (c : Held (FileStore D g)) (files : Files D) → IsCopied c files → IsCopiedAs g HoldsByList (file_state c) files
+copied_by_list c files copied = record {
+  was_clean = copied.was_clean;
+  was_open = copied.was_open;
+  seen = alone_by_list _ _ copied.seen;
+  left = λ image may. alone_by_list image _ (copied.left image may);
+}
 
-  -- what the library reads of files that were closed, their list reads
-  pub copied_by_list : (c : Held (FileStore D g)) (files : Files D) → IsCopied c files → IsCopiedByList c files
-  copied_by_list c files copied = record {
-    was_clean = copied.was_clean;
-    was_open = copied.was_open;
-    seen = alone_by_list _ _ copied.seen;
-    left = λ image may. alone_by_list image _ (copied.left image may);
-  }
+module _ {D : Type 0} {g : Ghosts D} (shows : Trees → Trees) (it : FileStore D g) where
+  pub held_shown : {is_numbered : Bool} (left : Image) (pages : PageMap) (wanted : List Wanted) (db : Trees) → db ≡ shows (file_trees (state it).page_size wanted pages)
+      → Recovers (state it).page_size left pages → ∥ IsOurs (state it).page_size is_numbered wanted pages ∥₁ → (schema : Schema) × IsSound schema db → ∥ HoldsShown shows left db ∥₁
+  held_shown left pages wanted db reads found ours schema = ∥∥₁_elim (size_is_allowed it.pool) squash₁ (λ size. ∥∥₁_map ours (λ ours. let r : HoldsShown shows left db = record {
+    size = (state it).page_size;
+    valid = size;
+    pages = pages;
+    wanted = wanted;
+    schema = schema.0;
+    found = adopts_of _ left pages found;
+    ours = in_any_order ours;
+    reads = reads;
+    sound = schema.1;
+  } in r))
+
+  abbrev may_show : Trees → Type 0
+  may_show db = (whole : Trees) × recovers it whole × (db ≡ shows whole)
+
+  -- each image that a crash may leave holds one of the databases that the store allows
+  pub leaves_shown : AreDatabases may_show → LeavesAs it may_show (HoldsShown shows)
+  leaves_shown sound left may = ∥∥₁_elim it.safe squash₁ (λ all.
+      let found = all left may in
+      let db = shows (reading it found.0) in
+      let allowed : may_show db = (reading it found.0, (left, found.0, may, ∣ found.1 ∣₁, refl), refl) in
+      ∥∥₁_map (held_shown left found.0 (schema_in it found.0) db refl found.1 found.2 (sound db allowed)) (λ held. let r : (x : Trees) × may_show x × HoldsShown shows left x = (db, allowed, held) in r))
+
+pub leaves : {D : Type 0} {g : Ghosts D} (it : FileStore D g) → AreDatabases (recovers it) → LeavesAs it (recovers it) HoldsByList
+leaves it sound left may =
+    ∥∥₁_map (leaves_shown (λ trees. trees) it (λ db allowed. sound db (subst (recovers it) (sym allowed.2) allowed.1)) left may)
+    (λ found. let r : (x : Trees) × recovers it x × HoldsByList left x = (found.0, subst (recovers it) (sym found.1.2) found.1.1, found.2) in r)

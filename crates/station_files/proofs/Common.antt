@@ -25,7 +25,7 @@ pub use Rattle.sqlite_store.specs.Laws.{settled_at, shut_if_dirty_at, stays_at}
 pub use Rattle.sqlite_store.specs.Listed.{catalog_rows, is_listed, same_listing}
 pub use Rattle.sqlite_store.specs.Listing.{IsOurs, all_trees, file_trees, listed, listed_from, read_by, reals_if_present}
 pub use Rattle.sqlite_store.specs.Saved.{kept_schema}
-pub use Rattle.sqlite_store.specs.Unopened.{Opens, image, state_of, wanted_by}
+pub use Rattle.sqlite_store.specs.Unopened.{Opens, image, state_of}
 pub use Rattle.sqlite_store.specs.declared.catalog.Wanted.{Wanted}
 pub use Rattle.sqlite_store.specs.declared.store.FileStore.{FileStore}
 pub use Rattle.sqlite_trees.proofs.Doubt.{no_doubt}
@@ -47,18 +47,19 @@ pub use Rattle.sqlite_wal.specs.PageSize.{IsPageSize, Names, bytes_of, size_in_f
 pub use Rattle.sqlite_wal.specs.Reads.{AreClean, OnlyReads, are_clean}
 pub use Rattle.sqlite_wal.specs.Recovery.{AreWhole, Image, IsIgnored}
 pub use Rattle.station_files.specs.Beside.{AreBeside, is_known}
-pub use Rattle.station_files.specs.ByList.{HoldsByList, HoldsByListAlone, HoldsOwn, HoldsPages, IsCopiedByList, IsListedBy, LeavesByList}
-pub use Rattle.station_files.specs.Listed.{IsReadByList, IsUnopened}
+pub use Rattle.station_files.specs.ByList.{FindsBy, HoldsByList, HoldsOwn, HoldsPages, HoldsShown, IsCopiedAs, IsHeldAlone, IsListedBy, LeavesAs}
+pub use Rattle.station_files.specs.Connected.{recovers_own}
+pub use Rattle.station_files.specs.Listed.{IsReadBy, IsReadByList, IsUnopened}
 pub use Rattle.station_files.specs.Others.{AreCalls, MayShow, SameOthers, Shows, SparesOthers}
 pub use Rattle.station_files.specs.Own.{AreApart, AreLaidOut, AreLow, IsNumberOf, IsShown, own_reals, own_shapes, own_snapshot, own_trees, own_view, reals_by, renumbered, rows_from, shapes_by, shown_row}
-pub use Rattle.station_files.specs.OwnFiles.{FindsOwn, HoldsOwnAlone, IsReadByTheirs, LeavesOwn, may_leave_own}
+pub use Rattle.station_files.specs.OwnFiles.{FindsOwn, IsReadByTheirs}
 pub use Rattle.station_files.specs.OwnLaws.{GoBack, IsPast, all_past, id_below, kind_of, own_at, own_listed, own_ordered, own_past, own_values, value_at, value_past}
 pub use Rattle.station_files.specs.StationTrees.{ListsIndex, ListsStation, ListsTable, name_of}
 pub use Rattle.station_files.specs.declared.layout.Layout.{Layout}
 pub use Rattle.station_schema.specs.Schema.{station_schema}
 pub use Rattle.std.proofs.Common.{Bool, Equal, Err, Global, Greater, IfErr, IfSome, IsTrue, Less, List, None, Ok, OnOk, Option, Ordering, Result, Some, Vec, [], add-one, ap, append-nil, append_assoc, ap₂, arith, cond, drop, eq-eqb, eqb, eqb-true, false, find, get_or, if◌then◌else◌, inl, inr, is_eq, le-ltb, length, lt-ltb, ltb, ltb-false, ltb-true, map, nat_cmp, ne_eqb, not, option_map, pos, refl, rules, slice_get, slice_index, slice_index_or, subst, subst₂, suc, sym, take, true, true≢false, unwrap_or, w64, zero, ℕ, ℤ, ◌%◌, ◌&&◌, ◌++◌, ◌+◌, ◌-◌, ◌<◌, ◌||◌, ◌∙◌, ◌∷◌, ◌≡◌, ◌≢◌, ◌≤◌, ◌⊎◌}
 pub use Rattle.std.proofs.Math.Logic.{∥∥₁_elim, ∥∥₁_map}
-pub use Rattle.std.proofs.Math.Path.{fun_ext, subst₃}
+pub use Rattle.std.proofs.Math.Path.{fun_ext}
 pub use Rattle.std.proofs.Math.Seq.{drop-cons, take-length}
 pub use Rattle.std.proofs.lemmas.Bool.{and_parts, both_ways, cases_Bool, cases_eq, cond-true, or_cases}
 pub use Rattle.std.proofs.lemmas.Int.{ints, to_z-of_z}

@@ -37,14 +37,14 @@ module _ {D S : Type 0} (g : Ghosts D) (shown : trees.Ghosts S) (stays : (it : S
 
   -- what an opening found is what the list names
   listed_by : (files : Files D) (was : Held S) → (own_files g shown).finds objects files was → IsListedBy objects_taken (state shown was).committed.trees
-  listed_by files was finds = ap (λ (t : Trees). t catalog_tree) finds.0.reads ∙ catalog_rows finds.0.size (map wanted_of objects_taken) _
+  listed_by files was finds = ap (λ (t : Trees). t catalog_tree) finds.0.by.reads ∙ catalog_rows finds.0.by.size (map wanted_of objects_taken) _
 
   found_again : LeavesKnown shown (own_files g shown) objects conn → (files : Files D) (other : Held S) → (own_files g shown).finds objects files other
       → (db : Trees) → HoldsOwn (image_of g files) db → (state shown conn).may_leave db → (state shown conn).may_leave (state shown other).committed.trees
   found_again known files other finds db held may = subst (state shown conn).may_leave (sym (elim (known db may) [
     | inl whole ↦ absurd whole
     | inr (inl own) ↦ finds.0.holds_station (subst ListsStation all_taken lists) db held own
-    | inr (inr found) ↦ finds.0.holds_own db held (subst (IsListedBy objects_taken) (sym found.3) (listed_by found.0 found.1 found.2))
+    | inr (inr found) ↦ finds.0.by.holds_own db held (subst (IsListedBy objects_taken) (sym found.3) (listed_by found.0 found.1 found.2))
   ])) may
 
   pub own_leads_on : (end : Result (Files D) (FileStore D g)) → HasEnded (own_files g shown) conn end → (own_files g shown).was_true end → LeadsOn shown (own_files g shown) objects conn end

@@ -1,9 +1,10 @@
 -- No two entries of sqlite_schema have one name, so all lists of a file's trees say the same of a
 -- tree with a name.
-use Rattle.station_files.proofs.Common.{Absent, Blob, FrozenIndex, FrozenTable, Has, Index, Int, IsFile, IsSoundFile, List, None, Null, PageMap, Pageless, Real, Row, Shape, Some, Table, Text, Value, Wanted, [], and_parts, ap, arith, bytes, cases_Bool, cases_eq, catalog_tree, class, column, false, find, get_or, has_left, has_right, has_rowid, header_in, inl, inr, is_eq, is_listed, is_present, list_any, listed_from, map, nat_cmp, ne_eqb, not, number_in, pos, refl, row_for, rows_at, same_value, shape_at, shape_code, some_from, subst, suc, sym, true, trunks_of, unlocked, unwrap_or, value_cmp-Text, value_cmp-apart, version_tree, ℕ, ◌&&◌, ◌++◌, ◌+◌, ◌<◌, ◌∙◌, ◌∷◌, ◌≡◌, ◌≢◌, ◌⊎◌}
+use Rattle.station_files.proofs.Common.{Absent, Blob, Equal, FrozenIndex, FrozenTable, Greater, Has, Index, Int, IsFile, IsSoundFile, Less, List, None, Null, Ordering, PageMap, Pageless, Real, Row, Shape, Some, Table, Text, Value, Wanted, [], and_parts, ap, arith, bytes, cases_Bool, cases_eq, class, column, false, find, get_or, has_left, has_right, has_rowid, header_in, inl, inr, is_eq, is_present, list_any, listed_from, map, nat_cmp, not, number_in, pos, refl, row_for, rows_at, same_value, shape_at, shape_code, some_from, subst, suc, sym, true, trunks_of, unlocked, unwrap_or, value_cmp, value_cmp-Text, value_cmp-apart, value_cmp_total, ℕ, ◌&&◌, ◌++◌, ◌+◌, ◌<◌, ◌∙◌, ◌∷◌, ◌≡◌, ◌≢◌, ◌⊎◌}
 use Rattle.std.proofs.lemmas.Map.Text.{is_eq-slice_cmp}
 use Rattle.std.proofs.lemmas.Slice.Eq.{bytes_eq-Decides}
 use Rattle.std.specs.Char.{to_ascii_lowercase}
+use Rattle.std.specs.Ordering.{ordering_reverse}
 use Rattle.sqlite_btree.proofs.StoredLemmas.{stored_root_live}
 use Rattle.sqlite_btree.specs.Chain.{Layout}
 use Rattle.sqlite_pool.proofs.FileLemmas.{unlocked_lock, unlocked_other}
@@ -13,9 +14,8 @@ use Rattle.sqlite_pool.specs.File.{in_use}
 use Rattle.sqlite_pool.specs.FreeList.{times_free}
 use Rattle.sqlite_pool.specs.Header.{lock_page}
 use Rattle.sqlite_store.specs.Db.{roots_of, IsKept}
-use Rattle.sqlite_store.specs.Listing.{all_shapes}
 use Rattle.sqlite_trees.specs.Sound.{are_in_order, head_at, may_follow, same_name, Head}
-use Rattle.station_files.proofs.SameReading.{root_at, root_by}
+use Rattle.station_files.proofs.SameReading.{root_at, root_by, shape_is}
 
 -- a value that SQLite holds equal to a text or to NULL is the same
 
@@ -35,13 +35,6 @@ before_text (Real x) t h = absurd (unlike (Real x) (Text t) (λ e. omega (arith,
 before_text (Text s) t h = ap Text (same_text s t h)
 before_text (Blob b) t h = absurd (unlike (Blob b) (Text t) (λ e. omega (arith, e)) refl h)
 
-after_text : (v : Value) (t : List ℕ) → same_value (Text t) v ≡ true → v ≡ Text t
-after_text Null t h = absurd (unlike (Text t) Null (λ e. omega (arith, e)) refl h)
-after_text (Int n) t h = absurd (unlike (Text t) (Int n) (λ e. omega (arith, e)) refl h)
-after_text (Real x) t h = absurd (unlike (Text t) (Real x) (λ e. omega (arith, e)) refl h)
-after_text (Text s) t h = ap Text (sym (same_text t s h))
-after_text (Blob b) t h = absurd (unlike (Text t) (Blob b) (λ e. omega (arith, e)) refl h)
-
 before_null : (v : Value) → same_value v Null ≡ true → v ≡ Null
 before_null Null h = refl
 before_null (Int n) h = absurd (unlike (Int n) Null (λ e. omega (arith, e)) refl h)
@@ -49,19 +42,21 @@ before_null (Real x) h = absurd (unlike (Real x) Null (λ e. omega (arith, e)) r
 before_null (Text s) h = absurd (unlike (Text s) Null (λ e. omega (arith, e)) refl h)
 before_null (Blob b) h = absurd (unlike (Blob b) Null (λ e. omega (arith, e)) refl h)
 
-after_null : (v : Value) → same_value Null v ≡ true → v ≡ Null
-after_null Null h = refl
-after_null (Int n) h = absurd (unlike Null (Int n) (λ e. omega (arith, e)) refl h)
-after_null (Real x) h = absurd (unlike Null (Real x) (λ e. omega (arith, e)) refl h)
-after_null (Text s) h = absurd (unlike Null (Text s) (λ e. omega (arith, e)) refl h)
-after_null (Blob b) h = absurd (unlike Null (Blob b) (λ e. omega (arith, e)) refl h)
+turned : (a b : Value) → same_value a b ≡ true → same_value b a ≡ true
+turned a b h = go (value_cmp b a) (ap is_eq (sym (value_cmp_total.antisymm a b)) ∙ h)
+  where
+    go : (o : Ordering) → is_eq (ordering_reverse o) ≡ true → is_eq o ≡ true
+    go Less h = h
+    go Equal h = h
+    go Greater h = h
+
+word_is : (v word : Value) → IsWord word → same_value v word ≡ true → v ≡ word
+word_is v word (inl none) h = before_null v (subst (λ w. same_value v w ≡ true) none h) ∙ sym none
+word_is v word (inr (t, text)) h = before_text v t (subst (λ w. same_value v w ≡ true) text h) ∙ sym text
 
 -- what one entry is equal to
 through : (entry a b : Value) → IsWord a → same_value entry a ≡ true → same_value entry b ≡ true → b ≡ a
-through entry a b (inl none) p q =
-    let e = before_null entry (subst (λ v. same_value entry v ≡ true) none p) in after_null b (subst (λ v. same_value v b ≡ true) e q) ∙ sym none
-through entry a b (inr (t, text)) p q =
-    let e = before_text entry t (subst (λ v. same_value entry v ≡ true) text p) in after_text b t (subst (λ v. same_value v b ≡ true) e q) ∙ sym text
+through entry a b word p q = word_is b a word (turned a b (subst (λ v. same_value v b ≡ true) (word_is entry a word p) q))
 
 -- no two entries have one name
 
@@ -82,19 +77,18 @@ later_name earlier [] e r up there h = absurd h
 later_name earlier (x ∷ entries) e r up there (inl is) = rw is (other_name earlier (head_at 1 x) e (and_parts _ _ up).0 there)
 later_name earlier (x ∷ entries) e r up there (inr later) = later_name (earlier ++ head_at 1 x ∷ []) entries e r (and_parts _ _ up).1 (has_left earlier (head_at 1 x ∷ []) e there) later
 
+named_again : (earlier : List Head) (entries : List Row) (x f : Row) → are_in_order (earlier ++ head_at 1 x ∷ []) (map (head_at 1) entries) ≡ true → Has entries f → column x 2 ≡ column f 2 → ⊥
+named_again earlier entries x f up there name =
+    let other = later_name (earlier ++ head_at 1 x ∷ []) entries (head_at 1 x) f up (has_right earlier (head_at 1 x ∷ []) (head_at 1 x) (inl refl)) there in
+    let one : same_name (bytes (column f 2)) (bytes (column f 2)) ≡ false = subst (λ v. same_name (bytes v) (bytes (column f 2)) ≡ false) name other in
+    let self = same_itself (bytes (column f 2)) in
+    cc
+
 pub named_once : (earlier : List Head) (entries : List Row) (e f : Row) → are_in_order earlier (map (head_at 1) entries) ≡ true → Has entries e → Has entries f → column e 2 ≡ column f 2 → e ≡ f
 named_once earlier [] e f up h k same = absurd h
 named_once earlier (x ∷ entries) e f up (inl a) (inl b) same = a ∙ sym b
-named_once earlier (x ∷ entries) e f up (inl a) (inr b) same =
-    absurd (let other = later_name (earlier ++ head_at 1 x ∷ []) entries (head_at 1 x) f (and_parts _ _ up).1 (has_right earlier (head_at 1 x ∷ []) (head_at 1 x) (inl refl)) b in
-    let name : column x 2 ≡ column f 2 = sym (ap (λ (r : Row). column r 2) a) ∙ same in
-    let one : same_name (bytes (column f 2)) (bytes (column f 2)) ≡ false = subst (λ v. same_name (bytes v) (bytes (column f 2)) ≡ false) name other in
-    let self = same_itself (bytes (column f 2)) in cc)
-named_once earlier (x ∷ entries) e f up (inr a) (inl b) same =
-    absurd (let other = later_name (earlier ++ head_at 1 x ∷ []) entries (head_at 1 x) e (and_parts _ _ up).1 (has_right earlier (head_at 1 x ∷ []) (head_at 1 x) (inl refl)) a in
-    let name : column x 2 ≡ column e 2 = sym (ap (λ (r : Row). column r 2) b) ∙ sym same in
-    let one : same_name (bytes (column e 2)) (bytes (column e 2)) ≡ false = subst (λ v. same_name (bytes v) (bytes (column e 2)) ≡ false) name other in
-    let self = same_itself (bytes (column e 2)) in cc)
+named_once earlier (x ∷ entries) e f up (inl a) (inr b) same = absurd (named_again earlier entries x f (and_parts _ _ up).1 b (sym (ap (λ (r : Row). column r 2) a) ∙ same))
+named_once earlier (x ∷ entries) e f up (inr a) (inl b) same = absurd (named_again earlier entries x e (and_parts _ _ up).1 a (sym (ap (λ (r : Row). column r 2) b) ∙ sym same))
 named_once earlier (x ∷ entries) e f up (inr a) (inr b) same = named_once (earlier ++ head_at 1 x ∷ []) entries e f (and_parts _ _ up).1 a b same
 
 -- the entry of a tree with pages
@@ -146,16 +140,12 @@ module _ (size : ℕ) (ws : List Wanted) (pages : PageMap) (file : IsFile size w
   abbrev entries : List Row
   entries = rows_at size (in_use size pages) Table 1
 
-  shape_is : (t : ℕ) → t < 65536 → shape_code (shape_at ws t) ≡ number_in (column (row_for (listed_from 0 ws) t) 5)
-  unfolding all_shapes
-  shape_is t low = rw (ne_eqb t version_tree (omega (arith, low)), ne_eqb t catalog_tree (omega (arith, low))) at ((is_listed ws).shapes t (λ e. omega (arith, e, low)) (λ e. omega (arith, e, low)))
-
   pub entry_of : (t : ℕ) (r : Row) → t < 65536 → find (has_rowid (pos (t + 1))) (listed_from 0 ws) ≡ Some r → 0 < number_in (column r 5) → number_in (column r 5) < 3
       → Entry entries (column r 1) (column r 2) (column r 3) (column r 4)
   unfolding roots_of
   entry_of t r low found some few =
       let is : row_for (listed_from 0 ws) t ≡ r = ap (λ o. unwrap_or o []) found in
-      let code : shape_code (shape_at ws t) ≡ number_in (column r 5) = shape_is t low ∙ ap (λ (r : Row). number_in (column r 5)) is in
+      let code : shape_code (shape_at ws t) ≡ number_in (column r 5) = shape_is t (omega (arith, low)) (omega (arith, low)) ws ∙ ap (λ (r : Row). number_in (column r 5)) is in
       let db = file.db in
       let root = get_or (roots_of size ws (in_use size pages)) t 0 in
       let laid = live size (db.layouts (suc t)) (shape_at ws t) root (omega (arith, code, some)) (omega (arith, code, few)) (db.trees.kept (suc t)) in

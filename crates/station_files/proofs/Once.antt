@@ -89,6 +89,6 @@ holds_once size image mine db schema wanted pages found ours reads sound b =
 module _ {D : Type 0} {g : Ghosts D} (files : Files D) (objects : List Object) (it : FileStore D g) (schema : Schema) where
   pub held_by_list : IsReadByList files objects it → IsSound schema (view it).trees → (db : Trees) → HoldsDatabase (image_of g files) db → (view it).trees ≡ db
   held_by_list r sound db held =
-      let h = subst (λ n. HoldsIn n (image_of g files) db) (r.sized held.0 (pages_of (image_of g files) db held)) held.2 in
-      holds_once r.size (image_of g files) (view it).trees db schema (map wanted_of objects) (state it).committed r.found r.ours r.reads sound
-      (record { pages = h.pages; wanted = h.wanted; schema = h.schema; found = plain_adopts r.size (image_of g files) h.pages r.plain h.found; ours = h.ours; reads = h.reads; sound = h.sound })
+      let h = subst (λ n. HoldsIn n (image_of g files) db) (r.by.sized held.0 (pages_of (image_of g files) db held)) held.2 in
+      holds_once r.by.size (image_of g files) (view it).trees db schema (map wanted_of objects) (state it).committed r.by.found r.by.ours r.by.reads sound
+      (record { pages = h.pages; wanted = h.wanted; schema = h.schema; found = plain_adopts r.by.size (image_of g files) h.pages r.by.plain h.found; ours = h.ours; reads = h.reads; sound = h.sound })

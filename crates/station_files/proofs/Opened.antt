@@ -1,5 +1,10 @@
 -- Files that are opened behind a call that read them.
-use Rattle.station_files.proofs.Common.{BeginsWell, Files, Ghosts, Image, IsKept, IsTrue, IsUnopened, IsUnreadable, List, Object, Opens, PageMap, Recovers, RecoversAs, RecoversAs-from, adopts_of, ap, arith, bytes_of, carried, false, image, image_of, inl, inr, pair, plain_adopts, readable, state_of, stays_something, stored_size, stored_used, subst, subst₂, sym, ◌%◌, ◌∙◌, ◌≡◌, ◌≢◌}
+use Rattle.station_files.proofs.Common.{BeginsWell, Bool, FileStore, Files, Ghosts, Image, IsKept, IsOurs, IsReadBy, IsTrue, IsUnopened, IsUnreadable, List, Object, Opens, PageMap, Recovers, RecoversAs, RecoversAs-from, Row, SeenMayStay, Wanted, adopts_of, ap, ap₂, arith, bytes_of, carried, cond-true, false, file_trees, image, image_of, inl, inr, kept_schema, no_doubt, no_trees, pair, plain_adopts, readable, settled, state, state_of, stays_something, stored_size, stored_used, subst, subst₂, sym, view, ∥∥₁_map, ◌%◌, ◌∙◌, ◌≡◌, ◌≢◌}
+use Rattle.sqlite_pool.proofs.OpenLemmas.{Reopens-keeps}
+use Rattle.sqlite_store.proofs.OpenLemmas.{opens_after}
+use Rattle.sqlite_pool.specs.Stored.{Keeps}
+use Rattle.sqlite_store.specs.FileStore.{IsReady}
+use Rattle.sqlite_store.specs.Unopened.{IsCatalogOf}
 use Rattle.sqlite_store.specs.declared.store.open.Unopened.{Unopened}
 use Rattle.sqlite_wal.specs.State.{State}
 
@@ -45,3 +50,32 @@ module _ {D : Type 0} {g : Ghosts D} (files : Files D) (objects : List Object) (
           | inr same ↦ stays_something now start left (omega (arith, u.size.smallest, whole)) well (stands same) (λ bad. other (unread bad))
         ];
       }
+
+-- a store that was opened by a list of trees shows what the files recover to
+module _ {D : Type 0} {g : Ghosts D} (files : Files D) (objects : List Object) (fresh : Unopened D g) (u : IsUnopened files objects fresh) (it : FileStore D g) (ready : IsReady it)
+    (opens : Opens fresh (state it)) (found : Recovers (state_of fresh).page_size (image fresh) (state it).committed) (clean : IsTrue (state_of fresh).is_clean) (now : IsTrue (view it).is_clean) where
+  pub read_by_store : (is_numbered : Bool) (wanted : List Wanted) → kept_schema it.saved it.schema.items ≡ wanted
+      → (IsOurs (state it).page_size (view it).is_numbered (kept_schema it.saved it.schema.items) (state it).committed
+      → IsOurs (state it).page_size is_numbered (kept_schema it.saved it.schema.items) (state it).committed) → IsReadBy files is_numbered wanted it
+  read_by_store is_numbered wanted listing numbered =
+      let is_open = ready.is_open (no_doubt _ now) in
+      let sized : (state it).page_size ≡ bytes_of u.size = opens.size ∙ u.sized in
+      record {
+        honest = u.honest clean;
+        is_open = is_open;
+        size = bytes_of u.size;
+        plain = λ h. omega (arith, u.size.aligned, h);
+        found = subst₂ (λ n i. Recovers n i (state it).committed) u.sized u.seen found;
+        ours = ∥∥₁_map (it.stored is_open) (λ s. subst₂ (λ n x. IsOurs n is_numbered x (state it).committed) sized listing (numbered s.ours));
+        reads = ready.clean
+            ∙ cond-true _ (file_trees (state it).page_size (kept_schema it.saved it.schema.items) (state it).committed) no_trees now
+            ∙ ap₂ (λ n s. file_trees n s (state it).committed) sized listing;
+        sized = u.only clean;
+      }
+
+-- a call that only reads, after the catalogue was read, leaves what both found
+pub reads_on : {D : Type 0} {g : Ghosts D} → SeenMayStay g → (old mid : Unopened D g) (rows : List Row) (end : State) → Opens old (state_of mid) → IsCatalogOf old mid rows → Keeps (state_of mid) end
+    → Opens old end
+reads_on stays old mid rows end first cat keeps =
+    opens_after old (state_of mid) end first (settled mid.pool stays cat.shows.clean.is_open)
+    (subst (Recovers (state_of old).page_size (image old)) (sym cat.shows.committed) cat.found) (Reopens-keeps _ _ keeps)

@@ -1,7 +1,7 @@
 -- Each call of a store leaves the trees of other programs as they were.
 use Rattle.station_files.proofs.Common.{AreApart, AreCalls, Creates, Err, GoesBack, Has, IfErr, IsClean, IsFailure, IsQuiet, IsTrue, List, Marks, MayShow, Object, Ok, OnOk, Option, Releases, Result, Row, SameOthers, SetsTree, Shape, Shows, Snapshot, SparesOthers, StoreError, Trees, View, [], ap, arith, catalog_tree, false, get_or_default, has_at, has_either, has_front, inl, inr, length, newest, object_row, on_ok_weaker, put_row, refl, row_for, slice_index, slice_index_or, snapshot, subst, sym, take, take-append-drop, unwrap_or, version_tree, with_tree, ℕ, ◌-◌, ◌<◌, ◌∙◌, ◌∷◌, ◌≡◌, ◌≢◌}
 use Rattle.sqlite_trees.specs.declared.store.Store.{Ghosts}
-use Rattle.station_files.proofs.Owning.{last, other_found, with_other}
+use Rattle.station_files.proofs.Owning.{last, other_found, set_other}
 
 pub same_others : (numbers : List ℕ) (db : Trees) → SameOthers numbers db db
 same_others numbers db = record { rows = λ t other. refl; listed = λ t other. refl }
@@ -17,13 +17,13 @@ pub record ShowsOnly (numbers : List ℕ) (a b : View) : Type 0 where
 module _ {numbers : List ℕ} (apart : AreApart numbers) {t n : ℕ} (low : t < length numbers) (is : n ≡ slice_index numbers t) (trees : Trees) where
   edited : (es : List Row) → SameOthers numbers trees (with_tree trees n es)
   edited es = record {
-    rows = λ k other. with_other trees n es k (λ same. other.apart t low (sym is ∙ sym same));
-    listed = λ k other. ap (λ rows. row_for rows k) (with_other trees n es catalog_tree (λ same. absurd (omega (arith, apart.low t low, is, same))));
+    rows = λ k other. set_other trees n es k (λ same. other.apart t low (sym is ∙ sym same));
+    listed = λ k other. ap (λ rows. row_for rows k) (set_other trees n es catalog_tree (λ same. absurd (omega (arith, apart.low t low, is, same))));
   }
 
   made : (o : Object) → SameOthers numbers trees (with_tree (with_tree trees n []) catalog_tree (put_row (object_row n o) (trees catalog_tree)))
   made o = record {
-    rows = λ k other. with_other (with_tree trees n []) catalog_tree _ k other.unlisting ∙ (edited []).rows k other;
+    rows = λ k other. set_other (with_tree trees n []) catalog_tree _ k other.unlisting ∙ (edited []).rows k other;
     listed = λ k other. ap (λ (o : Option Row). unwrap_or o []) (other_found n o k (trees catalog_tree) (λ same. other.apart t low (sym is ∙ sym same)));
   }
 
@@ -56,7 +56,7 @@ module _ (numbers : List ℕ) (a b : View) where
   sets apart low is one = edits (edited apart low is a.trees _) one.sound one.is
 
   pub sets_version : {edit : List Row → List Row} → SetsTree a b version_tree edit → ShowsOnly numbers a b
-  sets_version one = edits (record { rows = λ k other. with_other a.trees version_tree _ k other.unversioned; listed = λ k other. refl }) one.sound one.is
+  sets_version one = edits (record { rows = λ k other. set_other a.trees version_tree _ k other.unversioned; listed = λ k other. refl }) one.sound one.is
 
   pub creates : AreApart numbers → {t n : ℕ} (o : Object) → t < length numbers → n ≡ slice_index numbers t → Creates a b n o → ShowsOnly numbers a b
   creates apart o low is one = edits (made apart low is a.trees o) one.sound one.is

@@ -11,7 +11,7 @@ module _ {D : Type 0} (g : Ghosts D) (stays : SeenMayStay g) where
   found_only : (files : Files D) (it : FileStore D g) → IsReadByTheirs files it → (db : Trees) → MayShow over_files it db → db ≡ (view it).trees
   found_only files it r db (inl (inl now)) = now.1
   found_only files it r db (inl (inr (on, m))) = absurd (subst (λ (ms : List Snapshot). Has ms m.0) r.fresh.unmarked m.1)
-  found_only files it r db (inr left) = settled_at it stays db r.is_open left ∙ sym r.fresh.clean
+  found_only files it r db (inr left) = settled_at it stays db r.by.is_open left ∙ sym r.fresh.clean
 
   pub files_stay : (own : trees.Ghosts (OwnTrees (FileStore D g) over_files))
       → ((old new : OwnTrees (FileStore D g) over_files) (tree : Option ℕ) → own.is_step old new tree
@@ -28,12 +28,12 @@ module _ {D : Type 0} (g : Ghosts D) (stays : SeenMayStay g) where
           was = was.0;
           db = whole;
           held = record {
-            size = r.size;
+            size = r.by.size;
             pages = (state first.store).committed;
             wanted = r.wanted;
-            found = adopts_of r.size _ _ r.found;
-            ours = r.ours;
-            reads = found_only files first.store r was.0 was.1 ∙ r.reads;
+            found = adopts_of r.by.size _ _ r.by.found;
+            ours = r.by.ours;
+            reads = found_only files first.store r was.0 was.1 ∙ r.by.reads;
           };
           holds = record {
             size = (state it).page_size;

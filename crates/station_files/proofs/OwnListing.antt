@@ -1,26 +1,23 @@
 -- Rows that list the trees that are asked for, one place at a time.
-use Rattle.station_files.proofs.Common.{Absent, Bool, FrozenIndex, FrozenTable, Index, Int, IsListed, List, None, Object, Option, Pageless, Row, Shape, Some, Table, [], ap, ap₂, arith, cases_Bool, column, cond, false, find, get_or, has_rowid, inl, inr, is_known, is_present, length, list_all, listed, listed_from, listing, ltb, ltb-false, ltb-true, map, number_in, option_map, pos, refl, rows_from, shape_code, shown_row, slice_get, suc, sym, take, true, unwrap_or, wanted_of, zero, ℕ, ℤ, ◌&&◌, ◌++◌, ◌+◌, ◌-◌, ◌<◌, ◌∙◌, ◌∷◌, ◌≡◌}
+use Rattle.std.proofs.lemmas.List.{get_or-take}
+use Rattle.station_files.proofs.SameReading.{listed_one}
+use Rattle.station_files.proofs.Common.{Int, IsListed, List, None, Null, Object, Option, Row, Shape, Some, Value, [], ap, ap₂, arith, cases_Bool, column, cond, find, get_or, has_rowid, inl, inr, is_eq, is_known, is_present, length, list_all, listed, listed_from, ltb, ltb-false, ltb-true, map, number_in, option_map, pos, refl, rows_from, shape_code, shown_row, slice_get, suc, sym, take, true, unwrap_or, value_cmp, wanted_of, zero, ℕ, ℤ, ◌&&◌, ◌++◌, ◌+◌, ◌-◌, ◌<◌, ◌∙◌, ◌∷◌, ◌≡◌}
 
--- the first five columns have the rowid
+-- the first five columns of a row
+pub column_taken : (row : Row) (at : ℕ) → at < 5 → column (take 5 row) at ≡ column row at
+column_taken row at low = get_or-take 5 row at Null low
+
 pub find_taken : (id : ℤ) (rows : List Row) → find (has_rowid id) (map (take 5) rows) ≡ option_map (take 5) (find (has_rowid id) rows)
 find_taken id [] = refl
-find_taken id (r ∷ rows) = go r (find_taken id rows)
-  where
-    go : (r : Row) → find (has_rowid id) (map (take 5) rows) ≡ option_map (take 5) (find (has_rowid id) rows)
-        → find (has_rowid id) (map (take 5) (r ∷ rows)) ≡ option_map (take 5) (find (has_rowid id) (r ∷ rows))
-    go [] rest = elim (cases_Bool (has_rowid id [])) [ inl is ↦ rw is refl | inr other ↦ rw other rest ]
-    go (v ∷ r) rest = elim (cases_Bool (has_rowid id (v ∷ r))) [ inl is ↦ rw is refl | inr other ↦ rw other rest ]
+find_taken id (r ∷ rows) =
+    let same : has_rowid id (take 5 r) ≡ has_rowid id r = ap (λ (v : Value). is_eq (value_cmp v (Int id))) (column_taken r 0 (omega arith)) in
+    elim (cases_Bool (has_rowid id r)) [ inl is ↦ rw (same, is) refl | inr other ↦ rw (same, other) (find_taken id rows) ]
 
 abbrev four : Row → Row
 four listed = column listed 1 ∷ column listed 2 ∷ column listed 3 ∷ column listed 4 ∷ []
 
-four_taken : (row : Row) → four (take 5 row) ≡ four row
-four_taken [] = refl
-four_taken (a ∷ []) = refl
-four_taken (a ∷ b ∷ []) = refl
-four_taken (a ∷ b ∷ c ∷ []) = refl
-four_taken (a ∷ b ∷ c ∷ d ∷ []) = refl
-four_taken (a ∷ b ∷ c ∷ d ∷ e ∷ row) = refl
+pub four_taken : (row : Row) → four (take 5 row) ≡ four row
+four_taken entry = rw (column_taken entry 1 (omega arith), column_taken entry 2 (omega arith), column_taken entry 3 (omega arith), column_taken entry 4 (omega arith)) refl
 
 abbrev described_as : ℕ → Row → ℕ → ℕ → Row
 described_as tree described code reals =
@@ -32,14 +29,6 @@ module _ (objects : List Row) (shape : ℕ → Shape) (reals : ℕ → ℕ) (all
       → shown_row tree (find (has_rowid (pos (number + 1))) objects) ≡ listed tree (wanted_of o) o.shape
   is_listed_there o row tree finds same there shaped typed = go (find (has_rowid (pos (number + 1))) objects) refl (sym (find_taken (pos (number + 1)) objects) ∙ finds)
     where
-      one : (s : Shape) → is_present s ≡ true → listing tree (wanted_of o).row s o.reals ∷ [] ≡ listed tree (wanted_of o) s
-      one Absent there = absurd (cc)
-      one Table there = refl
-      one (Index x) there = refl
-      one Pageless there = refl
-      one FrozenTable there = refl
-      one (FrozenIndex x) there = refl
-
       go : (found : Option Row) → find (has_rowid (pos (number + 1))) objects ≡ found → option_map (take 5) found ≡ Some row → shown_row tree found ≡ listed tree (wanted_of o) o.shape
       go None is never = absurd (cc)
       go (Some r) is taken =
@@ -51,7 +40,7 @@ module _ (objects : List Row) (shape : ℕ → Shape) (reals : ℕ → ℕ) (all
           let columns : number_in (column r 6) ≡ o.reals =
           ap (λ (x : Row). number_in (column x 6)) (sym listed_as) ∙ sym (all.columns number (omega arith) (omega arith)) ∙ typed in
           ap (λ (d : Row). described_as tree d (number_in (column r 5)) (number_in (column r 6)) ∷ []) described
-          ∙ ap₂ (λ c k. described_as tree (wanted_of o).row c k ∷ []) code columns ∙ one o.shape there
+          ∙ ap₂ (λ c k. described_as tree (wanted_of o).row c k ∷ []) code columns ∙ sym (listed_one tree (wanted_of o) o.shape there)
 
   pub is_missing_there : (tree : ℕ) → find (has_rowid (pos (number + 1))) (map (take 5) objects) ≡ None → shown_row tree (find (has_rowid (pos (number + 1))) objects) ≡ []
   is_missing_there tree none = go (find (has_rowid (pos (number + 1))) objects) (sym (find_taken (pos (number + 1)) objects) ∙ none)
@@ -77,27 +66,21 @@ all_placed rows made from (n ∷ numbers) [] same placed = absurd (omega arith)
 all_placed rows made from (n ∷ numbers) (o ∷ objects) same placed =
     let rest = all_placed rows made (from + 1) numbers objects (omega arith) (λ at tree p is within found. placed (suc at) tree p (omega arith) (omega arith) found) in
     let head = placed 0 from o (omega arith) (omega arith) refl in
-    go (ltb from made) refl head rest
-  where
-    go : (low : Bool) → ltb from made ≡ low → shown_row from (find (has_rowid (pos (n + 1))) rows) ≡ cond low (listed from (wanted_of o) o.shape) []
-        → rows_from (from + 1) numbers rows ≡ listed_from (from + 1) (map wanted_of (take (made - (from + 1)) objects))
-        → shown_row from (find (has_rowid (pos (n + 1))) rows) ++ rows_from (from + 1) numbers rows ≡ listed_from from (map wanted_of (take (made - from) (o ∷ objects)))
-    go true low first rest =
-        let here = ltb-true from made low in
-        let count : made - from ≡ suc (made - (from + 1)) = omega arith in
-        rw count (ap₂ (λ (xs ys : List Row). xs ++ ys) first rest)
-    go false high first rest =
-        let past = ltb-false from made high in
-        let none : made - from ≡ 0 = omega arith in
-        let later : made - (from + 1) ≡ 0 = omega arith in
-        rw none (ap₂ (λ (xs ys : List Row). xs ++ ys) first (rw later at rest))
+    let joins = λ (shown first : List Row) (later : List Row) (is : shown ≡ first) (more : rows_from (from + 1) numbers rows ≡ later). ap₂ (λ (xs ys : List Row). xs ++ ys) is more in
+    elim (cases_Bool (ltb from made)) [
+      | inl low ↦
+          let here = ltb-true from made low in
+          let count : made - from ≡ suc (made - (from + 1)) = omega arith in
+          rw count (joins _ _ _ (rw low at head) rest)
+      | inr high ↦
+          let past = ltb-false from made high in
+          let none : made - from ≡ 0 = omega arith in
+          let later : made - (from + 1) ≡ 0 = omega arith in
+          rw none (joins _ _ _ (rw high at head) (rw later at rest))
+    ]
 
 known_row : (objects : List Object) (numbers : List ℕ) (row : Row) → is_known objects numbers (take 5 row) ≡ is_known objects numbers row
-known_row objects numbers [] = refl
-known_row objects numbers (a ∷ []) = refl
-known_row objects numbers (a ∷ b ∷ []) = refl
-known_row objects numbers (a ∷ b ∷ c ∷ []) = refl
-known_row objects numbers (a ∷ b ∷ c ∷ d ∷ row) = refl
+known_row objects numbers entry = rw (column_taken entry 0 (omega arith), column_taken entry 2 (omega arith), column_taken entry 3 (omega arith)) refl
 
 pub known_taken : (objects : List Object) (numbers : List ℕ) (rows : List Row) → list_all (is_known objects numbers) (map (take 5) rows) ≡ list_all (is_known objects numbers) rows
 known_taken objects numbers [] = refl

@@ -1,7 +1,10 @@
 -- What a call does to the trees that are shown is what it does inside.
 use Rattle.station_files.proofs.Common.{Absent, AllByRecursion, AreApart, AreLaidOut, Bool, Commits, Creates, Equal, Err, GoBack, GoesBack, Greater, IfErr, Int, IsClean, IsFailure, IsListed, IsNumberOf, IsPast, IsRolledBack, IsShown, IsTrue, KeepsCommitted, Layout, Less, List, Marks, None, Object, Ok, OnOk, Option, Ordering, Releases, Result, Row, SetsTree, Shape, Snapshot, Some, StoreError, Table, Text, Trees, View, [], add-one, all_past, ap, append-nil, append_assoc, ap₂, arith, cases_Bool, cases_eq, catalog_tree, column, doubt, drop, drop-cons, eq-eqb, false, find, fun_ext, get_or, has_rowid, id_below, if◌then◌else◌, inl, inr, ints, is_eq, kind_of, length, length-map, ltb, ltb-false, ltb-true, map, map-append, ne_eqb, newest, object_row, option_map, own_at, own_past, own_reals, own_shapes, own_snapshot, own_trees, own_values, own_view, pos, put_row, reals_by, refl, renumbered, rowid, rows_from, set_at, shapes_by, shown_row, slice_index, slice_index_or, snapshot, subst, subst₂, suc, sym, take, take-map, true, value_at, value_cmp, value_cmp-Int, value_cmp_total, value_past, version_rows, version_tree, with_tree, zero, ℕ, ◌++◌, ◌+◌, ◌-◌, ◌<◌, ◌∙◌, ◌∷◌, ◌≡◌, ◌≢◌, ◌≤◌}
+use Rattle.std.proofs.Math.Seq.{take-append_seam}
 use Rattle.std.proofs.lemmas.Bool.Decides.{nat_tests}
-use Rattle.std.specs.Ordering.{match_ordering}
+use Rattle.std.proofs.lemmas.List.{drop_all, get_or-map, get_or_past, nil_from_length}
+use Rattle.std.specs.Ordering.{match_ordering, ordering_reverse}
+use Rattle.station_files.proofs.OwnListing.{column_taken, find_taken, four_taken}
 
 id_same : (a : ℕ) → value_cmp (Int (pos a)) (Int (pos a)) ≡ Equal
 id_same a = value_cmp-Int (pos a) (pos a) ∙ grind (arith, ints, nat_tests)
@@ -39,7 +42,7 @@ module _ (n : ℕ) (o : Object) where
 
   put_first : (rows : List Row) → AllByRecursion (IsPast (n + 1)) rows → put_row (object_row n o) rows ≡ object_row n o ∷ rows
   put_first [] h = refl
-  put_first (r ∷ rows) h = rw (h.0.1, id_above h.0.0 (n + 1) h.0.2) refl
+  put_first (r ∷ rows) h = rw (value_cmp_total.antisymm (rowid r) (Int (pos (n + 1))) ∙ ap ordering_reverse h.0) refl
 
   put_over : (found : Option Row) (rows : List Row) → AllByRecursion (IsPast (n + 1)) rows → put_row (object_row n o) (shown_row n found ++ rows) ≡ object_row n o ∷ rows
   put_over None rows h = put_first rows h
@@ -72,31 +75,14 @@ rows_put from (suc at) t o (m ∷ numbers) rows is low apart =
     (rows_put (from + 1) at t o numbers rows (omega arith) (omega arith) (λ s h e. let same = apart (suc s) (omega arith) e in omega arith))
     ∙ put_behind t o from (find (has_rowid (pos (m + 1))) rows) (rows_from (from + 1) numbers rows) (omega arith)
 
-with_same : (trees : Trees) (n : ℕ) (es : List Row) → with_tree trees n es n ≡ es
-with_same trees n es = rw (eq-eqb n n refl) refl
-
-pub with_other : (trees : Trees) (n : ℕ) (es : List Row) (k : ℕ) → k ≢ n → with_tree trees n es k ≡ trees k
-with_other trees n es k other = rw (ne_eqb k n other) refl
-
 set_same : {X : Type 0} (f : ℕ → X) (n : ℕ) (x : X) → set_at f n x n ≡ x
 set_same f n x = rw (eq-eqb n n refl) refl
 
-set_other : {X : Type 0} (f : ℕ → X) (n : ℕ) (x : X) (k : ℕ) → k ≢ n → set_at f n x k ≡ f k
+pub set_other : {X : Type 0} (f : ℕ → X) (n : ℕ) (x : X) (k : ℕ) → k ≢ n → set_at f n x k ≡ f k
 set_other f n x k other = rw (ne_eqb k n other) refl
 
 no_marks : {X Y : Type 0} (f : X → Y) (xs : List X) → map f xs ≡ [] → xs ≡ []
-no_marks f [] none = refl
-no_marks f (x ∷ xs) none = absurd (cc)
-
-pub get_mapped : {X Y : Type 0} (f : X → Y) (xs : List X) (at : ℕ) (d : Y) (e : X) → at < length xs → get_or (map f xs) at d ≡ f (get_or xs at e)
-get_mapped f [] at d e low = absurd (omega arith)
-get_mapped f (x ∷ xs) zero d e low = refl
-get_mapped f (x ∷ xs) (suc at) d e low = get_mapped f xs at d e (omega arith)
-
-past_map : {X Y : Type 0} (f : X → Y) (xs : List X) (t : ℕ) (d : Y) → length xs ≤ t → get_or (map f xs) t d ≡ d
-past_map f [] t d h = refl
-past_map f (x ∷ xs) zero d h = absurd (omega arith)
-past_map f (x ∷ xs) (suc t) d h = past_map f xs t d (omega arith)
+no_marks f xs none = nil_from_length xs (sym (length-map xs f) ∙ ap length none)
 
 -- the shapes or the REAL columns
 module _ {X : Type 0} (none first : X) (numbers : List ℕ) (few : length numbers < 65536) where
@@ -108,10 +94,10 @@ module _ {X : Type 0} (none first : X) (numbers : List ℕ) (few : length number
     | inl is ↦ rw (eq-eqb t version_tree is) refl
     | inr (inl is) ↦ rw is refl
     | inr (inr (inl here)) ↦
-        value_at none first numbers f t few here ∙ sym (each t d here) ∙ sym (get_mapped of layouts t none d (omega arith))
+        value_at none first numbers f t few here ∙ sym (each t d here) ∙ sym (get_or-map of layouts t d none (omega arith))
         ∙ rw (ne_eqb t version_tree (omega arith), ne_eqb t catalog_tree (omega arith)) refl
     | inr (inr (inr past)) ↦
-        value_past none first numbers f t past ∙ sym (past_map of layouts t none (omega (arith, past.high)))
+        value_past none first numbers f t past ∙ sym (get_or_past (map of layouts) t none (omega (arith, length-map layouts of, past.high)))
         ∙ rw (ne_eqb t version_tree past.other, ne_eqb t catalog_tree past.apart) refl
   ])
 
@@ -154,22 +140,22 @@ module _ (numbers : List ℕ) (apart : AreApart numbers) where
     | inl is ↦ subst (λ x. own_trees numbers (with_tree trees version_tree es) x ≡ with_tree (own_trees numbers trees) version_tree es x) (sym is) refl
     | inr other ↦
         trees_agree (with_tree trees version_tree es) trees k (λ e. absurd (other e)) (λ _. refl)
-        (λ h. let small = apart.low k h in with_other trees version_tree es (slice_index numbers k) (λ e. absurd (omega arith)))
-        ∙ sym (with_other (own_trees numbers trees) version_tree es k other)
+        (λ h. let small = apart.low k h in set_other trees version_tree es (slice_index numbers k) (λ e. absurd (omega arith)))
+        ∙ sym (set_other (own_trees numbers trees) version_tree es k other)
   ])
 
   module _ (t : ℕ) (here : t < length numbers) where
     own_edit : (trees : Trees) (es : List Row) → own_trees numbers (with_tree trees (slice_index numbers t) es) ≡ with_tree (own_trees numbers trees) t es
     own_edit trees es = fun_ext (λ k. elim (cases_eq k t) [
       | inl is ↦ subst (λ x. own_trees numbers (with_tree trees (slice_index numbers t) es) x ≡ with_tree (own_trees numbers trees) t es x) (sym is)
-          (own_at numbers (with_tree trees (slice_index numbers t) es) t apart.few here ∙ with_same trees (slice_index numbers t) es ∙ sym (with_same (own_trees numbers trees) t es))
+          (own_at numbers (with_tree trees (slice_index numbers t) es) t apart.few here ∙ set_same trees (slice_index numbers t) es ∙ sym (set_same (own_trees numbers trees) t es))
       | inr other ↦
           let small = apart.low t here in
           let few = apart.few in
-          trees_agree (with_tree trees (slice_index numbers t) es) trees k (λ _. with_other trees (slice_index numbers t) es version_tree (λ e. absurd (omega arith)))
-          (λ _. with_other trees (slice_index numbers t) es catalog_tree (λ e. absurd (omega arith)))
-          (λ h. with_other trees (slice_index numbers t) es (slice_index numbers k) (λ e. other (apart.apart k t h here e)))
-          ∙ sym (with_other (own_trees numbers trees) t es k other)
+          trees_agree (with_tree trees (slice_index numbers t) es) trees k (λ _. set_other trees (slice_index numbers t) es version_tree (λ e. absurd (omega arith)))
+          (λ _. set_other trees (slice_index numbers t) es catalog_tree (λ e. absurd (omega arith)))
+          (λ h. set_other trees (slice_index numbers t) es (slice_index numbers k) (λ e. other (apart.apart k t h here e)))
+          ∙ sym (set_other (own_trees numbers trees) t es k other)
     ])
 
     tree_made : (o : Object) (trees : Trees)
@@ -184,9 +170,9 @@ module _ (numbers : List ℕ) (apart : AreApart numbers) where
               (rows_put 0 t t o numbers (trees catalog_tree) (omega arith) here (λ s h e. apart.apart s t h here e))
           | inr other ↦
               trees_agree (with_tree empty catalog_tree es) empty k (λ _. refl) (λ e. absurd (other e))
-              (λ h. let small = apart.low k h in with_other empty catalog_tree es (slice_index numbers k) (λ e. absurd (omega arith)))
+              (λ h. let small = apart.low k h in set_other empty catalog_tree es (slice_index numbers k) (λ e. absurd (omega arith)))
               ∙ ap (λ (trees : Trees). trees k) (own_edit trees [])
-              ∙ sym (with_other (with_tree (own_trees numbers trees) t []) catalog_tree (put_row (object_row t o) (own_trees numbers trees catalog_tree)) k other)
+              ∙ sym (set_other (with_tree (own_trees numbers trees) t []) catalog_tree (put_row (object_row t o) (own_trees numbers trees catalog_tree)) k other)
         ])
 
 pub last : {X : Type 0} (xs : List X) → xs ≢ [] → length xs - 1 < length xs
@@ -347,7 +333,7 @@ module _ {numbers : List ℕ} {layouts before : List Layout} {makes : Bool} {a :
         (λ clean. let k = back.kept clean in record { shape = back.committed_shape; reals = back.committed_reals; numbered = back.numbered; was_open = k.was_open; committed = k.committed })
 
   newest_own : a.marks ≢ [] → newest (own a) ≡ own_snapshot numbers (newest a)
-  newest_own some = rw length-map (get_mapped (own_snapshot numbers) a.marks (length a.marks - 1) (snapshot (own a)) (snapshot a) (last a.marks some))
+  newest_own some = rw length-map (get_or-map (own_snapshot numbers) a.marks (length a.marks - 1) (snapshot a) (snapshot (own a)) (last a.marks some))
 
   -- what going back to the newest mark does
   module _ {new : List Layout} (b : View) (falls : doubt a.is_clean ≤ doubt b.is_clean) (laid : AreLaidOut numbers new b.shape b.reals) where
@@ -391,40 +377,22 @@ module _ (numbers : List ℕ) (layouts before : List Layout) (a b : View) where
         ∙ ap (λ (trees : Trees). record (own_view numbers layouts before a) { trees = trees; cursors = b.cursors }) (own_version numbers apart a.trees (version_rows version));
   }
 
--- a tree's row among the first five columns
-find_taken : (id : ℕ) (rows : List Row) → find (has_rowid (pos id)) (map (take 5) rows) ≡ option_map (take 5) (find (has_rowid (pos id)) rows)
-find_taken id [] = refl
-find_taken id ([] ∷ rows) = elim (cases_Bool (has_rowid (pos id) [])) [ inl is ↦ rw is refl | inr other ↦ rw other (find_taken id rows) ]
-find_taken id ((v ∷ r) ∷ rows) = elim (cases_Bool (has_rowid (pos id) (v ∷ r))) [ inl is ↦ rw is refl | inr other ↦ rw other (find_taken id rows) ]
-
 taken_row : (t : ℕ) (r : Row) → take 5 (renumbered t (take 5 r)) ≡ take 5 (renumbered t r)
-taken_row t [] = refl
-taken_row t (a ∷ []) = refl
-taken_row t (a ∷ b ∷ []) = refl
-taken_row t (a ∷ b ∷ c ∷ []) = refl
-taken_row t (a ∷ b ∷ c ∷ d ∷ []) = refl
-taken_row t (a ∷ b ∷ c ∷ d ∷ e ∷ r) = refl
+taken_row t r = ap (λ (x : Row). Int (pos (t + 1)) ∷ x) (four_taken r)
 
-pub no_row : (t n : ℕ) (rows all : List Row) → rows ≡ map (take 5) all → find (has_rowid (pos (n + 1))) rows ≡ None → map (take 5) (rows_from t (n ∷ []) all) ≡ []
-no_row t n rows all is none = go (find (has_rowid (pos (n + 1))) all) (sym (find_taken (n + 1) all) ∙ ap (find (has_rowid (pos (n + 1)))) (sym is) ∙ none)
+-- the row of one number is found among the first five columns
+pub row_taken : (t n : ℕ) (rows all : List Row) → rows ≡ map (take 5) all
+    → map (take 5) (rows_from t (n ∷ []) all) ≡ map (take 5) (shown_row t (find (has_rowid (pos (n + 1))) rows))
+row_taken t n rows all is =
+    go (find (has_rowid (pos (n + 1))) all)
+    ∙ ap (λ (o : Option Row). map (take 5) (shown_row t o)) (sym (ap (find (has_rowid (pos (n + 1)))) is ∙ find_taken (pos (n + 1)) all))
   where
-    go : (o : Option Row) → option_map (take 5) o ≡ None → map (take 5) (shown_row t o ++ []) ≡ []
-    go None e = refl
-    go (Some r) e = absurd (cc)
-
-pub one_row : (t n : ℕ) (rows all : List Row) (row : Row) → rows ≡ map (take 5) all → find (has_rowid (pos (n + 1))) rows ≡ Some row → map (take 5) (rows_from t (n ∷ []) all) ≡ take 5 (renumbered t row) ∷ []
-one_row t n rows all row is some = go (find (has_rowid (pos (n + 1))) all) (sym (find_taken (n + 1) all) ∙ ap (find (has_rowid (pos (n + 1)))) (sym is) ∙ some)
-  where
-    go : (o : Option Row) → option_map (take 5) o ≡ Some row → map (take 5) (shown_row t o ++ []) ≡ take 5 (renumbered t row) ∷ []
-    go None e = absurd (cc)
-    go (Some r) e = let same : row ≡ take 5 r = cc in ap (λ (x : Row). x ∷ []) (sym (taken_row t r) ∙ ap (λ (x : Row). take 5 (renumbered t x)) (sym same))
+    go : (o : Option Row) → map (take 5) (shown_row t o ++ []) ≡ map (take 5) (shown_row t (option_map (take 5) o))
+    go None = refl
+    go (Some r) = ap (λ (x : Row). x ∷ []) (sym (taken_row t r))
 
 rows_apart : (from : ℕ) (n : ℕ) (numbers : List ℕ) (all : List Row) → rows_from from (n ∷ numbers) all ≡ rows_from from (n ∷ []) all ++ rows_from (from + 1) numbers all
-rows_apart from n numbers all = go (find (has_rowid (pos (n + 1))) all)
-  where
-    go : (o : Option Row) → shown_row from o ++ rows_from (from + 1) numbers all ≡ (shown_row from o ++ []) ++ rows_from (from + 1) numbers all
-    go None = refl
-    go (Some r) = refl
+rows_apart from n numbers all = sym (append_assoc (shown_row from (find (has_rowid (pos (n + 1))) all)) [] (rows_from (from + 1) numbers all))
 
 -- one more number has been looked up
 pub more_rows : (t : ℕ) (numbers : List ℕ) (all own new whole : List Row) → t < length numbers → own ++ map (take 5) (rows_from t (drop t numbers) all) ≡ whole
@@ -442,25 +410,12 @@ more_rows t numbers all own new whole low before is =
 
 pub all_unnamed : (name : List ℕ) (rows : List Row) → AllByRecursion (λ r. column r 2 ≢ Text name) (map (take 5) rows) → AllByRecursion (λ r. column r 2 ≢ Text name) rows
 all_unnamed name [] all = tt
-all_unnamed name ([] ∷ rows) all = (all.0, all_unnamed name rows all.1)
-all_unnamed name ((a ∷ []) ∷ rows) all = (all.0, all_unnamed name rows all.1)
-all_unnamed name ((a ∷ b ∷ []) ∷ rows) all = (all.0, all_unnamed name rows all.1)
-all_unnamed name ((a ∷ b ∷ c ∷ r) ∷ rows) all = (all.0, all_unnamed name rows all.1)
-
-none_left : (t : ℕ) (numbers : List ℕ) → length numbers ≤ t → drop t numbers ≡ []
-none_left zero [] all = refl
-none_left (suc t) [] all = refl
-none_left zero (n ∷ numbers) all = absurd (omega arith)
-none_left (suc t) (n ∷ numbers) all = none_left t numbers (omega arith)
+all_unnamed name (r ∷ rows) all = (λ e. all.0 (column_taken r 2 (omega arith) ∙ e), all_unnamed name rows all.1)
 
 pub all_rows : (t : ℕ) (numbers : List ℕ) (all own whole : List Row) → length numbers ≤ t → own ++ map (take 5) (rows_from t (drop t numbers) all) ≡ whole → own ≡ whole
 all_rows t numbers all own whole past is =
-    sym (append-nil own) ∙ ap (λ (ns : List ℕ). own ++ map (take 5) (rows_from t ns all)) (sym (none_left t numbers past)) ∙ is
+    sym (append-nil own) ∙ ap (λ (ns : List ℕ). own ++ map (take 5) (rows_from t ns all)) (sym (drop_all t numbers past)) ∙ is
 
 -- a vector all of whose elements were written
 pub written_back : {X : Type 0} (xs ys : List X) (n : ℕ) → length xs ≡ length ys → n ≡ length ys → take n (xs ++ drop (length xs) ys) ≡ xs
-written_back [] [] n e is = let none : n ≡ 0 = omega arith in rw none refl
-written_back [] (y ∷ ys) n e is = absurd (omega arith)
-written_back (x ∷ xs) [] n e is = absurd (omega arith)
-written_back (x ∷ xs) (y ∷ ys) zero e is = absurd (omega arith)
-written_back (x ∷ xs) (y ∷ ys) (suc n) e is = ap (λ l. x ∷ l) (written_back xs ys n (omega arith) (omega arith))
+written_back xs ys n e is = let same : n ≡ length xs = omega arith in rw same (take-append_seam xs (drop (length xs) ys))

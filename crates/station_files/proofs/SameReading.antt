@@ -1,5 +1,5 @@
 -- Two lists with the same rows read the same pages alike, whatever the order of trees in the pages.
-use Rattle.station_files.proofs.Common.{Absent, FrozenIndex, FrozenTable, Index, List, PageMap, Pageless, Row, Shape, Table, Value, Wanted, [], ap, arith, cases_eq, catalog_tree, column, cond, eq-eqb, file_trees, fun_ext, get_or, in_use, inl, inr, is_present, le-ltb, listed, listed_from, lt-ltb, map, ne_eqb, page_number, pos, reals_at, reals_if_present, refl, root_in, row_for, rows_at, same_listing, same_value, shape_at, shown, suc, sym, thawed, true, value_cmp-Int, version_tree, zero, ℕ, ◌&&◌, ◌++◌, ◌+◌, ◌∙◌, ◌∷◌, ◌≡◌}
+use Rattle.station_files.proofs.Common.{Absent, FrozenIndex, FrozenTable, Index, List, PageMap, Pageless, Row, Shape, Table, Value, Wanted, [], ap, arith, cases_Bool, cases_eq, catalog_tree, column, cond, eq-eqb, false, file_trees, fun_ext, get_or, in_use, inl, inr, is_listed, is_present, le-ltb, listed, listed_from, listing, lt-ltb, map, ne_eqb, number_in, page_number, pos, reals_at, reals_if_present, refl, root_in, row_for, rows_at, same_listing, same_value, shape_at, shape_code, shown, suc, sym, thawed, true, value_cmp-Int, version_tree, zero, ℕ, ◌&&◌, ◌+◌, ◌∙◌, ◌∷◌, ◌≡◌, ◌≢◌}
 use Rattle.sqlite_store.specs.Catalog.{describes, is_about}
 use Rattle.sqlite_store.specs.Db.{roots_of, trees_in}
 use Rattle.sqlite_store.specs.Listing.{all_reals, all_shapes, all_trees}
@@ -20,29 +20,42 @@ unfolding describes is_about
 same_root w present [] = refl
 same_root w present (entry ∷ entries) = rw (present, same_root w present entries)
 
+-- a tree that is there has one row in a list, and another has none
+pub listed_is : (tree : ℕ) (w : Wanted) (s : Shape) → listed tree w s ≡ cond (is_present s) (listing tree w.row s w.reals ∷ []) []
+listed_is tree w Absent = refl
+listed_is tree w Table = refl
+listed_is tree w (Index o) = refl
+listed_is tree w Pageless = refl
+listed_is tree w FrozenTable = refl
+listed_is tree w (FrozenIndex o) = refl
+
+pub listed_one : (tree : ℕ) (w : Wanted) (s : Shape) → is_present s ≡ true → listed tree w s ≡ listing tree w.row s w.reals ∷ []
+listed_one tree w s there = listed_is tree w s ∙ ap (λ is. cond is (listing tree w.row s w.reals ∷ []) []) there
+
+pub listed_none : (tree : ℕ) (w : Wanted) (s : Shape) → is_present s ≡ false → listed tree w s ≡ []
+listed_none tree w s none = listed_is tree w s ∙ ap (λ is. cond is (listing tree w.row s w.reals ∷ []) []) none
+
 module _ (entries : List Row) where
   pub root_at : (from : ℕ) (schema : List Wanted) (at t : ℕ) → t ≡ from + at → is_present (shape_at schema at) ≡ true → get_or (map (root_in entries) schema) at 0 ≡ root_of_row entries (row_for (listed_from from schema) t)
   root_at from [] at t is present = absurd (cc)
-  root_at from (w ∷ schema) zero t is present = let same : t ≡ from = omega arith in rw same (go w.shape present (same_root w present entries))
-    where
-      go : (shape : Shape) → is_present shape ≡ true → root_in entries w ≡ root_by entries (column (w.row) 0) (column (w.row) 1) (column (w.row) 2) (column (w.row) 3)
-          → root_in entries w ≡ root_of_row entries (row_for (listed from w shape ++ listed_from (from + 1) schema) from)
-      go Absent there root = absurd (cc)
-      go Table there root = rw (value_cmp-Int (pos (from + 1)) (pos (from + 1)), le-ltb (from + 1) (from + 1) (omega arith)) root
-      go (Index o) there root = rw (value_cmp-Int (pos (from + 1)) (pos (from + 1)), le-ltb (from + 1) (from + 1) (omega arith)) root
-      go Pageless there root = rw (value_cmp-Int (pos (from + 1)) (pos (from + 1)), le-ltb (from + 1) (from + 1) (omega arith)) root
-      go FrozenTable there root = rw (value_cmp-Int (pos (from + 1)) (pos (from + 1)), le-ltb (from + 1) (from + 1) (omega arith)) root
-      go (FrozenIndex o) there root = rw (value_cmp-Int (pos (from + 1)) (pos (from + 1)), le-ltb (from + 1) (from + 1) (omega arith)) root
-  root_at from (w ∷ schema) (suc at) t is present = go w.shape (root_at (from + 1) schema at t (omega arith) present)
-    where
-      go : (shape : Shape) → get_or (map (root_in entries) schema) at 0 ≡ root_of_row entries (row_for (listed_from (from + 1) schema) t)
-          → get_or (map (root_in entries) schema) at 0 ≡ root_of_row entries (row_for (listed from w shape ++ listed_from (from + 1) schema) t)
-      go Absent rest = rest
-      go Table rest = rw (value_cmp-Int (pos (from + 1)) (pos (t + 1)), lt-ltb (from + 1) (t + 1) (omega arith)) rest
-      go (Index o) rest = rw (value_cmp-Int (pos (from + 1)) (pos (t + 1)), lt-ltb (from + 1) (t + 1) (omega arith)) rest
-      go Pageless rest = rw (value_cmp-Int (pos (from + 1)) (pos (t + 1)), lt-ltb (from + 1) (t + 1) (omega arith)) rest
-      go FrozenTable rest = rw (value_cmp-Int (pos (from + 1)) (pos (t + 1)), lt-ltb (from + 1) (t + 1) (omega arith)) rest
-      go (FrozenIndex o) rest = rw (value_cmp-Int (pos (from + 1)) (pos (t + 1)), lt-ltb (from + 1) (t + 1) (omega arith)) rest
+  root_at from (w ∷ schema) zero t is present =
+      let same : t ≡ from = omega arith in
+      let there : is_present w.shape ≡ true = present in
+      rw (same, listed_one from w w.shape there, value_cmp-Int (pos (from + 1)) (pos (from + 1)), le-ltb (from + 1) (from + 1) (omega arith)) (same_root w there entries)
+  root_at from (w ∷ schema) (suc at) t is present = let rest = root_at (from + 1) schema at t (omega arith) present in elim (cases_Bool (is_present w.shape)) [
+    | inl there ↦ rw (listed_one from w w.shape there, value_cmp-Int (pos (from + 1)) (pos (t + 1)), lt-ltb (from + 1) (t + 1) (omega arith)) rest
+    | inr none ↦ rw (listed_none from w w.shape none) rest
+  ]
+
+-- a tree's row has the code of its shape, and its REAL columns
+module _ (t : ℕ) (apart : t ≢ version_tree) (other : t ≢ catalog_tree) (schema : List Wanted) where
+  pub shape_is : shape_code (shape_at schema t) ≡ number_in (column (row_for (listed_from 0 schema) t) 5)
+  unfolding all_shapes
+  shape_is = rw (ne_eqb t version_tree apart, ne_eqb t catalog_tree other) at ((is_listed schema).shapes t other apart)
+
+  pub reals_are : reals_if_present (shape_at schema t) (reals_at schema t) ≡ number_in (column (row_for (listed_from 0 schema) t) 6)
+  unfolding all_reals
+  reals_are = rw (ne_eqb t version_tree apart, ne_eqb t catalog_tree other) at ((is_listed schema).columns t other apart)
 
 module _ (size : ℕ) (pages : PageMap) where
   one_tree : (shape : Shape) (p q x y : ℕ) → reals_if_present shape p ≡ reals_if_present shape q → (is_present shape ≡ true → x ≡ y)

@@ -1,11 +1,12 @@
 -- The rows that list some trees of a store, one by one; and those of a database of a station.
-use Rattle.station_files.proofs.Common.{Bool, Has, Int, IsIndexRow, IsTableRow, IsViewRow, List, Lists, ListsIndex, ListsStation, ListsTable, None, Object, Option, Row, Shape, Some, Text, [], all_has, and_parts, ap, ap₂, arith, cases_eq, column, eqb, eqb-true, find, get_or, has_either, has_filtered, has_kept, has_left, has_right, has_rowid, index_reals, inl, inr, is_index_row, is_table_row, is_view_row, length, list_all, list_any, listed, listed_from, listing, map, name_of, number_in, option_map, or_cases, pos, refl, renumbered, rowid, rows_from, shape_code, shown_row, slice_get, some_has, station_schema, subst, suc, sym, table_reals, test_has, text_or_null, true, unwrap_or, wanted_of, zero, ℕ, ◌&&◌, ◌++◌, ◌+◌, ◌<◌, ◌||◌, ◌∙◌, ◌∷◌, ◌≡◌}
+use Rattle.station_files.proofs.Common.{Bool, Has, Int, IsIndexRow, IsTableRow, IsViewRow, List, Lists, ListsIndex, ListsStation, ListsTable, None, Object, Option, Row, Shape, Some, Text, [], all_has, and_parts, ap, ap₂, arith, cases_Bool, cases_eq, column, eqb, eqb-true, find, get_or, has_either, has_filtered, has_kept, has_left, has_right, has_rowid, index_reals, inl, inr, is_index_row, is_present, is_table_row, is_view_row, length, list_all, list_any, listed, listed_from, listing, map, name_of, number_in, option_map, or_cases, pos, refl, renumbered, rowid, rows_from, shape_code, shown_row, slice_get, some_has, station_schema, subst, suc, sym, table_reals, test_has, text_or_null, true, unwrap_or, wanted_of, zero, ℕ, ◌&&◌, ◌++◌, ◌+◌, ◌<◌, ◌||◌, ◌∙◌, ◌∷◌, ◌≡◌}
 use Rattle.std.specs.Borrow.{Bor}
 use Rattle.sqlite_catalog.proofs.LayoutLemmas.{row_kind, zipped_left, zipped_right}
 use Rattle.sqlite_schema.specs.declared.schema.Index.{Index}
 use Rattle.sqlite_schema.specs.declared.schema.Table.{Table}
 use Rattle.sqlite_trees.specs.declared.store.Shape.TheVariants as shape
 use Rattle.station_files.proofs.EntryNames.{IsWord, IsWorded}
+use Rattle.station_files.proofs.SameReading.{listed_none, listed_one}
 
 -- the row that is shown at a place
 abbrev pub row_at : ℕ → List ℕ → List Row → ℕ → Option Row
@@ -83,7 +84,7 @@ pub record IsNamed (t : ℕ) (name : List ℕ × ℕ × ℕ) (r : Row) : Type 0 
 pub listed_within : (from : ℕ) (objects : List Object) (row : Row) → Has (listed_from from (map wanted_of objects)) row → (at : ℕ) × (at < length objects) × (rowid row ≡ Int (pos (from + at + 1)))
 listed_within from [] row h = absurd h
 listed_within from (o ∷ objects) row h = elim (has_either (listed from (wanted_of o) o.shape) _ row h) [
-  | inl here ↦ (0, omega arith, go o.shape here)
+  | inl here ↦ (0, omega arith, go here)
   | inr later ↦
       let r = listed_within (from + 1) objects row later in
       let same : from + 1 + r.0 + 1 ≡ from + suc r.0 + 1 = omega arith in
@@ -93,18 +94,11 @@ listed_within from (o ∷ objects) row h = elim (has_either (listed from (wanted
     first : from + 1 ≡ from + 0 + 1
     first = omega arith
 
-    go : (s : Shape) → Has (listed from (wanted_of o) s) row → rowid row ≡ Int (pos (from + 0 + 1))
-    go shape.Absent there = absurd there
-    go shape.Table (inl is) = rw is (ap (λ n. Int (pos n)) first)
-    go shape.Table (inr never) = absurd never
-    go (shape.Index k) (inl is) = rw is (ap (λ n. Int (pos n)) first)
-    go (shape.Index k) (inr never) = absurd never
-    go shape.Pageless (inl is) = rw is (ap (λ n. Int (pos n)) first)
-    go shape.Pageless (inr never) = absurd never
-    go shape.FrozenTable (inl is) = rw is (ap (λ n. Int (pos n)) first)
-    go shape.FrozenTable (inr never) = absurd never
-    go (shape.FrozenIndex k) (inl is) = rw is (ap (λ n. Int (pos n)) first)
-    go (shape.FrozenIndex k) (inr never) = absurd never
+    go : Has (listed from (wanted_of o) o.shape) row → rowid row ≡ Int (pos (from + 0 + 1))
+    go there = elim (cases_Bool (is_present o.shape)) [
+      | inl one ↦ elim (subst (λ rows. Has rows row) (listed_one from (wanted_of o) o.shape one) there) [ inl is ↦ rw is (ap (λ n. Int (pos n)) first) | inr never ↦ absurd never ]
+      | inr none ↦ absurd (subst (λ rows. Has rows row) (listed_none from (wanted_of o) o.shape none) there)
+    ]
 
 worded : (sql : Option (Bor (List ℕ))) → IsWord (text_or_null sql)
 worded None = inl refl

@@ -1,23 +1,12 @@
 -- The two files behind a store, as contracts see them.
 use Rattle.std.specs.Prelude.{◌≡◌, ◌⊎◌, IsTrue, Result, Ok, Err, IfErr, IfOk, List, length}
-use Rattle.sqlite.specs.Closing.{IsCopied}
-use Rattle.sqlite.specs.Files.{file_state, image_of, Finds, IsClosed}
-use Rattle.sqlite.specs.Held.{state, Held}
-use Rattle.sqlite.specs.State.{HasCleanDisk, IsLive}
-use Rattle.sqlite_disk.specs.declared.Disk.{Ghosts}
-use Rattle.sqlite_disk.specs.declared.Files.{Files}
+use Rattle.station_files.specs.Common.{IsCopied, file_state, image_of, Finds, IsClosed, Held, over_files, HasCleanDisk, IsLive, Ghosts, Files, FileStore, Trees, IsClean, Object, outcomes, AreClean, Image, IsOwn}
+use Rattle.sqlite.specs.Held.{state}
 use Rattle.sqlite_store.specs.FileStore as store
-use Rattle.sqlite_store.specs.declared.store.FileStore.{FileStore}
-use Rattle.sqlite_trees.specs.Tree.{Trees}
-use Rattle.sqlite_trees.specs.View.{IsClean}
-use Rattle.sqlite_trees.specs.declared.schema.Object.{Object}
 use Rattle.sqlite_trees.specs.declared.store.Store as trees
-use Rattle.sqlite_wal.specs.Files.{outcomes}
-use Rattle.sqlite_wal.specs.Reads.{AreClean}
-use Rattle.sqlite_wal.specs.Recovery.{Image}
-use Rattle.station_schema.specs.Own.{IsOwn}
-use Rattle.station_files.specs.ByList.{IsCopiedByList}
-use Rattle.station_files.specs.OwnFiles.{FindsOwn, IsClosedOwn, IsCopiedOwn}
+use Rattle.station_files.specs.ByList.{HoldsByList, HoldsOwn, IsCopiedAs}
+use Rattle.station_files.specs.Connected.{IsClosedOwn}
+use Rattle.station_files.specs.OwnFiles.{FindsOwn}
 use Rattle.station_files.specs.StationTrees.{ListsStation}
 
 -- What a contract sees of the files behind a connection `C`. It ends with the closed files `F`, or
@@ -85,7 +74,7 @@ module _ {D : Type 0} (g : Ghosts D) where
   abbrev pub whole_files : Backing (Held (FileStore D g)) (Files D) (FileStore D g)
   whole_files = record {
     was_true = was_true_files;
-    copied = λ conn files. IsCopied conn files × IsCopiedByList conn files;
+    copied = λ conn files. IsCopied conn files × IsCopiedAs g HoldsByList (file_state conn) files;
     left = λ conn it. IsClosed conn it;
     numbered = λ it. IsTrue (store.view it).is_numbered;
     may_hold = λ end files. may_hold_image end (image_of g files);
@@ -98,8 +87,8 @@ module _ {D : Type 0} (g : Ghosts D) where
   abbrev pub own_files : {S : Type 0} → trees.Ghosts S → Backing (Held S) (Files D) (FileStore D g)
   own_files shown = record {
     was_true = was_true_files;
-    copied = λ conn files. IsCopiedOwn g (state shown conn) files;
-    left = λ conn it. IsClosedOwn (state shown conn) it;
+    copied = λ conn files. IsCopiedAs g HoldsOwn (state shown conn) files;
+    left = λ conn it. IsClosedOwn over_files (state shown conn) it;
     numbered = λ _. Unit {0};
     may_hold = λ end files. may_hold_image end (image_of g files);
     finds = λ objects files conn. FindsOwn g files objects (length objects) (state shown conn)

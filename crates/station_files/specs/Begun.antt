@@ -1,18 +1,6 @@
 -- A database started in two files.
 use Rattle.std.specs.Prelude.{◌⊎◌, ℕ, IsTrue}
-use Rattle.sqlite_disk.specs.declared.Disk.{Ghosts}
-use Rattle.sqlite_disk.specs.declared.Files.{Files}
-use Rattle.sqlite_wal.specs.Files.{outcomes}
-use Rattle.sqlite_wal.specs.Reads.{AreClean}
-use Rattle.sqlite_wal.specs.Recovery.{Image}
-use Rattle.sqlite_pool.specs.Opening.{IsBlankFile}
-use Rattle.sqlite_trees.specs.Tree.{Trees}
-use Rattle.sqlite_store.specs.declared.store.FileStore.{FileStore}
-use Rattle.sqlite_store.specs.FileStore.{recovers, view}
-use Rattle.sqlite_store.specs.Unopened.{state_of}
-use Rattle.sqlite.specs.Steps.{IsFresh}
-use Rattle.sqlite.specs.Files.{image_of, HoldsDatabase, IsEmpty}
-use Rattle.sqlite.specs.declared.file.Leftover.{Leftover}
+use Rattle.station_files.specs.Common.{Ghosts, Files, outcomes, AreClean, Image, IsBlankFile, Trees, FileStore, recovers, view, state_of, IsFresh, image_of, HoldsDatabase, IsEmpty, Leftover}
 use Rattle.sqlite.specs.declared.file.Leftover.TheVariants as left
 
 -- no database with pages of this size yet, or one without tables and rows

@@ -1,12 +1,6 @@
 -- Trees of other programs besides those of a list.
 use Rattle.std.specs.Prelude.{◌≡◌, ℕ, ◌+◌, pos, Bool, true, not, ◌||◌, List, map, take}
-use Rattle.std.specs.List.{list_all, list_any}
-use Rattle.sqlite_value.specs.Order.{Row, column, bytes}
-use Rattle.sqlite_trees.specs.Sound.{same_name}
-use Rattle.sqlite_trees.specs.Tree.{has_rowid}
-use Rattle.sqlite_trees.specs.declared.schema.Object.{Object}
-use Rattle.sqlite_store.specs.Catalog.{wanted_of}
-use Rattle.sqlite_store.specs.Listing.{listed_from}
+use Rattle.station_files.specs.Common.{list_all, list_any, Row, column, bytes, same_name, has_rowid, Object, wanted_of, listed_from}
 use Rattle.station_files.specs.Own.{rows_from}
 
 abbrev pub is_one_of : List ℕ → Row → Bool

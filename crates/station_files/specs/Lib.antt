@@ -1,3 +1,4 @@
+pub mod Common
 pub mod Backing
 pub mod Begun
 pub mod Beside

@@ -1,9 +1,6 @@
 -- The trees of other programs in a store of which some trees are shown.
 use Rattle.std.specs.Prelude.{◌≡◌, ◌≢◌, ◌⊎◌, ◌<◌, ℕ, false, IsTrue, List, [], ◌∷◌, length, slice_index, Option}
-use Rattle.sqlite_rules.specs.Lists.{Has}
-use Rattle.sqlite_trees.specs.Objects.{catalog_tree, row_for, version_tree}
-use Rattle.sqlite_trees.specs.Tree.{Trees}
-use Rattle.sqlite_trees.specs.View.{Snapshot, View, IsClean}
+use Rattle.station_files.specs.Common.{Has, catalog_tree, row_for, version_tree, Trees, Snapshot, View, IsClean}
 use Rattle.sqlite_trees.specs.declared.store.Store.{Ghosts}
 
 -- a tree that has none of these numbers, and is neither the list of all trees nor the version

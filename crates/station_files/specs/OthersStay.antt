@@ -1,18 +1,7 @@
 -- Files in which the trees of other programs stay as they were at an opening.
 use Rattle.std.specs.Prelude.{◌≡◌, ℕ, false, List, Option}
-use Rattle.sqlite_disk.specs.declared.Disk.{Ghosts}
-use Rattle.sqlite_disk.specs.declared.Files.{Files}
-use Rattle.sqlite_wal.specs.Recovery.{Image}
-use Rattle.sqlite_pages.specs.PageMap.{PageMap}
-use Rattle.sqlite_pool.specs.Stored.{Adopts}
-use Rattle.sqlite_store.specs.FileStore.{faults, is_shielded, recovers, state, view}
-use Rattle.sqlite_store.specs.Listing.{file_trees, IsOurs}
-use Rattle.sqlite_store.specs.declared.catalog.Wanted.{Wanted}
-use Rattle.sqlite_store.specs.declared.store.FileStore.{FileStore}
-use Rattle.sqlite_trees.specs.Tree.{Trees}
-use Rattle.sqlite_trees.specs.View.{IsClean, IsQuiet}
+use Rattle.station_files.specs.Common.{Ghosts, Files, Image, PageMap, Adopts, faults, is_shielded, recovers, state, view, file_trees, IsOurs, Wanted, FileStore, Trees, IsClean, IsQuiet, image_of, over_files}
 use Rattle.sqlite_trees.specs.declared.store.Store as trees
-use Rattle.sqlite.specs.Files.{image_of, over_files}
 use Rattle.station_files.specs.declared.own_trees.OwnTrees.{OwnTrees}
 use Rattle.station_files.specs.Others.{AreCalls, SameOthers}
 use Rattle.station_files.specs.OwnFiles.{IsReadByTheirs}

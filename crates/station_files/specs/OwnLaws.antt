@@ -4,17 +4,9 @@ use Rattle.std.proofs.Math.Path.{fun_ext}
 use Rattle.std.proofs.lemmas.Bool.{cases_eq, cases_Bool}
 use Rattle.std.proofs.lemmas.Bool.Decides.{nat_tests}
 use Rattle.std.proofs.lemmas.Int.{ints}
-use Rattle.std.specs.List.{AllByRecursion}
-use Rattle.sqlite_value.specs.declared.value.Value.TheVariants.{Int}
-use Rattle.sqlite_value.specs.Order.{Row, column, value_cmp}
+use Rattle.station_files.specs.Common.{AllByRecursion, Int, Row, column, value_cmp, listed_once, catalog_tree, version_tree, number_in, row_for, set_at, shape_code, IsListed, Trees, no_trees, rowid, has_rowid, View, IsClean, IsOrdered, IsShaped, Shape, Absent, Table}
 use Rattle.sqlite_value.proofs.OrderLemmas.{value_cmp-Int}
-use Rattle.sqlite_trees.specs.Listing.{listed_once}
-use Rattle.sqlite_trees.specs.Objects.{catalog_tree, version_tree, number_in, row_for, set_at, shape_code, IsListed}
-use Rattle.sqlite_trees.specs.Tree.{Trees, no_trees, rowid, has_rowid}
-use Rattle.sqlite_trees.specs.View.{View, IsClean, IsOrdered, IsShaped}
 use Rattle.sqlite_trees.proofs.Doubt.{no_doubt}
-use Rattle.sqlite_trees.specs.declared.store.Shape.{Shape}
-use Rattle.sqlite_trees.specs.declared.store.Shape.TheVariants.{Absent, Table}
 use Rattle.station_files.specs.Own.{own_trees, own_shapes, own_reals, reals_by, renumbered, rows_from, shapes_by, shown_row, AreLaidOut, AreLow, IsShown}
 use Rattle.station_files.specs.declared.layout.Layout.{Layout}
 use Rattle.station_files.specs.OwnRows.{found_own, found_none}
@@ -73,7 +65,7 @@ pub id_below : (a b : ℕ) → a < b → value_cmp (Int (pos a)) (Int (pos b)) �
 id_below a b h = value_cmp-Int (pos a) (pos b) ∙ grind (arith, ints, nat_tests)
 
 abbrev pub IsPast : ℕ → Row → Type 0
-IsPast k r = (n : ℕ) × (rowid r ≡ Int (pos n)) × (k < n)
+IsPast k r = value_cmp (Int (pos k)) (rowid r) ≡ Less
 
 pub all_past : (from k : ℕ) (numbers : List ℕ) (rows : List Row) → k ≤ from → AllByRecursion (IsPast k) (rows_from from numbers rows)
 all_past from k [] rows h = tt
@@ -81,11 +73,7 @@ all_past from k (n ∷ numbers) rows h = go (find (has_rowid (pos (n + 1))) rows
   where
     go : (o : Option Row) → AllByRecursion (IsPast k) (rows_from (from + 1) numbers rows) → AllByRecursion (IsPast k) (shown_row from o ++ rows_from (from + 1) numbers rows)
     go None rest = rest
-    go (Some row) rest = ((from + 1, refl, omega arith), rest)
-
-all_above : (k : ℕ) (rows : List Row) → AllByRecursion (IsPast k) rows → AllByRecursion (λ r. value_cmp (Int (pos k)) (rowid r) ≡ Less) rows
-all_above k [] h = tt
-all_above k (r ∷ rows) h = (rw h.0.1 (id_below k h.0.0 h.0.2), all_above k rows h.1)
+    go (Some row) rest = (id_below k (from + 1) (omega arith), rest)
 
 pub rows_are_ordered : (from : ℕ) (numbers : List ℕ) (rows : List Row) → IsShaped Table (rows_from from numbers rows)
 rows_are_ordered from [] rows = (tt, tt)
@@ -93,7 +81,7 @@ rows_are_ordered from (n ∷ numbers) rows = go (find (has_rowid (pos (n + 1))) 
   where
     go : (o : Option Row) → IsShaped Table (rows_from (from + 1) numbers rows) → IsShaped Table (shown_row from o ++ rows_from (from + 1) numbers rows)
     go None rest = rest
-    go (Some row) rest = ((all_above (from + 1) _ (all_past (from + 1) (from + 1) numbers rows (omega arith)), rest.0), (refl, rest.1))
+    go (Some row) rest = ((all_past (from + 1) (from + 1) numbers rows (omega arith), rest.0), (refl, rest.1))
 
 -- what a row says of its tree it says under the new number
 module _ (numbers : List ℕ) (few : length numbers < 65536) (rows : List Row) {X : Type 0} (f : Row → X) (t : ℕ) where

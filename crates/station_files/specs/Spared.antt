@@ -1,18 +1,6 @@
 -- The two files after an opening that gave up.
 use Rattle.std.specs.Prelude.{◌≡◌, ℕ, List}
-use Rattle.sqlite_disk.specs.declared.Disk.{Ghosts}
-use Rattle.sqlite_disk.specs.declared.Files.{Files}
-use Rattle.sqlite_wal.specs.Recovery.{Image}
-use Rattle.sqlite_wal.specs.Files.{outcomes}
-use Rattle.sqlite_pages.specs.PageMap.{PageMap}
-use Rattle.sqlite_pool.specs.Stored.{Recovers}
-use Rattle.sqlite_trees.specs.Tree.{Trees}
-use Rattle.sqlite_trees.specs.declared.schema.Object.{Object}
-use Rattle.sqlite_store.specs.FileStore.{recovers}
-use Rattle.sqlite_store.specs.Listing.{read_by}
-use Rattle.sqlite_store.specs.Unopened.{state_of}
-use Rattle.sqlite.specs.Files.{image_of, IsKept}
-use Rattle.sqlite.specs.declared.file.Leftover.{Leftover}
+use Rattle.station_files.specs.Common.{Ghosts, Files, Image, outcomes, PageMap, Recovers, Trees, Object, recovers, read_by, state_of, image_of, IsKept, Leftover}
 use Rattle.sqlite.specs.declared.file.Leftover.TheVariants as left
 
 module _ {D : Type 0} {g : Ghosts D} where

@@ -1,11 +1,7 @@
 -- A list of the trees of a station.
 use Rattle.std.specs.Prelude.{◌≡◌, ℕ, ◌+◌, List, length, map, slice_get, Some}
-use Rattle.std.specs.List.{AllByRecursion}
+use Rattle.station_files.specs.Common.{AllByRecursion, Index, shape_code, Object, station_schema}
 use Rattle.sqlite.specs.Table.{Table}
-use Rattle.sqlite_schema.specs.declared.schema.Index.{Index}
-use Rattle.sqlite_trees.specs.Objects.{shape_code}
-use Rattle.sqlite_trees.specs.declared.schema.Object.{Object}
-use Rattle.station_schema.specs.Schema.{station_schema}
 
 -- the name of an object, the code of its shape, and its REAL columns
 abbrev pub name_of : Object → List ℕ × ℕ × ℕ

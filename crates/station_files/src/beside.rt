@@ -1,19 +1,11 @@
 //! Files with trees of other programs besides those of a list.
-ghost use Rattle.std.specs.Prelude.{◌≡◌, ◌⊎◌, ◌<◌, ◌≤◌, false, ℕ, List, length, slice_index, take, IsTrue, IfErr, IfOk, IfSome};
-ghost use Rattle.sqlite_pages.specs.PageMap.{PageMap};
-ghost use Rattle.sqlite_pool.specs.Stored.{Recovers};
-ghost use Rattle.sqlite_store.specs.FileStore.{state as store_state, view, is_shielded, IsReady};
-ghost use Rattle.sqlite_store.specs.Unopened.{image, state_of, AreUsable, Opens};
-ghost use Rattle.sqlite_trees.specs.Objects.{catalog_tree};
-ghost use Rattle.sqlite_trees.specs.Tree.{Trees};
-ghost use Rattle.sqlite_trees.specs.View.{doubt, IsClean};
-ghost use Rattle.sqlite_wal.specs.State.{IsShielded};
-ghost use Rattle.sqlite.specs.Files.{IsCleanLeft};
-ghost use Rattle.sqlite.specs.Held.{state, IsNew};
-ghost use Rattle.sqlite.specs.State.{HasCleanDisk, IsLive, Opens as IsAtRest};
-ghost use Rattle.sqlite.specs.Steps.{IsFresh};
+ghost use Rattle.std.specs.Prelude.{◌≡◌, ◌⊎◌, ◌<◌, ◌≤◌, false, ℕ, List, length, take, IsTrue, IfErr, IfOk, IfSome};
+ghost use Rattle.station_files.specs.Common.{PageMap, Recovers, view, is_shielded, IsReady, image, state_of, AreUsable, Opens, catalog_tree, Trees, doubt, IsClean, IsShielded, IsCleanLeft, IsNew, HasCleanDisk, IsLive, IsFresh};
+ghost use Rattle.sqlite_store.specs.FileStore.{state as store_state};
+ghost use Rattle.sqlite.specs.Held.{state};
+ghost use Rattle.sqlite.specs.State.{Opens as IsAtRest};
 ghost use Rattle.station_files.specs.Beside.{AreBeside};
-ghost use Rattle.station_files.specs.Own.{as_numbered, own_trees};
+ghost use Rattle.station_files.specs.Own.{as_numbered, own_trees, AreLow};
 ghost use Rattle.station_files.specs.OwnFiles.{FindsOwn, IsReadByTheirs, SparesOwn};
 
 use crate::opening::unopened;
@@ -197,8 +189,7 @@ fn connect_own<S: Alter + Drop>(
         → (state ⟦<OwnTrees<S> as Store>⟧ c).now.trees
         ≡ own_trees numbers.items (S.Store.view store).trees) }
     ensures few { IfOk result (λ _. length numbers.items < 65536) }
-    ensures low { IfOk result (λ _. (t : ℕ) → t < length numbers.items
-        → slice_index numbers.items t < 65536) }
+    ensures low { IfOk result (λ _. AreLow numbers.items) }
     ensures beside { IfOk result (λ c. HasCleanDisk (state ⟦<OwnTrees<S> as Store>⟧ c)
         → AreBeside objects.now made numbers.items ((S.Store.view store).trees catalog_tree)) }
     ensures sums { IfOk result (λ c. HasCleanDisk (state ⟦<OwnTrees<S> as Store>⟧ c)
@@ -209,8 +200,7 @@ fn connect_own<S: Alter + Drop>(
     ensures left { IfErr result (λ left. IsClean (S.Store.view left) → (db : Trees)
         → S.Store.recovers left db → S.Store.recovers store db ⊎ ((kept : List ℕ) × (whole : Trees)
         × S.Store.recovers store whole × (own_trees kept db ≡ own_trees numbers.items whole)
-        × (length numbers.items < 65536)
-        × ((t : ℕ) → t < length numbers.items → slice_index numbers.items t < 65536)
+        × (length numbers.items < 65536) × AreLow numbers.items
         × AreBeside objects.now made numbers.items ((S.Store.view store).trees catalog_tree))) }
 {
     if !are_beside(alloc, &store, objects, made, numbers.as_slice()) {

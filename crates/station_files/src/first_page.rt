@@ -1,9 +1,6 @@
 //! The start of two files before recovery. Nothing is written.
 ghost use Rattle.std.specs.Prelude.{◌≡◌, ℕ, IsTrue, IfSome};
-ghost use Rattle.sqlite_wal.specs.PageSize.{bytes_of};
-ghost use Rattle.sqlite_wal.specs.Reads.{AreClean, OnlyReads};
-ghost use Rattle.sqlite_pool.specs.Stored.{stored_size};
-ghost use Rattle.sqlite.specs.Files.{image_of, BeginsWell};
+ghost use Rattle.station_files.specs.Common.{bytes_of, AreClean, OnlyReads, stored_size, image_of, BeginsWell};
 ghost use Rattle.station_files.specs.ByList.{HoldsPages};
 
 use sqlite_disk::{Disk, Files};

@@ -1,5 +1,5 @@
 //! Laws about stores in files whose trees are read by a list, or only partly shown.
-ghost use Rattle.station_schema.specs.Own.{LiesInOrder};
+ghost use Rattle.station_files.specs.Common.{LiesInOrder};
 ghost use Rattle.station_files.specs.Backing.{own_files, whole_files, EndsLeadOn};
 ghost use Rattle.station_files.specs.ByList.{LeaveByList};
 ghost use Rattle.station_files.specs.OthersStay.{CallsSpareOthers};

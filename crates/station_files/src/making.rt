@@ -1,12 +1,6 @@
 //! Starting a database in two empty files.
 ghost use Rattle.std.specs.Prelude.{◌≡◌, ◌↔◌, false, IsTrue, IfErr, IfOk, IfSome};
-ghost use Rattle.sqlite_wal.specs.PageSize.{bytes_of};
-ghost use Rattle.sqlite_wal.specs.Reads.{AreClean, OnlyReads};
-ghost use Rattle.sqlite_pool.specs.Opening.{IsBlankFile};
-ghost use Rattle.sqlite_store.specs.FileStore.{view, is_shielded};
-ghost use Rattle.sqlite.specs.State.{HasCleanDisk};
-ghost use Rattle.sqlite.specs.Held.{IsNew};
-ghost use Rattle.sqlite.specs.Files.{file_state, image_of, IsCleanLeft, IsEmpty, IsOpened};
+ghost use Rattle.station_files.specs.Common.{bytes_of, AreClean, OnlyReads, IsBlankFile, view, is_shielded, HasCleanDisk, IsNew, file_state, image_of, IsCleanLeft, IsEmpty, IsOpened};
 ghost use Rattle.station_files.specs.Begun.{IsBegun, LeavesUnstarted};
 
 use crate::opening::{connect, with_list};

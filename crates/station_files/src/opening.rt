@@ -1,18 +1,8 @@
 //! Opening files by a list of their trees.
 ghost use Rattle.std.specs.Prelude.{◌≡◌, false, IsTrue, IfErr, IfOk};
-ghost use Rattle.sqlite_wal.specs.Files.{outcomes};
-ghost use Rattle.sqlite_wal.specs.PageSize.{bytes_of};
-ghost use Rattle.sqlite_wal.specs.Recovery.{Image};
-ghost use Rattle.sqlite_store.specs.FileStore.{view, is_shielded};
-ghost use Rattle.sqlite_store.specs.Unopened.{files_of, state_of, wanted_by};
-ghost use Rattle.sqlite_store.specs.Catalog.{Describes};
-ghost use Rattle.sqlite.specs.State.{HasCleanDisk};
-ghost use Rattle.sqlite_trees.specs.View.{IsClean};
-ghost use Rattle.sqlite.specs.Held.{IsNew};
-ghost use Rattle.sqlite.specs.Steps.{IsFresh};
-ghost use Rattle.sqlite.specs.Files.{file_state, Finds, IsCleanLeft, IsOpened};
+ghost use Rattle.station_files.specs.Common.{outcomes, bytes_of, Image, faults, recovers, view, is_shielded, files_of, state_of, wanted_by, Describes, HasCleanDisk, IsClean, IsNew, IsFresh, IsQuiet, file_state, Finds, IsCleanLeft, IsOpened};
 ghost use Rattle.station_files.specs.ByList.{FindsByList};
-ghost use Rattle.station_files.specs.Connected.{IsOver, Spares};
+ghost use Rattle.station_files.specs.Connected.{IsOver};
 ghost use Rattle.station_files.specs.Listed.{IsReadByList, IsUnopened};
 ghost use Rattle.station_files.specs.Spared.{SparesFiles};
 
@@ -107,7 +97,7 @@ pub(crate) fn connect<D: Disk + Drop>(
 ) -> Result<Connection<FileStore<D>>, (Error, FileStore<D>)>
     requires { IsClean (view store) → IsFresh (view store) }
     ensures over { IfOk result (IsOver store) }
-    ensures left { IfErr result (λ e. Spares store e.1) }
+    ensures left { IfErr result (λ e. IsQuiet view faults recovers is_shielded store e.1) }
 {
     match Connection::over(alloc, store) {
         Ok(over) => Ok(over),

@@ -1,11 +1,6 @@
 //! Comparing the trees of a store with a list.
 ghost use Rattle.std.specs.Prelude.{◌≡◌, ◌<◌, ◌+◌, pos, false, map, take, length, find, if◌then◌else◌, [], IsTrue};
-ghost use Rattle.std.specs.List.{list_all};
-ghost use Rattle.sqlite_trees.specs.Objects.{catalog_tree};
-ghost use Rattle.sqlite_trees.specs.Tree.{has_rowid};
-ghost use Rattle.sqlite_trees.specs.View.{IsClean};
-ghost use Rattle.sqlite_store.specs.Catalog.{wanted_of};
-ghost use Rattle.sqlite_store.specs.Listing.{listed, listed_from};
+ghost use Rattle.station_files.specs.Common.{list_all, catalog_tree, has_rowid, IsClean, wanted_of, listed, listed_from};
 ghost use Rattle.station_files.specs.Beside.{is_about, is_known, is_one_of, AreBeside};
 ghost use Rattle.station_files.specs.Own.{rows_from, shown_row};
 

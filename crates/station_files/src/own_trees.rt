@@ -1,15 +1,7 @@
 //! Files with trees of other programs besides those of a list.
 ghost use Rattle.std.specs.Prelude.{◌≡◌, ◌≢◌, ◌⊎◌, ◌<◌, ℕ, ◌+◌, map, take, length, slice_index, false, [], ◌∷◌, ◌++◌, IsTrue, IfOk, IfErr, IfSome, OnOk};
-ghost use Rattle.std.specs.List.{AllByRecursion};
-ghost use Rattle.sqlite_value.specs.declared.value.Value.TheVariants.{Text};
-ghost use Rattle.sqlite_value.specs.Order.{column};
-ghost use Rattle.sqlite_trees.specs.Objects.{catalog_tree};
-ghost use Rattle.sqlite_trees.specs.Tree.{Trees};
-ghost use Rattle.sqlite_trees.specs.View.{IsClean};
+ghost use Rattle.station_files.specs.Common.{AllByRecursion, Text, column, catalog_tree, Trees, IsClean, OutOfMemory, Absent, IsFresh};
 ghost use Rattle.sqlite_trees.specs.declared.error.StoreError.{StoreError as Failure};
-ghost use Rattle.sqlite_trees.specs.declared.error.StoreError.TheVariants.{OutOfMemory};
-ghost use Rattle.sqlite_trees.specs.declared.store.Shape.TheVariants.{Absent};
-ghost use Rattle.sqlite.specs.Steps.{IsFresh};
 ghost use Rattle.station_files.specs.Others.{SparesOthers};
 ghost use Rattle.station_files.specs.Own.{as_numbered, number_inside, own_trees, own_view, renumbered, rows_from, AreApart, AreLaidOut, IsNumberOf, IsShown};
 ghost use Rattle.station_files.specs.OwnLaws.{GoBack};

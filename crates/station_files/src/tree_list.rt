@@ -1,9 +1,6 @@
 //! Lists of trees: those of a list, and those of other programs.
 ghost use Rattle.std.specs.Prelude.{◌≡◌, ◌+◌, pos, ◌∷◌, [], find, option_copied, IsTrue};
-ghost use Rattle.sqlite_value.specs.Order.{column};
-ghost use Rattle.sqlite_value.specs.Value.{owned};
-ghost use Rattle.sqlite_trees.specs.Tree.{has_rowid};
-ghost use Rattle.sqlite_store.specs.Catalog.{is_present, text_or_null, wanted_of};
+ghost use Rattle.station_files.specs.Common.{column, owned, has_rowid, is_present, text_or_null, wanted_of};
 
 use sqlite_trees::schema::Object;
 use sqlite_trees::sound::{is_text_only, is_word};

@@ -1,10 +1,10 @@
 -- The table `build`.
-use Rattle.station_rows.proofs.Common.{Asks, Build, BuildKey, Eq, Err, Error, Global, IfOk, Int, IsStation, IsUnchanged, List, Ok, Output, Query, Reads, Result, Row, Shown, State, Term, Text, Vec, [], ap, ap₂, at_ints, at_texts, build, build_cmp, build_in, build_row, build_same, build_total, by_column, bytes_cmp, cast_int, cast_null, edits_builds, entries, eq_by_cmp, eval_all, false, filter, first_true, inl, int_both, int_cmp, int_eq, int_tied, is_on, last_key, last_term, map, map_back, one_table, ordering_then, output, output_cmp, pair_cmp, pair_eq, pieces_in, pieces_read, pieces_shown, pos, refl, second_true, station_schema, sym, tables_of, texts_both, then_term, true, typed_builds, value_cmp-Int, ℕ, ℤ, ◌&&◌, ◌∙◌, ◌∷◌, ◌≡◌}
-use Rattle.sqlite_value.specs.Keys.{first_key}
+use Rattle.station_rows.proofs.Common.{Build, BuildKey, Eq, Err, Error, Global, IfOk, Int, IsUnchanged, List, Ok, Output, Query, Reads, Result, Row, State, Term, Text, Vec, [], ap, at_ints, at_texts, build, build_cmp, build_in, build_row, build_same, build_total, by_column, cast_int, cast_null, edits_builds, entries, eval_all, false, filter, first_true, inl, int_both, int_cmp, is_on, last_key, last_term, map, map_back, one_table, ordering_then, output, output_cmp, pieces_in, pieces_read, pieces_shown, pos, refl, second_true, sym, tables_of, texts_both, then_term, true, typed_builds, value_cmp-Int, ℕ, ℤ, ◌∙◌, ◌∷◌, ◌≡◌}
+use Rattle.station_schema.proofs.Compared.{three_compare, three_eq}
 use Rattle.sqlite_trees.proofs.ListLemmas.{map-map}
 use Rattle.station_rows.proofs.KeyedLemmas.{IsTableOf, KeyedTable, lists}
-use Rattle.station_rows.proofs.Terms.{columns, key_terms}
-use Rattle.station_rows.proofs.Texts.{build_names, list_build_is, list_build_text, list_pieces_columns, list_pieces_is, list_pieces_names, list_pieces_text}
+use Rattle.station_rows.proofs.Terms.{IsQuery, Lists, key_terms}
+use Rattle.station_rows.proofs.Texts.{list_build_is, list_pieces_is}
 
 abbrev pub build_table : KeyedTable BuildKey Build
 build_table = record {
@@ -20,11 +20,7 @@ build_table = record {
   with_map = λ tables m. record tables { builds = m };
 }
 
-build_eq : (j k : BuildKey) → (eq_by_cmp bytes_cmp j.0 k.0 && (int_eq j.1.0 k.1.0 && int_eq j.1.1 k.1.1)) ≡ eq_by_cmp build_cmp j k
-build_eq j k = sym (pair_eq bytes_cmp (pair_cmp int_cmp int_cmp) j k ∙ ap₂ ◌&&◌ refl (pair_eq int_cmp int_cmp j.1 k.1 ∙ ap₂ ◌&&◌ (int_tied j.1.0 k.1.0) (int_tied j.1.1 k.1.1)))
-
 pub build_is : IsTableOf build_table
-unfolding first_key
 build_is = record {
   total = build_total;
   same = build_same;
@@ -32,9 +28,9 @@ build_is = record {
   typed = typed_builds;
   is_read = λ _. refl;
   places = 1 ∷ 2 ∷ 3 ∷ [];
-  compares = λ a b. then_term (at_texts false Eq a.1.0.0 b.1.0.0) (then_term (at_ints false Eq a.1.0.1.0 b.1.0.1.0) (last_term (at_ints false Eq a.1.0.1.1 b.1.0.1.1))) ∙ build_eq a.1.0 b.1.0;
+  compares = three_compare build_row;
   unique = λ _ all. all.1.1.1.1.1.1.1.1.1.1.1.1.0;
-  tests = λ k _ _ e. then_term (at_texts false Eq e.0.0 k.0) (then_term (at_ints false Eq e.0.1.0 k.1.0) (last_term (at_ints false Eq e.0.1.1 k.1.1))) ∙ build_eq e.0 k;
+  tests = λ k _ _ e. then_term (at_texts false Eq e.0.0 k.0) (then_term (at_ints false Eq e.0.1.0 k.1.0) (last_term (at_ints false Eq e.0.1.1 k.1.1))) ∙ sym (three_eq e.0 k);
   begins = λ _. (_, refl);
   casts = λ n e. rw (cast_int n, cast_int e.0.1.0, cast_int e.0.1.1, cast_int e.1.pieces, cast_int e.1.tenths) refl;
   news = λ _ e. rw (cast_null, cast_int e.0.1.0, cast_int e.0.1.1, cast_int e.1.pieces, cast_int e.1.tenths) refl;
@@ -57,22 +53,21 @@ in_key_order columns flight day a b pa pb =
     last_key (value_cmp-Int a.0.1.1 b.0.1.1) ∙ ap (λ o. ordering_then o (int_cmp a.0.1.1 b.0.1.1)) (sym (int_both a.0.1.0 b.0.1.0 day (second_true _ _ pa) (second_true _ _ pb)))
     ∙ ap (λ o. ordering_then o (ordering_then (int_cmp a.0.1.0 b.0.1.0) (int_cmp a.0.1.1 b.0.1.1))) (sym (texts_both a.0.0 b.0.0 flight (first_true _ _ pa) (first_true _ _ pb)))
 
-rows_on : (text : List ℕ) (columns : List Term) (names : List (List ℕ)) → Asks station_schema text (on_flight columns) names → (flight : List ℕ) (day : ℤ)
-    → (shown : BuildKey × Build → Row) → ((n : ℤ) (e : BuildKey × Build) → eval_all columns ((Text flight ∷ Int day ∷ []) ∷ (Int n ∷ build_row e) ∷ []) ≡ shown e)
-    → (old new : State) (rows : List Row) → IsStation old.now → Shown text (Text flight ∷ Int day ∷ []) old new rows → rows ≡ map shown (filter (is_on flight day) (entries (tables_of old.now.trees).builds))
-rows_on text columns names is flight day shown shows =
-    lists build_table build_is text names columns _ _ is (Text flight ∷ Int day ∷ []) (is_on flight day) (λ _ e. then_term (at_texts false Eq e.0.0 flight) (last_term (at_ints false Eq e.0.1.0 day))) shown shows
+rows_on : {text : List ℕ} {columns : List Term} (query : IsQuery text (on_flight columns)) (flight : List ℕ) (day : ℤ) (shown : BuildKey × Build → Row)
+    → ((n : ℤ) (e : BuildKey × Build) → eval_all columns ((Text flight ∷ Int day ∷ []) ∷ (Int n ∷ build_row e) ∷ []) ≡ shown e) → Lists query (Text flight ∷ Int day ∷ []) shown (λ tables. filter (is_on flight day) (entries tables.builds))
+rows_on {columns = columns} query flight day shown shows =
+    lists build_table build_is query (Text flight ∷ Int day ∷ []) (is_on flight day) (λ _ e. then_term (at_texts false Eq e.0.0 flight) (last_term (at_ints false Eq e.0.1.0 day))) shown shows
     (λ n e. ap (λ (row : Row). (Int e.0.1.1 ∷ [], row)) (shows n e ∙ sym (shows (pos 0) e))) (in_key_order columns flight day)
 
-pub lists_build : (old new : State) (flight : List ℕ) (day : ℤ) (rows : List Row) → IsStation old.now → Shown list_build_text (Text flight ∷ Int day ∷ []) old new rows
-    → rows ≡ map build_row (filter (is_on flight day) (entries (tables_of old.now.trees).builds))
-lists_build old new flight day = rows_on list_build_text (columns 5) build_names list_build_is flight day build_row (λ _ _. refl) old new
+pub lists_build : (flight : List ℕ) (day : ℤ) → Lists list_build_is (Text flight ∷ Int day ∷ []) build_row (λ tables. filter (is_on flight day) (entries tables.builds))
+lists_build flight day = rows_on list_build_is flight day build_row (λ _ _. refl)
 
-pub lists_pieces : (old new : State) (flight : List ℕ) (day : ℤ) (rows : List Row) → IsStation old.now → Shown list_pieces_text (Text flight ∷ Int day ∷ []) old new rows
-    → rows ≡ map pieces_shown (map pieces_in (filter (is_on flight day) (entries (tables_of old.now.trees).builds)))
-lists_pieces old new flight day rows was h =
-    rows_on list_pieces_text list_pieces_columns list_pieces_names list_pieces_is flight day (λ e. pieces_shown (pieces_in e)) (λ _ _. refl) old new rows was h
-    ∙ sym (map-map pieces_shown pieces_in (filter (is_on flight day) (entries (tables_of old.now.trees).builds)))
+pub lists_pieces : (flight : List ℕ) (day : ℤ) → Lists list_pieces_is (Text flight ∷ Int day ∷ []) pieces_shown (λ tables. map pieces_in (filter (is_on flight day) (entries tables.builds)))
+lists_pieces flight day = record {
+  shows = λ old new rows was h.
+      (rows_on list_pieces_is flight day (λ e. pieces_shown (pieces_in e)) (λ _ _. refl)).shows old new rows was h
+      ∙ sym (map-map pieces_shown pieces_in (filter (is_on flight day) (entries (tables_of old.now.trees).builds)));
+}
 
 -- the numbers of the rows that were shown
 pub reads_pieces : (old new : State) (rows : List Row) (all : List ℤ) → (rows ≡ map pieces_shown all) × IsUnchanged old new

@@ -1,6 +1,6 @@
 -- The table `kept_text`.
 use Rattle.station_rows.proofs.Common.{Eq, List, Text, [], at_texts, cast_int, cast_null, edits_kept_texts, false, kept_text, kept_text_cmp, kept_text_in, kept_text_row, kept_text_same, kept_text_total, last_term, refl, typed_kept_texts, ℕ, ℤ, ◌∷◌}
-use Rattle.sqlite_value.specs.Keys.{first_key}
+use Rattle.station_schema.proofs.Compared.{word_compares}
 use Rattle.station_rows.proofs.KeyedLemmas.{IsTableOf, KeyedTable}
 
 abbrev pub kept_text_table : KeyedTable (List ℕ) ℤ
@@ -18,7 +18,6 @@ kept_text_table = record {
 }
 
 pub kept_text_is : IsTableOf kept_text_table
-unfolding first_key
 kept_text_is = record {
   total = kept_text_total;
   same = kept_text_same;
@@ -26,7 +25,7 @@ kept_text_is = record {
   typed = typed_kept_texts;
   is_read = λ _. refl;
   places = 1 ∷ [];
-  compares = λ a b. last_term (at_texts false Eq a.1.0 b.1.0);
+  compares = word_compares kept_text_row;
   unique = λ _ all. all.1.1.1.1.1.1.1.1.1.1.0;
   tests = λ k _ _ e. last_term (at_texts false Eq e.0 k);
   begins = λ _. (_, refl);

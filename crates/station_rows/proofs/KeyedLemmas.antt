@@ -1,5 +1,5 @@
 -- What the statements do to a table whose key is made of columns, whatever the table.
-use Rattle.station_rows.proofs.Common.{AllByRecursion, AreEntries, Asks, Bool, Compares, Database, Delete, Edits, Executes, FinMap, Insert, Int, IsAntisymmetric, IsInside, IsMap, IsPlaced, IsStation, IsTotalOrder, Key, List, Means, None, Ok, Option, Ordering, Row, Select, Shown, Shows, Some, State, Tables, Term, Trees, Update, Values, [], adjust, asks, col, cond, delete_ran, deleted_at, entries, eq_by_cmp, eval_all, filter, from_entries, get, holds, insert, insert_ran, inserted, length, list_all, map, map_of, not, one_table, option_map, option_to_list, output, output_cmp, plain, pos, reads_as, refl, remove, row_shown, rows_in_order, station_schema, subst, sym, tables_of, true, turn_eq, update_ran, updated_at, value_rows, ℕ, ℤ, ◌&&◌, ◌++◌, ◌+◌, ◌/◌, ◌∙◌, ◌∷◌, ◌≡◌, ◌≢◌}
+use Rattle.station_rows.proofs.Common.{Output, ap, unfiltered, AllByRecursion, AreEntries, Bool, Compares, Database, Delete, Edits, Executes, FinMap, Insert, Int, IsAntisymmetric, IsInside, IsMap, IsPlaced, IsStation, IsTotalOrder, Key, List, Means, None, Ok, Option, Ordering, Row, Select, Shows, Some, State, Tables, Term, Trees, Update, Values, [], adjust, asks, col, cond, delete_ran, deleted_at, entries, eq_by_cmp, eval_all, filter, from_entries, get, holds, insert, insert_ran, inserted, length, list_all, map, map_of, not, one_table, option_map, option_to_list, output, output_cmp, plain, pos, reads_as, refl, remove, row_shown, rows_in_order, station_schema, subst, sym, tables_of, true, turn_eq, update_ran, updated_at, value_rows, ℕ, ℤ, ◌&&◌, ◌++◌, ◌+◌, ◌/◌, ◌∙◌, ◌∷◌, ◌≡◌, ◌≢◌}
 use Rattle.std.proofs.lemmas.List.{append-nil}
 use Rattle.sqlite.specs.Cast.{cast_row}
 use Rattle.sqlite.specs.Edit.{edit_of, next_rowid}
@@ -7,7 +7,7 @@ use Rattle.sqlite.specs.Rowids.TheVariants.{Chosen}
 use Rattle.sqlite.specs.Table.{Table}
 use Rattle.sqlite_schema.specs.Rules.{Keeps, clashes}
 use Rattle.sqlite_schema.specs.declared.schema.Constraint.TheVariants.{Unique}
-use Rattle.station_rows.proofs.Terms.{insert_terms, key_terms, update_terms}
+use Rattle.station_rows.proofs.Terms.{IsQuery, Lists, insert_terms, key_terms, update_terms}
 
 -- its place in the schema, its rows as entries of a map, and that map
 pub record KeyedTable (K V : Type 0) : Type 0 where
@@ -80,30 +80,44 @@ module _ {K V : Type 0} (d : KeyedTable K V) where
           (λ x. eq_by_cmp d.cmp k x.0) (tests_key k) (λ _ _. refl) k (λ _. refl) ran.0 ran.1 ran.2.applies in
           is.edits old new inside ran.2.kept ran.2.applies.tables ran.2.shown (λ m. remove m k) now
 
-      module _ (names : List (List ℕ)) (project : List Term) where
-        -- WHERE is the key
-        pub gets : Asks station_schema sql (one_table d.table.tree (key_terms d.key_width) project []) names → (show : K × V → Row) → ((params : Row) (n : ℤ) (e : K × V) → eval_all project (params ∷ (Int n ∷ d.to_row e) ∷ []) ≡ show e)
-            → (old new : State) (k : K) (rows : List Row) → IsStation old.now → Shown sql (d.key_row k) old new rows → rows ≡ map show (option_to_list (option_map (λ v. (k, v)) (get (d.map_in (tables_of old.now.trees)) k)))
-        gets means show shows old new k rows was h =
-            let read = reads_as sql (d.key_row k) old new station_schema was.schema (Select (asks (one_table d.table.tree (key_terms d.key_width) project [])) names) means.0 means.1 means.2 rows h in
-            row_shown d.cmp is.total d.to_row old.now.schema old.now.trees d.table.tree (d.map_in (tables_of old.now.trees)) (there old.now was) (d.key_row k) (key_terms d.key_width) project (λ x. eq_by_cmp d.cmp k x.0) (tests_key k) show (shows (d.key_row k)) is.same k (λ _. refl) rows read
+    -- WHERE is the key
+    pub gets : {sql : List ℕ} {project : List Term} (query : IsQuery sql (one_table d.table.tree (key_terms d.key_width) project [])) (show : K × V → Row) → ((params : Row) (n : ℤ) (e : K × V) → eval_all project (params ∷ (Int n ∷ d.to_row e) ∷ []) ≡ show e)
+        → (k : K) → Lists query (d.key_row k) show (λ tables. option_to_list (option_map (λ v. (k, v)) (get (d.map_in tables) k)))
+    gets {project = project} query show shows k = record {
+      shows = λ old new rows was h.
+          let read = reads_as _ (d.key_row k) old new station_schema was.schema (Select (asks (one_table d.table.tree (key_terms d.key_width) project [])) query.names) query.asks.0 query.asks.1 query.asks.2 rows h in
+          row_shown d.cmp is.total d.to_row old.now.schema old.now.trees d.table.tree (d.map_in (tables_of old.now.trees)) (there old.now was) (d.key_row k) (key_terms d.key_width) project (λ x. eq_by_cmp d.cmp k x.0) (tests_key k) show (shows (d.key_row k)) is.same k (λ _. refl) rows read;
+    }
 
-        -- WHERE is the key, and it isn't shown
-        pub gets_value : Asks station_schema sql (one_table d.table.tree (key_terms d.key_width) project []) names → (show : V → Row) → ((params : Row) (n : ℤ) (e : K × V) → eval_all project (params ∷ (Int n ∷ d.to_row e) ∷ []) ≡ show e.1)
-            → (old new : State) (k : K) (rows : List Row) → IsStation old.now → Shown sql (d.key_row k) old new rows → rows ≡ map show (option_to_list (get (d.map_in (tables_of old.now.trees)) k))
-        gets_value means show shows old new k rows was h = gets means (λ e. show e.1) shows old new k rows was h ∙ shown_at (get (d.map_in (tables_of old.now.trees)) k)
-          where
-            shown_at : (o : Option V) → map (λ (e : K × V). show e.1) (option_to_list (option_map (λ v. (k, v)) o)) ≡ map show (option_to_list o)
-            shown_at None = refl
-            shown_at (Some v) = refl
+    -- WHERE is the key, and it isn't shown
+    pub gets_value : {sql : List ℕ} {project : List Term} (query : IsQuery sql (one_table d.table.tree (key_terms d.key_width) project [])) (show : V → Row) → ((params : Row) (n : ℤ) (e : K × V) → eval_all project (params ∷ (Int n ∷ d.to_row e) ∷ []) ≡ show e.1)
+        → (k : K) → Lists query (d.key_row k) show (λ tables. option_to_list (get (d.map_in tables) k))
+    gets_value query show shows k = record { shows = λ old new rows was h. (gets query (λ e. show e.1) shows k).shows old new rows was h ∙ shown_at (get (d.map_in (tables_of old.now.trees)) k) }
+      where
+        shown_at : (o : Option V) → map (λ (e : K × V). show e.1) (option_to_list (option_map (λ v. (k, v)) o)) ≡ map show (option_to_list o)
+        shown_at None = refl
+        shown_at (Some v) = refl
 
-        module _ (filters : List Term) (order : List (Term × Key)) (means : Asks station_schema sql (one_table d.table.tree filters project order) names) (params : Row) where
-          -- ORDER BY orders the rows that pass as their keys do
-          pub lists : (p : K × V → Bool) → ((n : ℤ) (e : K × V) → list_all (holds (params ∷ (Int n ∷ d.to_row e) ∷ [])) filters ≡ p e) → (show : K × V → Row) → ((n : ℤ) (e : K × V) → eval_all project (params ∷ (Int n ∷ d.to_row e) ∷ []) ≡ show e)
-              → ((n : ℤ) (e : K × V) → output (one_table d.table.tree filters project order) (params ∷ (Int n ∷ d.to_row e) ∷ []) ≡ output (one_table d.table.tree filters project order) (params ∷ (Int (pos 0) ∷ d.to_row e) ∷ []))
-              → ((a b : K × V) → p a ≡ true → p b ≡ true
-              → output_cmp (one_table d.table.tree filters project order) (output (one_table d.table.tree filters project order) (params ∷ (Int (pos 0) ∷ d.to_row a) ∷ [])) (output (one_table d.table.tree filters project order) (params ∷ (Int (pos 0) ∷ d.to_row b) ∷ [])) ≡ d.cmp a.0 b.0)
-              → (old new : State) (rows : List Row) → IsStation old.now → Shown sql params old new rows → rows ≡ map show (filter p (entries (d.map_in (tables_of old.now.trees))))
-          lists p tests show shows unseen agrees old new rows was h =
-              let read = reads_as sql params old new station_schema was.schema (Select (asks (one_table d.table.tree filters project order)) names) means.0 means.1 means.2 rows h in
-              rows_in_order d.cmp is.total d.to_row old.now.schema old.now.trees d.table.tree (d.map_in (tables_of old.now.trees)) (there old.now was) params filters project p tests show shows order unseen agrees rows read
+    module _ {sql : List ℕ} {filters project : List Term} {order : List (Term × Key)} (query : IsQuery sql (one_table d.table.tree filters project order)) where
+      abbrev shown : Row → K × V → Output
+      shown params e = output (one_table d.table.tree filters project order) (params ∷ (Int (pos 0) ∷ d.to_row e) ∷ [])
+
+      -- ORDER BY orders the rows that pass as their keys do
+      pub lists : (params : Row) (p : K × V → Bool) → ((n : ℤ) (e : K × V) → list_all (holds (params ∷ (Int n ∷ d.to_row e) ∷ [])) filters ≡ p e) → (show : K × V → Row) → ((n : ℤ) (e : K × V) → eval_all project (params ∷ (Int n ∷ d.to_row e) ∷ []) ≡ show e)
+          → ((n : ℤ) (e : K × V) → output (one_table d.table.tree filters project order) (params ∷ (Int n ∷ d.to_row e) ∷ []) ≡ shown params e)
+          → ((a b : K × V) → p a ≡ true → p b ≡ true → output_cmp (one_table d.table.tree filters project order) (shown params a) (shown params b) ≡ d.cmp a.0 b.0)
+          → Lists query params show (λ tables. filter p (entries (d.map_in tables)))
+      lists params p tests show shows unseen agrees = record {
+        shows = λ old new rows was h.
+            let read = reads_as sql params old new station_schema was.schema (Select (asks (one_table d.table.tree filters project order)) query.names) query.asks.0 query.asks.1 query.asks.2 rows h in
+            rows_in_order d.cmp is.total d.to_row old.now.schema old.now.trees d.table.tree (d.map_in (tables_of old.now.trees)) (there old.now was) params filters project p tests show shows order unseen agrees rows read;
+      }
+
+    -- no WHERE, and ORDER BY the key
+    pub lists_all : {sql : List ℕ} {project : List Term} {order : List (Term × Key)} (query : IsQuery sql (one_table d.table.tree [] project order)) → ((n : ℤ) (e : K × V) → eval_all project ([] ∷ (Int n ∷ d.to_row e) ∷ []) ≡ d.to_row e)
+        → ((n : ℤ) (e : K × V) → output (one_table d.table.tree [] project order) ([] ∷ (Int n ∷ d.to_row e) ∷ []) ≡ shown query [] e)
+        → ((a b : K × V) → output_cmp (one_table d.table.tree [] project order) (shown query [] a) (shown query [] b) ≡ d.cmp a.0 b.0) → Lists query [] d.to_row (λ tables. entries (d.map_in tables))
+    lists_all query shows unseen agrees = record {
+      shows = λ old new rows was h.
+          (lists query [] (λ _. true) (λ _ _. refl) d.to_row shows unseen (λ a b _ _. agrees a b)).shows old new rows was h ∙ ap (map d.to_row) (unfiltered (entries (d.map_in (tables_of old.now.trees))) refl);
+    }

@@ -1,10 +1,9 @@
 -- SELECT .. ORDER BY the key downwards LIMIT n, over one table whose key is made of columns.
-use Rattle.std.proofs.Common.{◌≡◌, ℕ, zero, suc, ◌-◌, ℤ, pos, length, drop, arith, List, [], ◌∷◌, ◌++◌, map, filter, take, reverse, Bool, true, Option, None, Some, append_assoc, append-nil, refl, sym, ap, subst, ◌∙◌, Ordering, Less, IsPermutation}
-use Rattle.station_rows.proofs.Common.{AllByRecursion, Answers, FinMap, Int, IsAscending, IsMap, IsPermutation-filter, IsTotalOrder, Key, Null, Output, Query, Row, Term, Trees, all-append, as_count, ascending-append, ascending-filter, ascending-map, at_end, entries, entry, eval, eval_all, filter-map, holds, last_or, last_table, length-drop, length-reverse, limited, list_all, map-append, map-map, map_same, matches_are, no_overlay, number, numbered, one_table, option_to_list, output, output_cmp, reverse-append, reverse-reverse, same_rows, sorted_unique, take-append-drop, take-map, take_all, take_at}
-use Rattle.std.proofs.lemmas.List.Sorted.{IsPermutation-map, IsPermutation-trans, IsPermutation-sym, IsPermutation-reverse}
+use Rattle.std.proofs.Common.{◌≡◌, ℕ, zero, suc, ◌-◌, ℤ, pos, length, drop, arith, List, [], ◌∷◌, ◌++◌, map, filter, take, reverse, Bool, true, Option, None, Some, append_assoc, append-nil, refl, sym, ap, subst, ◌∙◌, Ordering, Less}
+use Rattle.station_rows.proofs.Common.{AllByRecursion, Answers, FinMap, Int, IsAscending, IsMap, IsTotalOrder, Key, Query, Row, Term, Trees, all-append, as_count, ascending-append, ascending-filter, entries, eval, eval_all, holds, last_or, length-drop, length-reverse, limited, list_all, map-append, one_table, option_to_list, output, output_cmp, reverse-append, reverse-reverse, take-append-drop, take-map, take_all, take_at}
+use Rattle.std.proofs.lemmas.List.Sorted.{IsPermutation-reverse}
 use Rattle.sqlite.specs.Schema.{Schema}
-use Rattle.sqlite.specs.Program.{overlay}
-use Rattle.sqlite_sql.proofs.QueryLemmas.{output_cmp_total}
+use Rattle.station_schema.proofs.ColumnKeys.{rows_limited}
 use Rattle.station_schema.proofs.Maps.{all_passed, ascending_where, entries_rise}
 
 one_first : {X : Type 0} (ys : List X) (x : X) (rest : List X) → take 1 (ys ++ (x ∷ rest)) ≡ take 1 (ys ++ (x ∷ []))
@@ -68,24 +67,7 @@ module _ {K V : Type 0} (R : K → K → Ordering) (total : IsTotalOrder R) (to_
       → output_cmp (last_of limit t filters project order) (output (last_of limit t filters project order) (params ∷ (Int (pos 0) ∷ to_row a) ∷ [])) (output (last_of limit t filters project order) (params ∷ (Int (pos 0) ∷ to_row b) ∷ [])) ≡ R b.0 a.0)
       → (rows : List Row) → Answers (record { schema = schema; trees = db }) (record { lets = []; body = last_of limit t filters project order }) params rows → rows ≡ map show (take n (reverse (filter p (entries m))))
   last_shown limit n counts order unseen agrees rows h =
-      let q = last_of limit t filters project order in
-      let out = λ (e : K × V). output q (params ∷ (Int (pos 0) ∷ to_row e) ∷ []) in
-      let source = last_table (overlay db []) t (numbered to_row) number was.raw (no_overlay db t ∙ was.rows) was.keyed (at_end (overlay db [])) in
-      let a = h.answer Null in
       let all = filter p (entries m) in
-      let kept : a.kept ≡ map out (filter p (map entry was.raw)) =
-      a.distinct ∙ ap (map (output q)) (a.grouped ∙ matches_are q (overlay db []) params source (λ n. p n.1) (λ n. tests n.0 n.1))
-      ∙ map-map (output q) (λ (n : ℤ × (K × V)). params ∷ numbered to_row n ∷ []) (filter (λ n. p n.1) was.raw)
-      ∙ map_same _ (λ n. out n.1) (λ n. unseen n.0 n.1) (filter (λ n. p n.1) was.raw)
-      ∙ sym (map-map out entry (filter (λ n. p n.1) was.raw)) ∙ ap (map out) (sym (filter-map p entry was.raw)) in
-      let moved : IsPermutation (filter p (map entry was.raw)) all = IsPermutation-filter p _ _ (same_rows R total to_row (db t) m was) in
-      let turned : IsPermutation (filter p (map entry was.raw)) (reverse all) = IsPermutation-trans _ _ _ moved (IsPermutation-reverse all) in
-      let same : IsPermutation (map out (reverse all)) a.ordered =
-      IsPermutation-trans _ _ _ (IsPermutation-sym _ _ (IsPermutation-map out _ _ turned)) (subst (λ k. IsPermutation k a.ordered) kept a.same) in
-      let rises : IsAscending (λ x y. output_cmp q x y ≡ Less) (map out (reverse all)) =
-      ascending-map (λ x y. output_cmp q x y ≡ Less) out _ (falls (λ a b. output_cmp q (out a) (out b) ≡ Less) all
-      (ascending_where (λ e. p e ≡ true) (λ a b. R a.0 b.0 ≡ Less) (λ a b. output_cmp q (out b) (out a) ≡ Less) (λ a b pa pb less. agrees b a pb pa ∙ less)
-      all (all_passed p (entries m)) (ascending-filter _ p (entries m) (entries_rise R total m)))) in
-      a.shown ∙ ap (λ (c : Option ℕ). limited c (map (λ (o : Output). o.1) a.ordered)) counts
-      ∙ ap (λ (l : List Output). take n (map (λ (o : Output). o.1) l)) (sorted_unique (output_cmp q) (output_cmp_total q) _ a.ordered rises same a.sorted)
-      ∙ ap (take n) (map-map (λ (o : Output). o.1) out (reverse all) ∙ map_same _ show (shows (pos 0)) (reverse all)) ∙ take-map show n (reverse all)
+      rows_limited R total to_row schema db t m was params filters project p tests show shows limit order unseen (reverse all) (IsPermutation-reverse all)
+      (falls _ all (ascending_where (λ e. p e ≡ true) (λ a b. R a.0 b.0 ≡ Less) _ (λ a b pa pb less. agrees b a pb pa ∙ less) all (all_passed p (entries m)) (ascending-filter _ p (entries m) (entries_rise R total m)))) rows h
+      ∙ ap (λ (c : Option ℕ). limited c (map show (reverse all))) counts ∙ take-map show n (reverse all)

@@ -3,14 +3,13 @@ pub mod BuildLemmas
 pub mod CountLemmas
 pub mod ExpectedLemmas
 pub mod FlightLemmas
-pub mod FlownLemmas
 pub mod KeptLemmas
 pub mod KeptTextLemmas
 pub mod KeyedLemmas
 pub mod Last
 pub mod MessageLemmas
 pub mod MoveLemmas
-pub mod OneCount
+pub mod NumberedLemmas
 pub mod PartLemmas
 pub mod ReadLemmas
 pub mod StationLemmas

@@ -1,6 +1,8 @@
 -- What the statements on `moves` do.
-use Rattle.station_rows.proofs.Common.{Edits, Eq, Executes, Gt, Int, IsInside, IsKeyedBy-insert_by, IsPlaced, IsStation, List, Move, Ok, Row, Select, Shown, State, Text, [], ap, asks, at_ints, at_texts, by_column, cast_int, cast_null, edits_moves, false, filter, insert_by, insert_move_text, insert_ran, is_flown, is_move_after, is_of, last_term, map, move_id, move_in, move_row, move_shown, moves, one_table, puts, reads_as, refl, rows_by_key, station_schema, tables_of, then_term, true, typed_moves, unfiltered, value_rows, with_move, ℕ, ℤ, ◌∙◌, ◌∷◌, ◌≡◌}
-use Rattle.station_rows.proofs.Texts.{after_move_is, after_move_text, after_move_where, all_move_is, all_move_text, flown_move_is, flown_move_text, flown_move_where, insert_move_is, list_move_is, list_move_text, list_move_where, move_columns, move_names, move_terms}
+use Rattle.station_rows.proofs.Common.{Le, is_flown_within, Edits, Eq, Executes, Gt, Int, IsInside, IsKeyedBy-insert_by, IsPlaced, List, Move, Ok, State, Text, [], at_ints, at_texts, cast_int, cast_null, edits_moves, false, filter, insert_by, insert_move_text, insert_ran, is_flown, is_move_after, is_of, last_term, move_id, move_row, move_shown, moves, puts, refl, station_schema, tables_of, then_term, typed_moves, value_rows, with_move, ℕ, ℤ, ◌∷◌}
+use Rattle.station_rows.proofs.NumberedLemmas.{all_listed, lists}
+use Rattle.station_rows.proofs.Terms.{Lists}
+use Rattle.station_rows.proofs.Texts.{after_move_is, all_move_is, flown_move_is, insert_move_is, list_move_is, move_terms, within_move_is}
 
 move_placed : IsPlaced station_schema 4 moves
 move_placed = record { there = refl; uncounted = refl; unstamped = refl; idle = λ _ _ _. refl }
@@ -13,27 +15,19 @@ inserts_move old new m count inside h =
     (rw (cast_null, cast_int m.number, cast_int m.awb, cast_int m.src, cast_int m.dst, cast_int m.pieces, cast_int m.tenths, cast_int m.fday, cast_int m.day, cast_int m.minute)) ran.applies in
     edits_moves old new inside ran.kept ran.applies.tables ran.shown (λ xs. insert_by move_id xs m) put.rows (IsKeyedBy-insert_by move_id _ m was.keyed)
 
-pub lists_move : (old new : State) (awb : ℤ) (rows : List Row) → IsStation old.now → Shown list_move_text (Int awb ∷ []) old new rows
-    → rows ≡ map move_shown (filter (is_of awb) (tables_of old.now.trees).moves)
-lists_move old new awb rows was h =
-    let read = reads_as list_move_text (Int awb ∷ []) old new station_schema was.schema (Select (asks (one_table 6 list_move_where move_columns (by_column 0 ∷ []))) move_names) list_move_is.0 list_move_is.1 list_move_is.2 rows h in
-    rows_by_key move_id move_row (λ _. refl) move_in old.now.schema old.now.trees 6 (typed_moves old.now was) (Int awb ∷ []) list_move_where move_columns (is_of awb) (λ m. last_term (at_ints false Eq m.awb awb)) move_shown (λ _. refl) rows read
+pub lists_move : (awb : ℤ) → Lists list_move_is (Int awb ∷ []) move_shown (λ tables. filter (is_of awb) tables.moves)
+lists_move awb = lists typed_moves (λ _. refl) (λ tables. tables.moves) (λ _. refl) list_move_is _ _ (λ m. last_term (at_ints false Eq m.awb awb)) _ (λ _. refl)
 
-pub lists_all_moves : (old new : State) (rows : List Row) → IsStation old.now → Shown all_move_text ([]) old new rows
-    → rows ≡ map move_shown (tables_of old.now.trees).moves
-lists_all_moves old new rows was h =
-    let read = reads_as all_move_text ([]) old new station_schema was.schema (Select (asks (one_table 6 [] move_columns (by_column 0 ∷ []))) move_names) all_move_is.0 all_move_is.1 all_move_is.2 rows h in
-    rows_by_key move_id move_row (λ _. refl) move_in old.now.schema old.now.trees 6 (typed_moves old.now was) [] [] move_columns (λ _. true) (λ _. refl) move_shown (λ _. refl) rows read ∙ ap (map move_shown) (unfiltered (tables_of old.now.trees).moves refl)
+pub lists_all_moves : Lists all_move_is [] move_shown (λ tables. tables.moves)
+lists_all_moves = all_listed (lists typed_moves (λ _. refl) (λ tables. tables.moves) (λ _. refl) all_move_is _ _ (λ _. refl) _ (λ _. refl))
 
-pub lists_after : (old new : State) (number : ℤ) (rows : List Row) → IsStation old.now → Shown after_move_text (Int number ∷ []) old new rows
-    → rows ≡ map move_shown (filter (is_move_after number) (tables_of old.now.trees).moves)
-lists_after old new number rows was h =
-    let read = reads_as after_move_text (Int number ∷ []) old new station_schema was.schema (Select (asks (one_table 6 after_move_where move_columns (by_column 0 ∷ []))) move_names) after_move_is.0 after_move_is.1 after_move_is.2 rows h in
-    rows_by_key move_id move_row (λ _. refl) move_in old.now.schema old.now.trees 6 (typed_moves old.now was) (Int number ∷ []) after_move_where move_columns (is_move_after number) (λ m. last_term (at_ints false Gt m.number number)) move_shown (λ _. refl) rows read
+pub lists_after : (number : ℤ) → Lists after_move_is (Int number ∷ []) move_shown (λ tables. filter (is_move_after number) tables.moves)
+lists_after number = lists typed_moves (λ _. refl) (λ tables. tables.moves) (λ _. refl) after_move_is _ _ (λ m. last_term (at_ints false Gt m.number number)) _ (λ _. refl)
 
-pub lists_flown : (old new : State) (flight : List ℕ) (day : ℤ) (rows : List Row) → IsStation old.now → Shown flown_move_text (Text flight ∷ Int day ∷ []) old new rows
-    → rows ≡ map move_shown (filter (is_flown flight day) (tables_of old.now.trees).moves)
-lists_flown old new flight day rows was h =
-    let read = reads_as flown_move_text (Text flight ∷ Int day ∷ []) old new station_schema was.schema (Select (asks (one_table 6 flown_move_where move_columns (by_column 0 ∷ []))) move_names) flown_move_is.0 flown_move_is.1 flown_move_is.2 rows h in
-    rows_by_key move_id move_row (λ _. refl) move_in old.now.schema old.now.trees 6 (typed_moves old.now was) (Text flight ∷ Int day ∷ []) flown_move_where move_columns (is_flown flight day)
-    (λ m. then_term (at_texts false Eq m.flight flight) (last_term (at_ints false Eq m.fday day))) move_shown (λ _. refl) rows read
+pub lists_flown : (flight : List ℕ) (day : ℤ) → Lists flown_move_is (Text flight ∷ Int day ∷ []) move_shown (λ tables. filter (is_flown flight day) tables.moves)
+lists_flown flight day = lists typed_moves (λ _. refl) (λ tables. tables.moves) (λ _. refl) flown_move_is _ _ (λ m. then_term (at_texts false Eq m.flight flight) (last_term (at_ints false Eq m.fday day))) _ (λ _. refl)
+
+pub lists_within : (flight : List ℕ) (day after last : ℤ) → Lists within_move_is (Text flight ∷ Int day ∷ Int after ∷ Int last ∷ []) move_shown (λ tables. filter (is_flown_within flight day after last) tables.moves)
+lists_within flight day after last =
+    lists typed_moves (λ _. refl) (λ tables. tables.moves) (λ _. refl) within_move_is _ _
+    (λ m. then_term (at_ints false Gt m.number after) (then_term (at_ints false Le m.number last) (then_term (at_texts false Eq m.flight flight) (last_term (at_ints false Eq m.fday day))))) _ (λ _. refl)

@@ -1,9 +1,12 @@
 -- What a query reads of a station's tables.
-use Rattle.station_rows.proofs.Common.{AreRead, Asks, Bool, Err, Error, Ghosts, Global, HasCleanDisk, Held, IfOk, IsErr, IsPlain, IsStation, IsUnchanged, List, None, Ok, Option, Queries, Query, Reads, Result, Row, Shown, Some, State, Stops, Vec, [], ap, false, get_or, inl, length, map, map_back, option_map, option_to_list, refl, state, station_schema, still_plain, subst, sym, take, true, understood, ℕ, ◌++◌, ◌+◌, ◌<◌, ◌∙◌, ◌∷◌, ◌≡◌}
+use Rattle.station_rows.proofs.Common.{Survives, Tables, tables_of, AreRead, Bool, Err, Error, Ghosts, Global, HasCleanDisk, Held, IfOk, IsErr, IsPlain, IsStation, IsUnchanged, List, None, Ok, Option, Queries, Query, Reads, Result, Row, Shown, Some, State, Stops, Vec, [], ap, false, get_or, inl, length, map, map_back, option_map, option_to_list, refl, state, station_schema, still_plain, subst, sym, take, true, understood, ℕ, ◌++◌, ◌+◌, ◌<◌, ◌∙◌, ◌∷◌, ◌≡◌}
 use native.Mathlib.Numerals.{unary_clauses}
 use Rattle.std.proofs.Math.Seq.{take-suc}
+use Rattle.sqlite.specs.State.{CommitsShowing}
 use Rattle.station_schema.proofs.Handing.{hands}
+use Rattle.station_schema.proofs.Statements.{query_survives as plain_survives}
 use Rattle.station_schema.specs.Streams.{Streams, StreamsRows}
+use Rattle.station_rows.proofs.Terms.{IsQuery, Lists}
 
 and_one : {X : Type 0} (reads : Row → X → Type 0) (rows : List Row) (xs : List X) (row : Row) (x : X) → AreRead reads rows xs → reads row x → AreRead reads (rows ++ row ∷ []) (xs ++ x ∷ [])
 and_one reads [] [] row x are is = (is, tt)
@@ -55,38 +58,43 @@ module _ {A B : Type 0} (meant : A → B) (shown : B → Row) (read : Row → B)
   stand (row ∷ rows) [] are = absurd are
   stand (row ∷ rows) (x ∷ xs) are = rw (are.0, stand rows xs are.1) refl
 
-  module _ {S : Type 0} (g : Ghosts S) (old new : Held S) (sql : List ℕ) (params : Row) (plain : IsPlain (understood station_schema sql)) where
+  module _ {S : Type 0} (g : Ghosts S) (old new : Held S) {sql : List ℕ} {query : Query} {is : IsQuery sql query} {params : Row} where
     -- all rows, which show these entries
-    pub all_told : (all : List B) → ((rows : List Row) → IsStation (state g old).now → Shown sql params (state g old) (state g new) rows → rows ≡ map shown all)
-        → (r : Result (Vec A Global) Error) → (HasCleanDisk (state g new) → Queries sql params (state g old) (state g new) r (λ rows found. AreRead Stands rows found.items))
-        → HasCleanDisk (state g new) → IsStation (state g old).now → Reads (state g old) (state g new) r (λ found. map meant found.items ≡ all)
-    all_told all lists r asked clean was = go r (asked clean (still_plain sql params (state g old) (state g new) plain was))
+    pub all_told : {wanted : Tables → List B} → Lists is params shown wanted → (r : Result (Vec A Global) Error) → (HasCleanDisk (state g new) → Queries sql params (state g old) (state g new) r (λ rows found. AreRead Stands rows found.items))
+        → HasCleanDisk (state g new) → IsStation (state g old).now → Reads (state g old) (state g new) r (λ found. map meant found.items ≡ wanted (tables_of (state g old).now.trees))
+    all_told {wanted = wanted} lists r asked clean was = go r (asked clean (still_plain sql params (state g old) (state g new) is.asks.1 was))
       where
         go : (r : Result (Vec A Global) Error) → Reads (state g old) (state g new) r (λ found. (rows : List Row) × Shown sql params (state g old) (state g new) rows × AreRead Stands rows found.items)
-            → Reads (state g old) (state g new) r (λ found. map meant found.items ≡ all)
-        go (Ok found) h = (stand h.0.0 found.items h.0.2 ∙ ap (map read) (lists h.0.0 was h.0.1) ∙ map_back shown read back all, h.1)
+            → Reads (state g old) (state g new) r (λ found. map meant found.items ≡ wanted (tables_of (state g old).now.trees))
+        go (Ok found) h = (stand h.0.0 found.items h.0.2 ∙ ap (map read) (lists.shows (state g old) (state g new) h.0.0 was h.0.1) ∙ map_back shown read back _, h.1)
         go (Err e) h = h
 
     -- the first row, which shows this entry
-    pub first_told : (one : Option B) → ((rows : List Row) → IsStation (state g old).now → Shown sql params (state g old) (state g new) rows → rows ≡ map shown (option_to_list one))
-        → (r : Result (Option A) Error) → (HasCleanDisk (state g new) → Queries sql params (state g old) (state g new) r (λ rows found. AreRead Stands (take 1 rows) (option_to_list found)))
-        → HasCleanDisk (state g new) → IsStation (state g old).now → Reads (state g old) (state g new) r (λ found. option_map meant found ≡ one)
-    first_told one lists r asked clean was = go r (asked clean (still_plain sql params (state g old) (state g new) plain was))
+    pub first_told : (one : Tables → Option B) → Lists is params shown (λ tables. option_to_list (one tables)) → (r : Result (Option A) Error) → (HasCleanDisk (state g new) → Queries sql params (state g old) (state g new) r (λ rows found. AreRead Stands (take 1 rows) (option_to_list found)))
+        → HasCleanDisk (state g new) → IsStation (state g old).now → Reads (state g old) (state g new) r (λ found. option_map meant found ≡ one (tables_of (state g old).now.trees))
+    first_told one lists r asked clean was = go r (asked clean (still_plain sql params (state g old) (state g new) is.asks.1 was))
       where
+        it : Option B
+        it = one (tables_of (state g old).now.trees)
+
         go : (r : Result (Option A) Error) → Reads (state g old) (state g new) r (λ found. (rows : List Row) × Shown sql params (state g old) (state g new) rows × AreRead Stands (take 1 rows) (option_to_list found))
-            → Reads (state g old) (state g new) r (λ found. option_map meant found ≡ one)
+            → Reads (state g old) (state g new) r (λ found. option_map meant found ≡ it)
         go (Ok found) h = (
-          same_first (option_map meant found) one
-              (option_list meant found ∙ stand (take 1 h.0.0) (option_to_list found) h.0.2 ∙ ap (λ l. map read (take 1 l)) (lists h.0.0 was h.0.1) ∙ ap (map read) (only shown one) ∙ map_back shown read back (option_to_list one)),
+          same_first (option_map meant found) it
+              (option_list meant found ∙ stand (take 1 h.0.0) (option_to_list found) h.0.2 ∙ ap (λ l. map read (take 1 l)) (lists.shows (state g old) (state g new) h.0.0 was h.0.1) ∙ ap (map read) (only shown it) ∙ map_back shown read back (option_to_list it)),
           h.1,
         )
         go (Err e) h = h
 
+-- a query commits nothing
+pub query_survives : {sql : List ℕ} {query : Query} (is : IsQuery sql query) (params : Row) (old new : State) → Survives old new (CommitsShowing sql params old) → Survives old new (λ _. ¬ IsStation old.now)
+query_survives is params old new = plain_survives _ params old new is.asks.1
+
 -- rows that are handed out, which show these entries
-pub all_handed : {S K X : Type 0} (g : Ghosts S) (old new : Held S) (takes : K → Row → Bool → K → Type 0) (typed : K → X → Bool → K → Type 0) (shown : X → Row) → ((from : K) (x : X) (go : Bool) (to : K) → takes from (shown x) go to → typed from x go to)
-    → (sql : List ℕ) (params : Row) (query : Query) (names : List (List ℕ)) → Asks station_schema sql query names → (xs : List X) → ((later : State) (rows : List Row) → IsStation (state g old).now → Shown sql params (state g old) later rows → rows ≡ map shown xs)
+pub all_handed : {S K X : Type 0} (g : Ghosts S) (old new : Held S) (takes : K → Row → Bool → K → Type 0) (typed : K → X → Bool → K → Type 0) {shown : X → Row} → ((from : K) (x : X) (go : Bool) (to : K) → takes from (shown x) go to → typed from x go to)
+    → {sql : List ℕ} {query : Query} {is : IsQuery sql query} {params : Row} {wanted : Tables → List X} → Lists is params shown wanted
     → (from to : K) (r : Result (Unit {0}) Error) → (HasCleanDisk (state g new) → IsPlain (understood (state g old).now.schema sql) → Streams sql params (state g old) (state g new) takes from to r)
-    → HasCleanDisk (state g new) → IsStation (state g old).now → StreamsRows (state g old) (state g new) typed xs from to r
-all_handed g old new takes typed shown step sql params query names is xs lists from to r streams clean was =
-    hands takes typed shown step sql params (state g old) (state g new) station_schema was.schema query names is.0 xs (λ later rows. lists later rows was) from to r
-    (streams clean (still_plain sql params (state g old) (state g new) is.1 was))
+    → HasCleanDisk (state g new) → IsStation (state g old).now → StreamsRows (state g old) (state g new) typed (wanted (tables_of (state g old).now.trees)) from to r
+all_handed g old new takes typed {shown = shown} step {sql = sql} {query = query} {is = is} {params = params} lists from to r streams clean was =
+    hands takes typed shown step sql params (state g old) (state g new) station_schema was.schema query is.names is.asks.0 _ (λ later rows. lists.shows (state g old) later rows was) from to r
+    (streams clean (still_plain sql params (state g old) (state g new) is.asks.1 was))

@@ -1,6 +1,8 @@
 -- What the statements on `waybill2` do.
-use Rattle.station_rows.proofs.Common.{Edits, Eq, Executes, Int, IsInside, IsKeyedBy, IsKeyedBy-insert_by, IsPlaced, IsStation, List, Null, Ok, Row, Select, Shown, State, Text, Waybill, [], ap, asks, at_ints, by_column, cast_int, cast_null, changed_at, changing_waybill, edits_waybills, false, get_by, holds, insert_by, insert_ran, insert_waybill_text, int_eq, last_term, list_all, map, one_table, option_to_list, puts, reads_as, refl, row_at, rows_by_key, station_schema, tables_of, true, typed_waybills, unfiltered, update_ran, update_waybill_text, update_where, value_rows, waybill2, waybill_id, waybill_in, waybill_row, waybill_shown, with_waybill, ℕ, ℤ, ◌∙◌, ◌∷◌, ◌≡◌}
-use Rattle.station_rows.proofs.Texts.{all_waybill_is, all_waybill_text, get_waybill_is, get_waybill_text, insert_waybill_is, update_waybill_is, update_waybill_terms, waybill_columns, waybill_key_is, waybill_names, waybill_terms}
+use Rattle.station_rows.proofs.Common.{Edits, Eq, Executes, Int, IsInside, IsKeyedBy, IsKeyedBy-insert_by, IsPlaced, IsStation, Null, Ok, Row, State, Text, Waybill, [], asks, at_ints, cast_int, cast_null, changed_at, changing_waybill, edits_waybills, false, get_by, holds, insert_by, insert_ran, insert_waybill_text, int_eq, last_term, list_all, one_table, option_to_list, puts, refl, station_schema, tables_of, typed_waybills, update_ran, update_waybill_text, update_where, value_rows, waybill2, waybill_id, waybill_in, waybill_row, waybill_shown, with_waybill, ℕ, ℤ, ◌∷◌, ◌≡◌}
+use Rattle.station_rows.proofs.NumberedLemmas.{all_listed, gets, lists}
+use Rattle.station_rows.proofs.Terms.{Lists}
+use Rattle.station_rows.proofs.Texts.{all_waybill_is, get_waybill_is, insert_waybill_is, update_waybill_is, update_waybill_terms, waybill_key_is, waybill_terms}
 
 waybill_placed : IsPlaced station_schema 13 waybill2
 waybill_placed = record { there = refl; uncounted = refl; unstamped = refl; idle = λ _ _ _. refl }
@@ -27,18 +29,11 @@ updates_waybill old new w count inside h =
     (λ x. rw (cast_null, cast_int x.awb, cast_int w.pieces, cast_int w.tenths, cast_int w.notified, cast_int w.since)) ran.0 ran.1 ran.2.applies in
     edits_waybills old new inside ran.2.kept ran.2.applies.tables ran.2.shown (λ xs. update_where (λ x. int_eq (waybill_id x) w.awb) f xs) now.rows now.up
 
-pub gets_waybill : (old new : State) (id : ℤ) (rows : List Row) → IsStation old.now → Shown get_waybill_text (Int id ∷ []) old new rows
-    → rows ≡ map waybill_shown (option_to_list (get_by waybill_id (tables_of old.now.trees).waybills id))
-gets_waybill old new id rows was h =
-    let read = reads_as get_waybill_text (Int id ∷ []) old new station_schema was.schema (Select (asks (one_table 22 waybill_key_is waybill_columns [])) waybill_names) get_waybill_is.0 get_waybill_is.1 get_waybill_is.2 rows h in
-    row_at waybill_id waybill_row (λ _. refl) waybill_in old.now.schema old.now.trees 22 (typed_waybills old.now was) (Int id ∷ []) waybill_key_is waybill_columns id (at_key id []) waybill_shown (λ _. refl) rows read
+pub gets_waybill : (id : ℤ) → Lists get_waybill_is (Int id ∷ []) waybill_shown (λ tables. option_to_list (get_by waybill_id tables.waybills id))
+gets_waybill id = gets typed_waybills (λ _. refl) (λ tables. tables.waybills) (λ _. refl) get_waybill_is _ id (at_key id []) _ (λ _. refl)
 
-pub lists_all_waybills : (old new : State) (rows : List Row) → IsStation old.now → Shown all_waybill_text [] old new rows
-    → rows ≡ map waybill_shown (tables_of old.now.trees).waybills
-lists_all_waybills old new rows was h =
-    let read = reads_as all_waybill_text [] old new station_schema was.schema (Select (asks (one_table 22 [] waybill_columns (by_column 0 ∷ []))) waybill_names) all_waybill_is.0 all_waybill_is.1 all_waybill_is.2 rows h in
-    rows_by_key waybill_id waybill_row (λ _. refl) waybill_in old.now.schema old.now.trees 22 (typed_waybills old.now was) [] [] waybill_columns (λ _. true) (λ _. refl) waybill_shown (λ _. refl) rows read
-    ∙ ap (map waybill_shown) (unfiltered (tables_of old.now.trees).waybills refl)
+pub lists_all_waybills : Lists all_waybill_is [] waybill_shown (λ tables. tables.waybills)
+lists_all_waybills = all_listed (lists typed_waybills (λ _. refl) (λ tables. tables.waybills) (λ _. refl) all_waybill_is _ _ (λ _. refl) _ (λ _. refl))
 
 -- the numbers ascend
 pub waybills_ascend : (s : State) → IsStation s.now → IsKeyedBy waybill_id (tables_of s.now.trees).waybills

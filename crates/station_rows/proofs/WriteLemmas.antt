@@ -1,19 +1,25 @@
 -- What a statement that writes does, whatever the statement.
-use Rattle.station_rows.proofs.Common.{Alters, CommitsBy, Delete, Edits, Error, Executes, Ghosts, HasCleanDisk, Held, Insert, IsInside, List, Means, Ok, Result, Row, State, Survives, Tables, Update, changes, execute_survives, state, station_schema, ℕ}
-use Rattle.sqlite.specs.Source.{Source}
-use Rattle.sqlite_schema.specs.declared.program.Program.{Program}
+use Rattle.station_rows.proofs.Common.{Alters, Bool, CommitsBy, Delete, Edits, Error, Executes, Ghosts, HasCleanDisk, Held, Insert, IsInside, List, Means, Ok, Result, Row, Survives, Tables, Update, changes, execute_survives, false, state, station_schema, subst, true, ℕ, ◌≡◌}
+use Rattle.sqlite.specs.Command.{Command}
+use Rattle.station_schema.specs.Calls.{CommitsNothing}
 
-pub made_by : {S : Type 0} (g : Ghosts S) (old new : Held S) (sql : List ℕ) (params : Row) (change : Tables → Tables) → ((count : ℕ) → IsInside (state g old) → Executes sql params (state g old) (state g new) (Ok count) → Edits (state g old) (state g new) change)
-    → (r : Result ℕ Error) → (HasCleanDisk (state g new) → Executes sql params (state g old) (state g new) r) → Alters g old new r change
-made_by g old new sql params change does r ran clean inside = changes sql params (state g old) (state g new) change (λ count h. does count inside h) r (ran clean)
+-- it makes this change, and commits nothing
+pub record Wrote {S : Type 0} (g : Ghosts S) (old new : Held S) (sql : List ℕ) (params : Row) (change : Tables → Tables) (r : Result ℕ Error) : Type 0 where
+  pub made : Alters g old new r change
+  pub ran : HasCleanDisk (state g new) → Executes sql params (state g old) (state g new) r
+  pub survives : CommitsNothing g old new
 
--- no statement that writes commits
-module _ (sql : List ℕ) (params : Row) (old new : State) (at : ℕ) where
-  pub insert_survives : (source : Source) → Means station_schema sql (Insert at source) → Survives old new (CommitsBy sql params old) → Survives old new (λ _. ¬ IsInside old)
-  insert_survives source is = execute_survives sql params old new _ is.0 ((λ e. cc), λ _ e. cc)
+abbrev writes : Command → Bool
+writes (Insert at source) = true
+writes (Update at q) = true
+writes (Delete at q) = true
+writes _ = false
 
-  pub update_survives : (q : Program) → Means station_schema sql (Update at q) → Survives old new (CommitsBy sql params old) → Survives old new (λ _. ¬ IsInside old)
-  update_survives q is = execute_survives sql params old new _ is.0 ((λ e. cc), λ _ e. cc)
-
-  pub delete_survives : (q : Program) → Means station_schema sql (Delete at q) → Survives old new (CommitsBy sql params old) → Survives old new (λ _. ¬ IsInside old)
-  delete_survives q is = execute_survives sql params old new _ is.0 ((λ e. cc), λ _ e. cc)
+pub wrote : {S : Type 0} (g : Ghosts S) (old new : Held S) {sql : List ℕ} {params : Row} {change : Tables → Tables} {r : Result ℕ Error} {command : Command} → Means station_schema sql command → writes command ≡ true
+    → ((count : ℕ) → IsInside (state g old) → Executes sql params (state g old) (state g new) (Ok count) → Edits (state g old) (state g new) change)
+    → (HasCleanDisk (state g new) → Executes sql params (state g old) (state g new) r) → (given : Row) → Survives (state g old) (state g new) (CommitsBy sql given (state g old)) → Wrote g old new sql params change r
+wrote g old new {command = command} means is does ran given kept = record {
+  made = λ clean inside. changes _ _ (state g old) (state g new) _ (λ count. does count inside) _ (ran clean);
+  ran = ran;
+  survives = execute_survives _ given (state g old) (state g new) command means.0 ((λ e. let k = subst (λ c. writes c ≡ true) e is in cc), λ name e. let k = subst (λ c. writes c ≡ true) e is in cc) kept;
+}

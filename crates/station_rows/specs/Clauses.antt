@@ -1,9 +1,6 @@
 -- The forms of the clauses of `TableStore`: what the store showed before, and what it shows now.
 use Rattle.std.specs.Prelude.{◌≡◌, ◌⊎◌, Bool, true, List, OnOk, IfOk, IsErr, Result}
-use Rattle.station_schema.specs.Tables.{Tables}
-use Rattle.station_schema.specs.Store.{View, Seen, inside, IsShowing, Rests, Survives}
-use Rattle.station_schema.specs.Streams.{taking}
-use Rattle.row_sinks.specs.Handed.{Hands, HandedOut}
+use Rattle.station_rows.specs.Common.{Tables, View, Seen, inside, IsShowing, Rests, Survives, taking, Hands, HandedOut}
 
 -- a write in a transaction: whatever it showed, it now shows this with one change
 abbrev pub ShowsChange : {X E : Type 0} → View → View → Result X E → (Tables → Tables) → Type 0

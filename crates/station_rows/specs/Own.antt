@@ -1,6 +1,6 @@
 -- Whether rows are a station's own.
 use Rattle.std.specs.Prelude.{Bool}
-use Rattle.sqlite_trees.specs.declared.store.Store.{Ghosts}
+use Rattle.station_rows.specs.Common.{Ghosts}
 use Rattle.station_rows.specs.declared.rows.Rows.{Rows}
 
 -- the tables are declared as a new station declares them; it stays so while the rows are there

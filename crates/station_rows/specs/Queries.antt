@@ -1,11 +1,6 @@
 -- What a query returns, as values.
 use Rattle.std.specs.Prelude.{ℕ, List, [], ◌∷◌, Result}
-use Rattle.sqlite.specs.declared.error.Error.{Error}
-use Rattle.sqlite.specs.Given.{IsPlain}
-use Rattle.sqlite.specs.Listing.{understood}
-use Rattle.sqlite.specs.Order.{Row}
-use Rattle.sqlite.specs.State.{State, Shown}
-use Rattle.station_schema.specs.Effects.{Reads}
+use Rattle.station_rows.specs.Common.{Error, IsPlain, understood, Row, State, Shown, Reads}
 
 -- each value is read from the row at its place
 abbrev pub AreRead : {X : Type 0} → (Row → X → Type 0) → List Row → List X → Type 0

@@ -1,8 +1,6 @@
 -- What a write runs, whatever the tables are: its text, and its parameters.
 use Rattle.std.specs.Prelude.{ℕ, ℤ, List, [], ◌∷◌, codes}
-use Rattle.sqlite.specs.declared.types.Value.TheVariants.{Int, Text}
-use Rattle.sqlite.specs.Order.{Row}
-use Rattle.station_schema.specs.Tables.{BuildKey, CountKey, StockKey}
+use Rattle.station_rows.specs.Common.{Int, Text, Row, BuildKey, CountKey, StockKey}
 
 abbrev pub insert_waybill_text : List ℕ
 insert_waybill_text = codes "INSERT INTO waybill2 (awb, origin, destination, pieces, tenths, goods, notified, since) VALUES (?1, ?2, ?3, ?4, ?5, ?6, ?7, ?8)"

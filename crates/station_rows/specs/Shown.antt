@@ -1,9 +1,6 @@
 -- The rows that queries show, and back.
 use Rattle.std.specs.Prelude.{ℤ, [], ◌∷◌, ℕ, List}
-use Rattle.sqlite.specs.declared.types.Value.TheVariants.{Int, Text}
-use Rattle.sqlite.specs.Order.{Row, column}
-use Rattle.sqlite_typed.specs.Columns.{int_of, bytes_of}
-use Rattle.station_schema.specs.Tables.{Build, BuildKey, Count, CountKey, Expected, ExpectedKey, Flight, FlightKey, Move, Waybill, Kept, Message, TrailLine, Station, Stock, StockKey}
+use Rattle.station_rows.specs.Common.{Int, Text, Row, column, int_of, bytes_of, Build, BuildKey, Count, CountKey, Expected, ExpectedKey, Flight, FlightKey, Move, Waybill, Kept, Message, TrailLine, Station, Stock, StockKey}
 
 abbrev pub waybill_shown : Waybill → Row
 waybill_shown w = Int w.awb ∷ Text w.origin ∷ Text w.destination ∷ Int w.pieces ∷ Int w.tenths

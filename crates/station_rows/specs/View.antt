@@ -1,11 +1,6 @@
 -- What the tables over a connection show.
 use Rattle.std.specs.Prelude.{◌≡◌, Bool, true}
-use Rattle.sqlite.specs.Held.{Held, state}
-use Rattle.sqlite.specs.State.{HasCleanDisk}
-use Rattle.sqlite_trees.specs.declared.store.Store.{Ghosts}
-use Rattle.station_schema.specs.Connection.{connection_view}
-use Rattle.station_schema.specs.Store.{View}
-use Rattle.station_schema.specs.Own.{LiesInOrder}
+use Rattle.station_rows.specs.Common.{Held, state, HasCleanDisk, Ghosts, connection_view, View, LiesInOrder}
 
 -- They are sound while the disk has returned what was written, the tables are declared as a new
 -- station declares them, and rows lie in order in stores of this type.

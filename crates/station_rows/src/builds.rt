@@ -1,7 +1,5 @@
 ghost use Rattle.std.specs.Prelude.{◌≡◌, map, filter, option_map, IfOk};
-ghost use Rattle.std.specs.FinMap.{entries, get};
-ghost use Rattle.station_schema.specs.Calls.{LeavesAll, Tells};
-ghost use Rattle.station_schema.specs.Tables.{build_row};
+ghost use Rattle.station_rows.specs.Common.{entries, get, LeavesAll, Tells, build_row};
 ghost use Rattle.station_rows.specs.Meant.{build_meant, with_build, changing_build, without_build, is_on, pieces_in};
 ghost use Rattle.station_rows.specs.Shown.{build_read, pieces_shown, pieces_read};
 ghost use Rattle.station_rows.specs.Ran.{insert_build_text, update_build_text, delete_build_text, build_key_params};

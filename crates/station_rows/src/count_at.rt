@@ -1,5 +1,5 @@
 ghost use Rattle.std.specs.Prelude.{◌≡◌, option_map};
-ghost use Rattle.std.specs.FinMap.{get};
+ghost use Rattle.station_rows.specs.Common.{get};
 ghost use Rattle.station_rows.specs.Meant.{count_meant};
 
 use crate::counts::CountRow;

@@ -1,6 +1,5 @@
 ghost use Rattle.std.specs.Prelude.{◌≡◌, map, filter};
-ghost use Rattle.std.specs.FinMap.{entries};
-ghost use Rattle.station_schema.specs.Tables.{count_row};
+ghost use Rattle.station_rows.specs.Common.{entries, count_row};
 ghost use Rattle.station_rows.specs.Meant.{count_meant, with_count, changing_count, without_count, counts_for};
 ghost use Rattle.station_rows.specs.Shown.{count_read};
 ghost use Rattle.station_rows.specs.Ran.{insert_count_text, update_count_text, delete_count_text, count_key_params};

@@ -1,6 +1,5 @@
 ghost use Rattle.std.specs.Prelude.{◌≡◌, map, option_map};
-ghost use Rattle.std.specs.FinMap.{entries, get};
-ghost use Rattle.station_schema.specs.Tables.{expected_row};
+ghost use Rattle.station_rows.specs.Common.{entries, get, expected_row};
 ghost use Rattle.station_rows.specs.Meant.{expected_meant, listed_waybill_meant, with_expected, changing_expected};
 ghost use Rattle.station_rows.specs.Shown.{expected_read, listed_waybill_read};
 ghost use Rattle.station_rows.specs.Ran.{insert_expected_text, update_expected_text};

@@ -1,6 +1,5 @@
 ghost use Rattle.std.specs.Prelude.{◌≡◌, map, option_map};
-ghost use Rattle.std.specs.FinMap.{entries, get};
-ghost use Rattle.station_schema.specs.Tables.{flight_row};
+ghost use Rattle.station_rows.specs.Common.{entries, get, flight_row};
 ghost use Rattle.station_rows.specs.Meant.{flight_meant, noted_flight_meant, with_flight, changing_flight};
 ghost use Rattle.station_rows.specs.Shown.{flight_read, noted_flight_read};
 ghost use Rattle.station_rows.specs.Ran.{insert_flight_text, update_flight_text};

@@ -1,7 +1,5 @@
 ghost use Rattle.std.specs.Prelude.{◌≡◌, map, option_to_list, IfOk};
-ghost use Rattle.std.specs.FinMap.{get};
-ghost use Rattle.station_schema.specs.Calls.{LeavesAll, Tells};
-ghost use Rattle.station_schema.specs.Tables.{kept_text_row};
+ghost use Rattle.station_rows.specs.Common.{get, LeavesAll, Tells, kept_text_row};
 ghost use Rattle.station_rows.specs.Meant.{with_kept_text};
 ghost use Rattle.station_rows.specs.Shown.{kept_text_shown, kept_text_read};
 ghost use Rattle.station_rows.specs.Ran.{insert_kept_text_text};

@@ -1,5 +1,5 @@
 ghost use Rattle.std.specs.Prelude.{◌≡◌, map, filter};
-ghost use Rattle.station_schema.specs.Tables.{Move};
+ghost use Rattle.station_rows.specs.Common.{Move};
 ghost use Rattle.station_rows.specs.Meant.{move_meant, with_move, is_of, moves_for};
 ghost use Rattle.station_rows.specs.Shown.{move_shown, move_read};
 ghost use Rattle.station_rows.specs.Ran.{insert_move_text};

@@ -1,5 +1,5 @@
 ghost use Rattle.std.specs.Prelude.{◌≡◌, filter};
-ghost use Rattle.station_schema.specs.Tables.{Move};
+ghost use Rattle.station_rows.specs.Common.{Move};
 ghost use Rattle.station_rows.specs.Meant.{move_meant, is_flown_within};
 
 use crate::moves::MoveRow;

@@ -1,7 +1,5 @@
 ghost use Rattle.std.specs.Prelude.{◌≡◌, map, option_map, option_to_list, string_bytes, IfOk};
-ghost use Rattle.std.specs.FinMap.{get};
-ghost use Rattle.station_schema.specs.Calls.{LeavesAll, Tells};
-ghost use Rattle.station_schema.specs.Tables.{part_row};
+ghost use Rattle.station_rows.specs.Common.{get, LeavesAll, Tells, part_row};
 ghost use Rattle.station_rows.specs.Meant.{with_part};
 ghost use Rattle.station_rows.specs.Shown.{part_shown, part_read};
 ghost use Rattle.station_rows.specs.Ran.{insert_part_text};

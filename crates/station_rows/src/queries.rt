@@ -1,7 +1,6 @@
 ghost use Rattle.std.specs.Prelude.{◌≡◌, take, option_to_list, IfOk};
-ghost use Rattle.sqlite.specs.Held.{state};
-ghost use Rattle.sqlite.specs.State.{CommitsShowing, HasCleanDisk, Survives};
-ghost use Rattle.sqlite.specs.Values.{bound};
+ghost use Rattle.station_rows.specs.Common.{state, CommitsShowing, HasCleanDisk, bound};
+ghost use Rattle.sqlite.specs.State.{Survives};
 ghost use Rattle.station_rows.specs.Queries.{AreRead, Queries};
 
 use sqlite::types::ValueRef;

@@ -1,11 +1,5 @@
 ghost use Rattle.std.specs.Prelude.{ℕ, List, Result};
-ghost use Rattle.sqlite.specs.Held.{state};
-ghost use Rattle.sqlite.specs.Order.{Row};
-ghost use Rattle.sqlite.specs.State.{Executes, HasCleanDisk};
-ghost use Rattle.station_schema.specs.Streams.{taking};
-ghost use Rattle.row_sinks.specs.Handed.{HandedOut};
-ghost use Rattle.station_schema.specs.Tables.{Tables};
-ghost use Rattle.station_schema.specs.Calls.{Alters, CommitsNothing, HandsRows, LeavesAll, Tells};
+ghost use Rattle.station_rows.specs.Common.{state, Row, Executes, HasCleanDisk, taking, HandedOut, Tables, Alters, CommitsNothing, HandsRows, LeavesAll, Tells};
 
 use row_sinks::Sink;
 use sqlite::{Alter, Connection, Error};

@@ -1,6 +1,5 @@
 ghost use Rattle.std.specs.Prelude.{◌≡◌, pos, option_map};
-ghost use Rattle.sqlite_keyed.specs.Keyed.{get_by};
-ghost use Rattle.station_schema.specs.Tables.{station_id};
+ghost use Rattle.station_rows.specs.Common.{get_by, station_id};
 ghost use Rattle.station_rows.specs.Meant.{station_meant, confirming};
 ghost use Rattle.station_rows.specs.Shown.{station_read};
 ghost use Rattle.station_rows.specs.Ran.{confirm_text, confirm_params};

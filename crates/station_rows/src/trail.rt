@@ -1,5 +1,5 @@
 ghost use Rattle.std.specs.Prelude.{◌≡◌};
-ghost use Rattle.station_schema.specs.Tables.{TrailLine};
+ghost use Rattle.station_rows.specs.Common.{TrailLine};
 ghost use Rattle.station_rows.specs.Meant.{trail_meant, with_trail_line, lines_for};
 ghost use Rattle.station_rows.specs.Shown.{trail_shown, trail_read};
 ghost use Rattle.station_rows.specs.Ran.{insert_trail_text};

@@ -1,6 +1,5 @@
 ghost use Rattle.std.specs.Prelude.{◌≡◌, map, option_map};
-ghost use Rattle.sqlite_keyed.specs.Keyed.{IsKeyedBy, get_by};
-ghost use Rattle.station_schema.specs.Tables.{waybill_id};
+ghost use Rattle.station_rows.specs.Common.{IsKeyedBy, get_by, waybill_id};
 ghost use Rattle.station_rows.specs.Meant.{waybill_meant, with_waybill, changing_waybill};
 ghost use Rattle.station_rows.specs.Shown.{waybill_shown, waybill_read};
 ghost use Rattle.station_rows.specs.Ran.{insert_waybill_text, update_waybill_text};

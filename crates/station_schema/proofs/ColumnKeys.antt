@@ -1,5 +1,7 @@
 -- What each kind of statement does to a table whose key is made of columns, whatever the table.
-use Rattle.station_schema.proofs.Common.{AllByRecursion, Answers, Applies, AreEntries, Bool, Chosen, FinMap, Given, Int, IsAntisymmetric, IsAscending, IsKeyedBy, IsKeyedBy-delete_where, IsKeyedBy-insert_by, IsKeyedBy-update_where, IsPermutation, IsPermutation-filter, IsPermutation-map, IsPermutation-sym, IsPermutation-trans, IsTotalOrder, Key, Keys, Less, List, Ne, None, Null, Ordering, Output, Row, Schema, Table, Term, Trees, [], above_all, adjust, agree, all_both, all_map, all_unmap, all_weaker, ap, ap₂, arith, ascending-append, ascending-filter, ascending-map, ascending_weaker, at_end, at_ints, cast_row, clashes, cond, differ, drop, edit_of, entries, eq_by_cmp, eval_all, false, filter, filter-map, filter_same, find, from_entries, from_entries_push, get, get-from_entries, holds, id_in, ids_of, insert, insert_by, int_eq, ints, last_table, length, length-map, length_permutation, list_all, map, map-map, map_back, map_same, matches_are, next_key, next_rowid, none_from_any, not, numbered, numbered_in, option_map, option_to_list, output, output_cmp, overlay, plain, pos, refl, remove, rowid, sorted_unique, subst, sym, true, update_where, ℕ, ℤ, ◌&&◌, ◌++◌, ◌+ℤ◌, ◌<ℤ◌, ◌∙◌, ◌∷◌, ◌≡◌, ◌≤◌}
+use Rattle.station_schema.proofs.Common.{IsPermutation-refl, Query, lit, negsuc, AllByRecursion, Answers, Applies, AreEntries, Bool, Chosen, FinMap, Given, Int, IsAntisymmetric, IsAscending, IsKeyedBy, IsKeyedBy-delete_where, IsKeyedBy-insert_by, IsKeyedBy-update_where, IsPermutation, IsPermutation-filter, IsPermutation-map, IsPermutation-sym, IsPermutation-trans, IsTotalOrder, Key, Keys, Less, List, Ne, None, Null, Ordering, Output, Row, Schema, Table, Term, Trees, [], above_all, adjust, agree, all_both, all_map, all_unmap, all_weaker, ap, ap₂, arith, ascending-append, ascending-filter, ascending-map, ascending_weaker, at_end, at_ints, cast_row, clashes, cond, differ, drop, edit_of, entries, eq_by_cmp, eval_all, false, filter, filter-map, filter_same, find, from_entries, from_entries_push, get, get-from_entries, holds, id_in, ids_of, insert, insert_by, int_eq, ints, last_table, length, length-map, length_permutation, list_all, map, map-map, map_back, map_same, matches_are, next_key, next_rowid, none_from_any, not, numbered, numbered_in, option_map, option_to_list, output, output_cmp, overlay, plain, pos, refl, remove, rowid, sorted_unique, subst, sym, true, update_where, ℕ, ℤ, ◌&&◌, ◌++◌, ◌+ℤ◌, ◌<ℤ◌, ◌∙◌, ◌∷◌, ◌≡◌, ◌≤◌}
+use Rattle.sqlite.specs.Query.{as_count, limited}
+use Rattle.sqlite.specs.Term.{eval}
 use Rattle.sqlite_sql.proofs.QueryLemmas.{output_cmp_total}
 use Rattle.sqlite_keyed.proofs.SliceLemmas.{insert_next}
 use Rattle.station_schema.proofs.Keyed.{one_table, no_overlay, any_rows, few_rows, puts, removed_any, changed, fold-map}
@@ -18,6 +20,23 @@ pub record IsMap {K V : Type 0} (R : K → K → Ordering) (to_row : K × V → 
   pub keyed : IsKeyedBy (λ n. n.0) raw
   pub apart : IsAscending (λ a b. eq_by_cmp R a.1.0 b.1.0 ≡ false) raw
   pub is : m ≡ from_entries (map (λ n. n.1) raw)
+
+pub first_false : (e d : Bool) → (e && not d) ≡ false → d ≡ false → e ≡ false
+first_false true true h k = k
+first_false true false h k = h
+first_false false d h k = refl
+
+last_of : {X : Type 0} (P : X → Type 0) (xs : List X) (x : X) → AllByRecursion P (xs ++ x ∷ []) → P x
+last_of P [] x all = all.0
+last_of P (y ∷ xs) x all = last_of P xs x all.1
+
+pub front_of : {X : Type 0} (P : X → Type 0) (xs : List X) (x : X) → AllByRecursion P (xs ++ x ∷ []) → AllByRecursion P xs
+front_of P [] x all = tt
+front_of P (y ∷ xs) x all = (all.0, front_of P xs x all.1)
+
+pub no_clash : (b : Bool) → (not b && true) ≡ true → b ≡ false
+no_clash true h = sym h
+no_clash false h = refl
 
 module _ {K V : Type 0} (R : K → K → Ordering) (total : IsTotalOrder R) (to_row : K × V → Row) where
   -- the map of such rows, and back
@@ -72,28 +91,39 @@ module _ {K V : Type 0} (R : K → K → Ordering) (total : IsTotalOrder R) (to_
         ap (map show) (filter_same p _ at (entries m) ∙ entry_at R total same m k) ∙ map_one show _ in
         same_one _ rows (subst (λ l. IsPermutation l rows) found (rows_shown rows h)) ∙ sym (map_one show _)
 
+    abbrev limited_by : Term → List (Term × Key) → Query
+    limited_by limit order = record (one_table t filters project order) { limit = limit }
+
+    abbrev out : Term → List (Term × Key) → K × V → Output
+    out limit order e = output (limited_by limit order) (params ∷ (Int (pos 0) ∷ to_row e) ∷ [])
+
+    -- ORDER BY and LIMIT: the rows that pass, as a list that rises under ORDER BY
+    pub rows_limited : (limit : Term) (order : List (Term × Key)) → ((n : ℤ) (e : K × V) → output (limited_by limit order) (params ∷ (Int n ∷ to_row e) ∷ []) ≡ out limit order e) → (wanted : List (K × V)) → IsPermutation (filter p (entries m)) wanted
+        → IsAscending (λ a b. output_cmp (limited_by limit order) (out limit order a) (out limit order b) ≡ Less) wanted
+        → (rows : List Row) → Answers (record { schema = schema; trees = db }) (record { lets = []; body = limited_by limit order }) params rows → rows ≡ limited (as_count (eval limit (params ∷ []))) (map show wanted)
+    rows_limited limit order unseen wanted moved rises rows h =
+        let q = limited_by limit order in
+        let f = out limit order in
+        let source = last_table (overlay db []) t (numbered to_row) number was.raw (no_overlay db t ∙ was.rows) was.keyed (at_end (overlay db [])) in
+        let a = h.answer Null in
+        let kept : a.kept ≡ map f (filter p (map entry was.raw)) =
+        a.distinct ∙ ap (map (output q)) (a.grouped ∙ matches_are q (overlay db []) params source (λ n. p n.1) (λ n. tests n.0 n.1))
+        ∙ map-map (output q) (λ (n : ℤ × (K × V)). params ∷ numbered to_row n ∷ []) (filter (λ n. p n.1) was.raw)
+        ∙ map_same _ (λ n. f n.1) (λ n. unseen n.0 n.1) (filter (λ n. p n.1) was.raw)
+        ∙ sym (map-map f entry (filter (λ n. p n.1) was.raw)) ∙ ap (map f) (sym (filter-map p entry was.raw)) in
+        let same : IsPermutation (map f wanted) a.ordered =
+        IsPermutation-trans _ _ _ (IsPermutation-sym _ _ (IsPermutation-map f _ _ (IsPermutation-trans _ _ _ kept_rows moved))) (subst (λ k. IsPermutation k a.ordered) kept a.same) in
+        a.shown ∙ ap (λ (l : List Output). limited (as_count (eval limit (params ∷ []))) (map (λ (o : Output). o.1) l)) (sorted_unique (output_cmp q) (output_cmp_total q) _ a.ordered (ascending-map (λ x y. output_cmp q x y ≡ Less) f _ rises) same a.sorted)
+        ∙ ap (limited (as_count (eval limit (params ∷ [])))) (map-map (λ (o : Output). o.1) f wanted ∙ map_same _ show (shows (pos 0)) wanted)
+
     -- ORDER BY orders the rows that pass as their keys do
     pub rows_in_order : (order : List (Term × Key)) → ((n : ℤ) (e : K × V) → output (one_table t filters project order) (params ∷ (Int n ∷ to_row e) ∷ []) ≡ output (one_table t filters project order) (params ∷ (Int (pos 0) ∷ to_row e) ∷ []))
         → ((a b : K × V) → p a ≡ true → p b ≡ true
         → output_cmp (one_table t filters project order) (output (one_table t filters project order) (params ∷ (Int (pos 0) ∷ to_row a) ∷ [])) (output (one_table t filters project order) (params ∷ (Int (pos 0) ∷ to_row b) ∷ [])) ≡ R a.0 b.0)
         → (rows : List Row) → Answers (record { schema = schema; trees = db }) (record { lets = []; body = one_table t filters project order }) params rows → rows ≡ map show (filter p (entries m))
     rows_in_order order unseen agrees rows h =
-        let q = one_table t filters project order in
-        let out = λ (e : K × V). output q (params ∷ (Int (pos 0) ∷ to_row e) ∷ []) in
-        let source = last_table (overlay db []) t (numbered to_row) number was.raw (no_overlay db t ∙ was.rows) was.keyed (at_end (overlay db [])) in
-        let a = h.answer Null in
-        let kept : a.kept ≡ map out (filter p (map entry was.raw)) =
-        a.distinct ∙ ap (map (output q)) (a.grouped ∙ matches_are q (overlay db []) params source (λ n. p n.1) (λ n. tests n.0 n.1))
-        ∙ map-map (output q) (λ (n : ℤ × (K × V)). params ∷ numbered to_row n ∷ []) (filter (λ n. p n.1) was.raw)
-        ∙ map_same _ (λ n. out n.1) (λ n. unseen n.0 n.1) (filter (λ n. p n.1) was.raw)
-        ∙ sym (map-map out entry (filter (λ n. p n.1) was.raw)) ∙ ap (map out) (sym (filter-map p entry was.raw)) in
-        let same : IsPermutation (map out (filter p (entries m))) a.ordered =
-        IsPermutation-trans _ _ _ (IsPermutation-sym _ _ (IsPermutation-map out _ _ kept_rows)) (subst (λ k. IsPermutation k a.ordered) kept a.same) in
-        let rises : IsAscending (λ x y. output_cmp q x y ≡ Less) (map out (filter p (entries m))) =
-        ascending-map (λ x y. output_cmp q x y ≡ Less) out _ (ascending_where (λ e. p e ≡ true) (λ a b. R a.0 b.0 ≡ Less) (λ a b. output_cmp q (out a) (out b) ≡ Less) (λ a b pa pb less. agrees a b pa pb ∙ less)
-        (filter p (entries m)) (all_passed p (entries m)) (ascending-filter _ p (entries m) (entries_rise R total m))) in
-        a.shown ∙ ap (map (λ (o : Output). o.1)) (sorted_unique (output_cmp q) (output_cmp_total q) _ a.ordered rises same a.sorted)
-        ∙ map-map (λ (o : Output). o.1) out (filter p (entries m)) ∙ map_same _ show (shows (pos 0)) (filter p (entries m))
+        rows_limited (lit (Int (negsuc 0))) order unseen (filter p (entries m)) (IsPermutation-refl _)
+        (ascending_where (λ e. p e ≡ true) (λ a b. R a.0 b.0 ≡ Less) _ (λ a b pa pb less. agrees a b pa pb ∙ less) (filter p (entries m)) (all_passed p (entries m)) (ascending-filter _ p (entries m) (entries_rise R total m))) rows h
 
   -- ---- INSERT
 
@@ -106,23 +136,6 @@ module _ {K V : Type 0} (R : K → K → Ordering) (total : IsTotalOrder R) (to_
 
   differ_is : (a b : ℤ) → differ (Int a) (Int b) ≡ not (int_eq a b)
   differ_is a b = at_ints false Ne a b
-
-  first_false : (e d : Bool) → (e && not d) ≡ false → d ≡ false → e ≡ false
-  first_false true true h k = k
-  first_false true false h k = h
-  first_false false d h k = refl
-
-  last_of : {X : Type 0} (P : X → Type 0) (xs : List X) (x : X) → AllByRecursion P (xs ++ x ∷ []) → P x
-  last_of P [] x all = all.0
-  last_of P (y ∷ xs) x all = last_of P xs x all.1
-
-  front_of : {X : Type 0} (P : X → Type 0) (xs : List X) (x : X) → AllByRecursion P (xs ++ x ∷ []) → AllByRecursion P xs
-  front_of P [] x all = tt
-  front_of P (y ∷ xs) x all = (all.0, front_of P xs x all.1)
-
-  no_clash : (b : Bool) → (not b && true) ≡ true → b ≡ false
-  no_clash true h = sym h
-  no_clash false h = refl
 
   map_push : {A B : Type 0} (f : A → B) (xs : List A) (x : A) → map f (xs ++ x ∷ []) ≡ map f xs ++ f x ∷ []
   map_push f [] x = refl

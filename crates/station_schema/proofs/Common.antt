@@ -10,7 +10,7 @@ pub use Rattle.sqlite.specs.Does.{AtPlace, Defines, Does, MakesIndex, OnRows, Ta
 pub use Rattle.sqlite.specs.Edit.{Applies, Edit, are_fresh, edit_of, id_in, is_taken, left_by, next_rowid, put_all, with_rowid, without_all}
 pub use Rattle.sqlite.specs.Effect.{Answers, Database, IsDatabase, value_rows}
 pub use Rattle.sqlite.specs.Held.{Held, state}
-pub use Rattle.sqlite.specs.Kind.TheVariants.{Any, Integer}
+pub use Rattle.sqlite.specs.Kind.TheVariants.{Integer}
 pub use Rattle.sqlite.specs.Listing.{IsSourceOf, reads_listing, understood}
 pub use Rattle.sqlite.specs.Ops.{is_null}
 pub use Rattle.sqlite.specs.Order.{Row, column, value_cmp}
@@ -25,7 +25,7 @@ pub use Rattle.sqlite.specs.Table.{Table}
 pub use Rattle.sqlite.specs.Term.{Term, col, eval_all, holds, lit}
 pub use Rattle.sqlite.specs.Tree.{IsAscending, IsTable, Trees, put_row, rowid}
 pub use Rattle.sqlite.specs.declared.error.Error.{Error}
-pub use Rattle.sqlite.specs.declared.types.Value.TheVariants.{Blob, Int, Null, Real, Text}
+pub use Rattle.sqlite.specs.declared.types.Value.TheVariants.{Int, Null, Text}
 pub use Rattle.sqlite.specs.declared.types.Value.{Value}
 pub use Rattle.sqlite_keyed.proofs.KeyedLemmas.{IsKeyedBy-delete_where, IsKeyedBy-insert_by, IsKeyedBy-update_where, Less-from_lt, above_all, lt_from_Less}
 pub use Rattle.sqlite_keyed.proofs.ListLemmas.{IsPermutation-filter, all-filter, all_both, all_map, all_unmap, all_weaker, ascending-append, ascending-filter, ascending-map, ascending_from_map, ascending_weaker, filter-map, filter_none, filter_same, map-map, map_back, map_same, none_from_any}
@@ -36,7 +36,7 @@ pub use Rattle.sqlite_resolve.specs.declared.compiled.Compiled.{Compiled}
 pub use Rattle.sqlite_resolve.specs.declared.error.CompileError.{CompileError}
 pub use Rattle.sqlite_rules.specs.Action.{works}
 pub use Rattle.sqlite_rules.specs.Calls.{ids_of}
-pub use Rattle.sqlite_schema.specs.Rules.{IsLaidOut, Keeps, agree, are_present, are_typed, clashes, differ, has_computed, is_of}
+pub use Rattle.sqlite_schema.specs.Rules.{agree, are_present, are_typed, clashes, differ, has_computed, is_of}
 pub use Rattle.sqlite_schema.specs.declared.program.Program.{Program}
 pub use Rattle.sqlite_schema.specs.declared.schema.Index.{Index}
 pub use Rattle.sqlite_schema.specs.declared.schema.Keys.{Keys}
@@ -57,9 +57,8 @@ pub use Rattle.station_schema.specs.Effects.{Commits, IsMade, IsUndone, Makes, R
 pub use Rattle.station_schema.specs.Own.{IsNewStation, IsOldOwn, IsOwn, LiesInOrder}
 pub use Rattle.station_schema.specs.Schema.{build, column_of, counts, expected, flight, kept_key, kept_text, key_column, moves, moves_index, no_schema, old_schema, outbox, part, schema_with, station, station_schema, stock, trail, waybill, waybill2}
 pub use Rattle.station_schema.specs.Shapes.{index_of, table_of}
-pub use Rattle.station_schema.specs.Tables.{ExpectedKey, FlightKey, IsOldStation, IsStation, IsTyped, PartKey, StockKey, Tables, build_cmp, build_row, count_cmp, count_row, expected_cmp, expected_row, flight_cmp, flight_row, kept_cmp, kept_row, kept_text_cmp, kept_text_row, part_cmp, part_row, rows_in, station_id, station_row, stock_cmp, stock_row, tables_in, tables_of, typed_stations}
-pub use Rattle.station_schema.specs.Wanted.{column_as}
-pub use Rattle.station_schema.specs.declared.declarations.TheConstants.{BUILD, COUNTS, DECLARATIONS, EXPECTED, FLIGHT, KEPT_KEY, KEPT_TEXT, MOVES, MOVES_AWB, OUTBOX, PART, STATION, STOCK, TRAIL, WAYBILL, WAYBILL2}
+pub use Rattle.station_schema.specs.Tables.{ExpectedKey, FlightKey, IsOldStation, IsStation, IsTyped, PartKey, StockKey, Tables, build_cmp, count_cmp, expected_cmp, flight_cmp, kept_cmp, kept_text_cmp, part_cmp, rows_in, station_id, station_row, stock_cmp, tables_in, tables_of, typed_stations}
+pub use Rattle.station_schema.specs.declared.declarations.TheConstants.{DECLARATIONS, MOVES_AWB, WAYBILL2}
 pub use Rattle.std.proofs.Common.{Equal, Greater, Less, None, Ordering, Some, T, ap, append-nil, append_assoc, ap₂, arith, codes, cond, drop-drop, filter, get_or, inl, inr, int_eq, is_eq, is_some, length, map-id, nat_le, negsuc, not, option_map, pos, rules, slice_get, slice_index_or, subst, subst₂, sym, take, ℤ, ◌++◌, ◌+ℤ◌, ◌+◌, ◌/◌, ◌<ℤ◌, ◌<◌, ◌^◌, ◌∙◌, ◌≢◌, ◌≤◌, ◌⊎◌}
 pub use Rattle.std.proofs.Math.Logic.{∥∥₁_elim}
 pub use Rattle.std.proofs.lemmas.Int.{ints}

@@ -1,11 +1,13 @@
 -- From no tables to those of a station.
-use Rattle.station_schema.proofs.Common.{AllByRecursion, BUILD, COUNTS, CommitsBy, DECLARATIONS, Database, EXPECTED, Err, Error, Executes, FLIGHT, IsInside, IsMade, IsTrue, KEPT_KEY, KEPT_TEXT, KeepsCommit, KeepsRows, List, MOVES, MOVES_AWB, Makes, OUTBOX, Ok, PART, Result, STATION, STOCK, Schema, Shows, State, Survives, TRAIL, Table, Trees, WAYBILL, WAYBILL2, [], ap, arith, build, counts, created, drop, expected, false, flight, get_or, kept_key, kept_text, lacks_sequence, length, length-map, map, moves, moves_index, next_tree, no_schema, outbox, part, refl, station, station_schema, stock, subst, suc, sym, trail, true, waybill, waybill2, zero, ℕ, ◌++◌, ◌+◌, ◌<◌, ◌∙◌, ◌∷◌, ◌≡◌}
+use Rattle.station_schema.proofs.Common.{AllByRecursion, CommitsBy, DECLARATIONS, Database, Err, Error, Executes, IsInside, IsMade, IsTrue, KeepsCommit, KeepsRows, List, MOVES_AWB, Makes, Ok, Result, Schema, Shows, State, Survives, Table, Trees, [], ap, arith, build, counts, created, drop, expected, false, flight, get_or, kept_key, kept_text, lacks_sequence, length, length-map, map, moves, moves_index, next_tree, no_schema, outbox, part, refl, station, station_schema, stock, subst, suc, sym, trail, true, waybill, waybill2, zero, ℕ, ◌++◌, ◌+◌, ◌<◌, ◌∙◌, ◌∷◌, ◌≡◌}
 use Rattle.std.specs.Borrow.{Bor}
 use Rattle.std.specs.Fmt.{digits}
+use Rattle.sqlite_tied.specs.Compute.{everything}
+use Rattle.sqlite.specs.Listing.{understood}
 use Rattle.station_schema.proofs.Making.{makes_it, create_survives, indexes_it, index_survives}
 use Rattle.station_schema.proofs.AnyTexts.{IsCreate}
 use Rattle.station_schema.proofs.Stored.{made_station}
-use Rattle.station_schema.proofs.Texts.{made, station_is, waybill_is, stock_is, flight_is, moves_is, moves_awb_is, expected_is, part_is, trail_is, outbox_is, kept_key_is, kept_text_is, counts_is, build_is, waybill2_is}
+use Rattle.station_schema.proofs.Texts.{made, moves_awb_is}
 
 -- a text makes one schema of another, inside a transaction
 pub record Step (sql : List ℕ) (from to : Schema) : Type 1 where
@@ -19,79 +21,29 @@ with_last : (old new : Trees) (tables : List Table) (last : Table) → KeepsRows
 with_last old new [] last keep none here = (here, tt)
 with_last old new (t ∷ ts) last keep none here = (keep.0 ∙ none.0, with_last old new ts last keep.1 none.1 here)
 
-table_step : (sql : List ℕ) (schema : Schema) (table : Table) → IsCreate sql schema table → (next : Schema) → created schema table ≡ next → lacks_sequence next ≡ false
-    → (last : Table) → next.tables ≡ schema.tables ++ last ∷ [] → last.tree ≡ next_tree schema → Step sql schema next
-table_step sql schema table is next makes plain last tables tree = record {
-  makes = λ old new r was ran.
-      makes_it sql schema table is next makes plain old new
-      (λ it made. subst (AllEmpty new.now.trees) (sym tables) (with_last old.now.trees new.now.trees schema.tables last it.others made.empty (ap new.now.trees tree ∙ it.empty))) r was ran;
-  survives = λ old new s. create_survives sql schema table is next makes plain old new s;
-}
-
--- ---- the declarations, in order
-
-station_step : Step STATION.now (made 0 0) (made 1 0)
-station_step = table_step STATION.now (made 0 0) (record station { tree = 0 }) station_is (made 1 0) refl refl station refl refl
-
-waybill_step : Step WAYBILL.now (made 1 0) (made 2 0)
-waybill_step = table_step WAYBILL.now (made 1 0) (record waybill { tree = 0 }) waybill_is (made 2 0) refl refl waybill refl refl
-
-stock_step : Step STOCK.now (made 2 0) (made 3 1)
-unfolding digits
-stock_step = table_step STOCK.now (made 2 0) (record stock { tree = 0 }) stock_is (made 3 1) refl refl stock refl refl
-
-flight_step : Step FLIGHT.now (made 3 1) (made 4 2)
-unfolding digits
-flight_step = table_step FLIGHT.now (made 3 1) (record flight { tree = 0 }) flight_is (made 4 2) refl refl flight refl refl
-
-moves_step : Step MOVES.now (made 4 2) (made 5 2)
-moves_step = table_step MOVES.now (made 4 2) (record moves { tree = 0 }) moves_is (made 5 2) refl refl moves refl refl
-
-moves_awb_step : Step MOVES_AWB.now (made 5 2) (made 5 3)
-moves_awb_step = record {
-  makes = λ old new r was ran. indexes_it MOVES_AWB.now (made 5 2) 4 moves (record moves_index { tree = 0 }) moves_awb_is (made 5 3) refl refl old new r was ran;
-  survives = λ old new s. index_survives MOVES_AWB.now (made 5 2) 4 moves (record moves_index { tree = 0 }) moves_awb_is (made 5 3) refl refl old new s;
-}
-
-expected_step : Step EXPECTED.now (made 5 3) (made 6 4)
-unfolding digits
-expected_step = table_step EXPECTED.now (made 5 3) (record expected { tree = 0 }) expected_is (made 6 4) refl refl expected refl refl
-
-part_step : Step PART.now (made 6 4) (made 7 5)
-unfolding digits
-part_step = table_step PART.now (made 6 4) (record part { tree = 0 }) part_is (made 7 5) refl refl part refl refl
-
-trail_step : Step TRAIL.now (made 7 5) (made 8 5)
-trail_step = table_step TRAIL.now (made 7 5) (record trail { tree = 0 }) trail_is (made 8 5) refl refl trail refl refl
-
-outbox_step : Step OUTBOX.now (made 8 5) (made 9 5)
-outbox_step = table_step OUTBOX.now (made 8 5) (record outbox { tree = 0 }) outbox_is (made 9 5) refl refl outbox refl refl
-
-kept_key_step : Step KEPT_KEY.now (made 9 5) (made 10 6)
-unfolding digits
-kept_key_step = table_step KEPT_KEY.now (made 9 5) (record kept_key { tree = 0 }) kept_key_is (made 10 6) refl refl kept_key refl refl
-
-kept_text_step : Step KEPT_TEXT.now (made 10 6) (made 11 7)
-unfolding digits
-kept_text_step = table_step KEPT_TEXT.now (made 10 6) (record kept_text { tree = 0 }) kept_text_is (made 11 7) refl refl kept_text refl refl
-
-counts_step : Step COUNTS.now (made 11 7) (made 12 8)
-unfolding digits
-counts_step = table_step COUNTS.now (made 11 7) (record counts { tree = 0 }) counts_is (made 12 8) refl refl counts refl refl
-
-build_step : Step BUILD.now (made 12 8) (made 13 9)
-unfolding digits
-build_step = table_step BUILD.now (made 12 8) (record build { tree = 0 }) build_is (made 13 9) refl refl build refl refl
-
-waybill2_step : Step WAYBILL2.now (made 13 9) (made 14 9)
-waybill2_step = table_step WAYBILL2.now (made 13 9) (record waybill2 { tree = 0 }) waybill2_is (made 14 9) refl refl waybill2 refl refl
-
 -- the schemas between the declarations
 abbrev pub stages : List Schema
 stages = made 0 0 ∷ made 1 0 ∷ made 2 0 ∷ made 3 1 ∷ made 4 2 ∷ made 5 2 ∷ made 5 3 ∷ made 6 4 ∷ made 7 5 ∷ made 8 5 ∷ made 9 5 ∷ made 10 6 ∷ made 11 7 ∷ made 12 8 ∷ made 13 9 ∷ made 14 9 ∷ []
 
 abbrev pub texts : List (List ℕ)
 texts = map (λ t. t.now) DECLARATIONS
+
+-- the declaration at this place makes a table
+table_step : (i : ℕ) (table : Table) → IsCreate (get_or texts i []) (get_or stages i no_schema) (record table { tree = 0 }) → created (get_or stages i no_schema) (record table { tree = 0 }) ≡ get_or stages (suc i) no_schema
+    → lacks_sequence (get_or stages (suc i) no_schema) ≡ false → (get_or stages (suc i) no_schema).tables ≡ (get_or stages i no_schema).tables ++ table ∷ [] → table.tree ≡ next_tree (get_or stages i no_schema)
+    → Step (get_or texts i []) (get_or stages i no_schema) (get_or stages (suc i) no_schema)
+table_step i table is makes plain tables tree = record {
+  makes = λ old new r was ran.
+      makes_it _ _ _ is _ makes plain old new
+      (λ it made. subst (AllEmpty new.now.trees) (sym tables) (with_last old.now.trees new.now.trees (get_or stages i no_schema).tables table it.others made.empty (ap new.now.trees tree ∙ it.empty))) r was ran;
+  survives = λ old new s. create_survives _ _ _ is _ makes plain old new s;
+}
+
+moves_awb_step : Step MOVES_AWB.now (made 5 2) (made 5 3)
+moves_awb_step = record {
+  makes = λ old new r was ran. indexes_it MOVES_AWB.now (made 5 2) 4 moves (record moves_index { tree = 0 }) moves_awb_is (made 5 3) refl refl old new r was ran;
+  survives = λ old new s. index_survives MOVES_AWB.now (made 5 2) 4 moves (record moves_index { tree = 0 }) moves_awb_is (made 5 3) refl refl old new s;
+}
 
 -- these are the declarations
 abbrev AreDeclarations : List (Bor (List ℕ)) → Type 0
@@ -112,8 +64,28 @@ abbrev Steps : List (List ℕ) → List Schema → Type 1
 Steps [] schemas = Unit {1}
 Steps (sql ∷ rest) schemas = Step sql (get_or schemas 0 no_schema) (get_or schemas 1 no_schema) × Steps rest (drop 1 schemas)
 
+one_and : {A B : Type 1} → A → B → A × B
+one_and a b = (a, b)
+
+-- each declaration, under the schema that the ones before it make
 all_steps : Steps texts stages
-all_steps = (station_step, (waybill_step, (stock_step, (flight_step, (moves_step, (moves_awb_step, (expected_step, (part_step, (trail_step, (outbox_step, (kept_key_step, (kept_text_step, (counts_step, (build_step, (waybill2_step, tt)))))))))))))))
+unfolding understood everything digits
+all_steps =
+    one_and (table_step 0 station (record { command = refl; plain = (refl, refl); whole = refl; defined = refl }) refl refl refl refl)
+    (one_and (table_step 1 waybill (record { command = refl; plain = (refl, refl); whole = refl; defined = refl }) refl refl refl refl)
+    (one_and (table_step 2 stock (record { command = refl; plain = (refl, refl); whole = refl; defined = refl }) refl refl refl refl)
+    (one_and (table_step 3 flight (record { command = refl; plain = (refl, refl); whole = refl; defined = refl }) refl refl refl refl)
+    (one_and (table_step 4 moves (record { command = refl; plain = (refl, refl); whole = refl; defined = refl }) refl refl refl refl)
+    (one_and moves_awb_step
+    (one_and (table_step 6 expected (record { command = refl; plain = (refl, refl); whole = refl; defined = refl }) refl refl refl refl)
+    (one_and (table_step 7 part (record { command = refl; plain = (refl, refl); whole = refl; defined = refl }) refl refl refl refl)
+    (one_and (table_step 8 trail (record { command = refl; plain = (refl, refl); whole = refl; defined = refl }) refl refl refl refl)
+    (one_and (table_step 9 outbox (record { command = refl; plain = (refl, refl); whole = refl; defined = refl }) refl refl refl refl)
+    (one_and (table_step 10 kept_key (record { command = refl; plain = (refl, refl); whole = refl; defined = refl }) refl refl refl refl)
+    (one_and (table_step 11 kept_text (record { command = refl; plain = (refl, refl); whole = refl; defined = refl }) refl refl refl refl)
+    (one_and (table_step 12 counts (record { command = refl; plain = (refl, refl); whole = refl; defined = refl }) refl refl refl refl)
+    (one_and (table_step 13 build (record { command = refl; plain = (refl, refl); whole = refl; defined = refl }) refl refl refl refl)
+    (one_and (table_step 14 waybill2 (record { command = refl; plain = (refl, refl); whole = refl; defined = refl }) refl refl refl refl) tt))))))))))))))
 
 step_in : (rest : List (List ℕ)) (schemas : List Schema) → Steps rest schemas → (i : ℕ) → i < length rest → Step (get_or rest i []) (get_or schemas i no_schema) (get_or schemas (suc i) no_schema)
 step_in [] schemas steps i low = absurd (omega arith)

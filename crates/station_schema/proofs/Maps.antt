@@ -1,5 +1,6 @@
 -- Maps and lists of entries: each key once, in some order.
 use Rattle.station_schema.proofs.Common.{AllByRecursion, Bool, Equal, FinMap, Greater, IsAntisymmetric, IsAscending, IsPermutation, IsPermutation-cons, IsPermutation-middle, IsPermutation-refl, IsPermutation-trans, IsTotalOrder, Less, List, None, Option, Ordering, Some, T, [], adjust, all_both, all_weaker, ap, arith, cond, empty, entries, entries-insert, entries_sorted, eq_by_cmp, eq_by_cmp_equiv, false, filter, filter_none, find, from_entries, get, get-entries, get-from_entries, get-insert, get-remove, insert, is_eq, is_lt, is_sorted, len-empty, len-entries, length, length_permutation, map, not, one_permutation, option_map, option_to_list, put, refl, remove, same_map, subst, sym, true, unwrap_or, ◌&&◌, ◌∙◌, ◌∷◌, ◌≡◌, ◌≤◌}
+use Rattle.station_schema.proofs.OneRow.{is_tied}
 use Rattle.std.specs.FinMap.Entries.{below_all, by_order, where_key, find-where_key}
 
 no_entries : {E : Type 0} (es : List E) → length es ≡ 0 → es ≡ []
@@ -12,13 +13,7 @@ both_hold false b h = absurd h
 
 is_less : (o : Ordering) → T (is_lt o) → o ≡ Less
 is_less Less h = refl
-is_less Equal h = absurd h
-is_less Greater h = absurd h
-
-is_tied : (o : Ordering) → is_eq o ≡ true → o ≡ Equal
-is_tied Less h = absurd (cc)
-is_tied Equal h = refl
-is_tied Greater h = absurd (cc)
+is_less _ h = absurd h
 
 pub all_passed : {X : Type 0} (p : X → Bool) (xs : List X) → AllByRecursion (λ x. p x ≡ true) (filter p xs)
 all_passed p [] = tt

@@ -3,9 +3,8 @@ use Rattle.station_schema.proofs.Common.{Bool, Equal, Greater, IsAntisymmetric, 
 use Rattle.std.proofs.lemmas.Cmp.{nat_list_cmp_total}
 
 both_tied : (a b : Ordering) → ordering_then a b ≡ Equal → (a ≡ Equal) × (b ≡ Equal)
-both_tied Less b h = absurd (cc)
 both_tied Equal b h = (refl, h)
-both_tied Greater b h = absurd (cc)
+both_tied _ b h = absurd (cc)
 
 -- two columns, or one and the rest
 module _ {X Y : Type 0} (first : X → X → Ordering) (second : Y → Y → Ordering) where
@@ -39,10 +38,9 @@ texts_total = nat_list_cmp_total
 pub texts_same : IsAntisymmetric bytes_cmp
 texts_same = slice_cmp-IsAntisymmetric nat_cmp-IsAntisymmetric
 
-is_tied : (o : Ordering) → is_eq o ≡ true → o ≡ Equal
-is_tied Less h = absurd (cc)
+pub is_tied : (o : Ordering) → is_eq o ≡ true → o ≡ Equal
 is_tied Equal h = refl
-is_tied Greater h = absurd (cc)
+is_tied _ h = absurd (cc)
 
 -- two texts that are the same third
 pub texts_both : (a b t : List ℕ) → eq_by_cmp bytes_cmp a t ≡ true → eq_by_cmp bytes_cmp b t ≡ true → bytes_cmp a b ≡ Equal

@@ -1,5 +1,5 @@
 -- From the rows of a tree to a table, and back.
-use Rattle.station_schema.proofs.Common.{AllByRecursion, AreEntries, AreListed, Bool, Database, Edits, FinMap, IsInside, IsKeyedBy, IsStation, IsTyped, List, Row, Shows, State, Table, Tables, Trees, [], ap, arith, cond, false, if◌then◌else◌, map, map_back, refl, rows_in, station_schema, subst, sym, tables_in, tables_of, true, ℕ, ℤ, ◌==◌, ◌∙◌, ◌∷◌, ◌≡◌, ◌≢◌}
+use Rattle.station_schema.proofs.Common.{IsTotalOrder, numbered, from_entries, AllByRecursion, AreEntries, AreListed, Bool, Database, Edits, FinMap, IsInside, IsKeyedBy, IsStation, IsTyped, List, Row, Shows, State, Table, Tables, Trees, [], ap, arith, cond, false, if◌then◌else◌, map, map_back, refl, rows_in, station_schema, subst, sym, tables_in, tables_of, true, ℕ, ℤ, ◌==◌, ◌∙◌, ◌∷◌, ◌≡◌, ◌≢◌}
 use Rattle.std.specs.declared.cmp.Ordering.{Ordering}
 use Rattle.station_schema.specs.Tables as table
 use Rattle.station_schema.proofs.ColumnKeys.{IsMap, reads_back, entries_by}
@@ -83,91 +83,67 @@ module _ (old new : State) (inside : IsInside old) (schema : new.now.schema ≡ 
   abbrev before : Tables
   before = tables_of old.now.trees
 
-  -- ---- one lemma a table: only this one was written
+  -- ---- only one table was written
 
-  pub edits_stations : Others 0 → Shown → (change : List table.Station → List table.Station) → new.now.trees 0 ≡ map table.station_row (change before.stations) → IsKeyedBy table.station_id (change before.stations)
-      → Edits old new (λ tables. record tables { stations = change tables.stations })
-  edits_stations others shown change rows up = edits_by old new 0 inside schema others shown (λ tables. record tables { stations = change tables.stations })
-      (listed table.station_id table.station_row table.station_in (λ _. refl) _ _ rows up)
-      (ap (λ xs. record before { stations = xs }) (list_back table.station_id table.station_row table.station_in (λ _. refl) _ _ rows))
+  module _ {X : Type 0} (t : ℕ) (key : X → ℤ) (to_row : X → Row) (rows_in_tables : Tables → List X) (with_rows : Tables → List X → Tables) where
+    abbrev EditsList : Type 0
+    EditsList = Others t → Shown → (change : List X → List X) → new.now.trees t ≡ map to_row (change (rows_in_tables before)) → IsKeyedBy key (change (rows_in_tables before)) → Edits old new (λ tables. with_rows tables (change (rows_in_tables tables)))
 
-  pub edits_old_waybills : Others 1 → Shown → (change : List table.OldWaybill → List table.OldWaybill) → new.now.trees 1 ≡ map table.old_waybill_row (change before.old_waybills) → IsKeyedBy table.old_waybill_id (change before.old_waybills)
-      → Edits old new (λ tables. record tables { old_waybills = change tables.old_waybills })
-  edits_old_waybills others shown change rows up = edits_by old new 1 inside schema others shown (λ tables. record tables { old_waybills = change tables.old_waybills })
-      (listed table.old_waybill_id table.old_waybill_row table.old_waybill_in (λ _. refl) _ _ rows up)
-      (ap (λ xs. record before { old_waybills = xs }) (list_back table.old_waybill_id table.old_waybill_row table.old_waybill_in (λ _. refl) _ _ rows))
+    by_list : (from_row : Row → X) → ((x : X) → from_row (to_row x) ≡ x) → (AreListed key to_row from_row (new.now.trees t) → IsTyped t (new.now.trees t))
+        → tables_in (rows_in (put_tree old.now.trees t (new.now.trees t))) ≡ with_rows before (map from_row (new.now.trees t)) → EditsList
+    by_list from_row back typed put others shown change rows up = edits_by old new t inside schema others shown (λ tables. with_rows tables (change (rows_in_tables tables)))
+        (typed (listed key to_row from_row back _ _ rows up)) (put ∙ ap (with_rows before) (list_back key to_row from_row back _ _ rows))
 
-  pub edits_waybills : Others 22 → Shown → (change : List table.Waybill → List table.Waybill) → new.now.trees 22 ≡ map table.waybill_row (change before.waybills) → IsKeyedBy table.waybill_id (change before.waybills)
-      → Edits old new (λ tables. record tables { waybills = change tables.waybills })
-  edits_waybills others shown change rows up = edits_by old new 22 inside schema others shown (λ tables. record tables { waybills = change tables.waybills })
-      (listed table.waybill_id table.waybill_row table.waybill_in (λ _. refl) _ _ rows up)
-      (ap (λ xs. record before { waybills = xs }) (list_back table.waybill_id table.waybill_row table.waybill_in (λ _. refl) _ _ rows))
+  module _ {K V : Type 0} (t : ℕ) (R : K → K → Ordering) (to_row : K × V → Row) (map_in : Tables → FinMap R V) (with_map : Tables → FinMap R V → Tables) where
+    abbrev EditsMap : Type 0
+    EditsMap = Others t → Shown → (change : FinMap R V → FinMap R V) → IsMap R to_row (new.now.trees t) (change (map_in before)) → Edits old new (λ tables. with_map tables (change (map_in tables)))
 
-  pub edits_stock : Others 2 → Shown → (change : FinMap table.stock_cmp table.Stock → FinMap table.stock_cmp table.Stock) → IsMap table.stock_cmp table.stock_row (new.now.trees 2) (change before.stock)
-      → Edits old new (λ tables. record tables { stock = change tables.stock })
-  edits_stock others shown change now = edits_by old new 2 inside schema others shown (λ tables. record tables { stock = change tables.stock })
-      (entries_by table.stock_cmp stock_total table.stock_row table.stock_in (λ _. refl) _ _ now)
-      (ap (λ m. record before { stock = m }) (reads_back table.stock_cmp stock_total table.stock_row table.stock_in (λ _. refl) _ _ now))
+    by_map : IsTotalOrder R → (from_row : Row → K × V) → ((n : ℤ × (K × V)) → from_row (numbered to_row n) ≡ n.1) → (AreEntries R to_row from_row (new.now.trees t) → IsTyped t (new.now.trees t))
+        → tables_in (rows_in (put_tree old.now.trees t (new.now.trees t))) ≡ with_map before (from_entries (map from_row (new.now.trees t))) → EditsMap
+    by_map total from_row back typed put others shown change now = edits_by old new t inside schema others shown (λ tables. with_map tables (change (map_in tables)))
+        (typed (entries_by R total to_row from_row back _ _ now)) (put ∙ ap (with_map before) (reads_back R total to_row from_row back _ _ now))
 
-  pub edits_flights : Others 4 → Shown → (change : FinMap table.flight_cmp table.Flight → FinMap table.flight_cmp table.Flight) → IsMap table.flight_cmp table.flight_row (new.now.trees 4) (change before.flights)
-      → Edits old new (λ tables. record tables { flights = change tables.flights })
-  edits_flights others shown change now = edits_by old new 4 inside schema others shown (λ tables. record tables { flights = change tables.flights })
-      (entries_by table.flight_cmp flight_total table.flight_row table.flight_in (λ _. refl) _ _ now)
-      (ap (λ m. record before { flights = m }) (reads_back table.flight_cmp flight_total table.flight_row table.flight_in (λ _. refl) _ _ now))
+  pub edits_stations : EditsList 0 table.station_id table.station_row (λ tables. tables.stations) (λ tables xs. record tables { stations = xs })
+  edits_stations = by_list _ _ _ (λ tables. tables.stations) (λ tables xs. record tables { stations = xs }) table.station_in (λ _. refl) (λ h. h) refl
 
-  pub edits_moves : Others 6 → Shown → (change : List table.Move → List table.Move) → new.now.trees 6 ≡ map table.move_row (change before.moves) → IsKeyedBy table.move_id (change before.moves)
-      → Edits old new (λ tables. record tables { moves = change tables.moves })
-  edits_moves others shown change rows up = edits_by old new 6 inside schema others shown (λ tables. record tables { moves = change tables.moves })
-      (listed table.move_id table.move_row table.move_in (λ _. refl) _ _ rows up)
-      (ap (λ xs. record before { moves = xs }) (list_back table.move_id table.move_row table.move_in (λ _. refl) _ _ rows))
+  pub edits_old_waybills : EditsList 1 table.old_waybill_id table.old_waybill_row (λ tables. tables.old_waybills) (λ tables xs. record tables { old_waybills = xs })
+  edits_old_waybills = by_list _ _ _ (λ tables. tables.old_waybills) (λ tables xs. record tables { old_waybills = xs }) table.old_waybill_in (λ _. refl) (λ h. h) refl
 
-  pub edits_expected : Others 8 → Shown → (change : FinMap table.expected_cmp table.Expected → FinMap table.expected_cmp table.Expected) → IsMap table.expected_cmp table.expected_row (new.now.trees 8) (change before.expected)
-      → Edits old new (λ tables. record tables { expected = change tables.expected })
-  edits_expected others shown change now = edits_by old new 8 inside schema others shown (λ tables. record tables { expected = change tables.expected })
-      (entries_by table.expected_cmp expected_total table.expected_row table.expected_in (λ _. refl) _ _ now)
-      (ap (λ m. record before { expected = m }) (reads_back table.expected_cmp expected_total table.expected_row table.expected_in (λ _. refl) _ _ now))
+  pub edits_stock : EditsMap 2 table.stock_cmp table.stock_row (λ tables. tables.stock) (λ tables m. record tables { stock = m })
+  edits_stock = by_map _ _ _ (λ tables. tables.stock) (λ tables m. record tables { stock = m }) stock_total table.stock_in (λ _. refl) (λ h. h) refl
 
-  pub edits_parts : Others 10 → Shown → (change : FinMap table.part_cmp (List ℕ) → FinMap table.part_cmp (List ℕ)) → IsMap table.part_cmp table.part_row (new.now.trees 10) (change before.parts)
-      → Edits old new (λ tables. record tables { parts = change tables.parts })
-  edits_parts others shown change now = edits_by old new 10 inside schema others shown (λ tables. record tables { parts = change tables.parts })
-      (entries_by table.part_cmp part_total table.part_row table.part_in (λ _. refl) _ _ now)
-      (ap (λ m. record before { parts = m }) (reads_back table.part_cmp part_total table.part_row table.part_in (λ _. refl) _ _ now))
+  pub edits_flights : EditsMap 4 table.flight_cmp table.flight_row (λ tables. tables.flights) (λ tables m. record tables { flights = m })
+  edits_flights = by_map _ _ _ (λ tables. tables.flights) (λ tables m. record tables { flights = m }) flight_total table.flight_in (λ _. refl) (λ h. h) refl
 
-  pub edits_trail : Others 12 → Shown → (change : List table.TrailLine → List table.TrailLine) → new.now.trees 12 ≡ map table.trail_row (change before.trail) → IsKeyedBy table.trail_id (change before.trail)
-      → Edits old new (λ tables. record tables { trail = change tables.trail })
-  edits_trail others shown change rows up = edits_by old new 12 inside schema others shown (λ tables. record tables { trail = change tables.trail })
-      (listed table.trail_id table.trail_row table.trail_in (λ _. refl) _ _ rows up)
-      (ap (λ xs. record before { trail = xs }) (list_back table.trail_id table.trail_row table.trail_in (λ _. refl) _ _ rows))
+  pub edits_moves : EditsList 6 table.move_id table.move_row (λ tables. tables.moves) (λ tables xs. record tables { moves = xs })
+  edits_moves = by_list _ _ _ (λ tables. tables.moves) (λ tables xs. record tables { moves = xs }) table.move_in (λ _. refl) (λ h. h) refl
 
-  pub edits_outbox : Others 13 → Shown → (change : List table.Message → List table.Message) → new.now.trees 13 ≡ map table.message_row (change before.outbox) → IsKeyedBy table.message_id (change before.outbox)
-      → Edits old new (λ tables. record tables { outbox = change tables.outbox })
-  edits_outbox others shown change rows up = edits_by old new 13 inside schema others shown (λ tables. record tables { outbox = change tables.outbox })
-      (listed table.message_id table.message_row table.message_in (λ _. refl) _ _ rows up)
-      (ap (λ xs. record before { outbox = xs }) (list_back table.message_id table.message_row table.message_in (λ _. refl) _ _ rows))
+  pub edits_expected : EditsMap 8 table.expected_cmp table.expected_row (λ tables. tables.expected) (λ tables m. record tables { expected = m })
+  edits_expected = by_map _ _ _ (λ tables. tables.expected) (λ tables m. record tables { expected = m }) expected_total table.expected_in (λ _. refl) (λ h. h) refl
 
-  pub edits_kept : Others 14 → Shown → (change : FinMap table.kept_cmp table.Kept → FinMap table.kept_cmp table.Kept) → IsMap table.kept_cmp table.kept_row (new.now.trees 14) (change before.kept)
-      → Edits old new (λ tables. record tables { kept = change tables.kept })
-  edits_kept others shown change now = edits_by old new 14 inside schema others shown (λ tables. record tables { kept = change tables.kept })
-      (entries_by table.kept_cmp kept_total table.kept_row table.kept_in (λ _. refl) _ _ now)
-      (ap (λ m. record before { kept = m }) (reads_back table.kept_cmp kept_total table.kept_row table.kept_in (λ _. refl) _ _ now))
+  pub edits_parts : EditsMap 10 table.part_cmp table.part_row (λ tables. tables.parts) (λ tables m. record tables { parts = m })
+  edits_parts = by_map _ _ _ (λ tables. tables.parts) (λ tables m. record tables { parts = m }) part_total table.part_in (λ _. refl) (λ h. h) refl
 
-  pub edits_kept_texts : Others 16 → Shown → (change : FinMap table.kept_text_cmp ℤ → FinMap table.kept_text_cmp ℤ) → IsMap table.kept_text_cmp table.kept_text_row (new.now.trees 16) (change before.kept_texts)
-      → Edits old new (λ tables. record tables { kept_texts = change tables.kept_texts })
-  edits_kept_texts others shown change now = edits_by old new 16 inside schema others shown (λ tables. record tables { kept_texts = change tables.kept_texts })
-      (entries_by table.kept_text_cmp kept_text_total table.kept_text_row table.kept_text_in (λ _. refl) _ _ now)
-      (ap (λ m. record before { kept_texts = m }) (reads_back table.kept_text_cmp kept_text_total table.kept_text_row table.kept_text_in (λ _. refl) _ _ now))
+  pub edits_trail : EditsList 12 table.trail_id table.trail_row (λ tables. tables.trail) (λ tables xs. record tables { trail = xs })
+  edits_trail = by_list _ _ _ (λ tables. tables.trail) (λ tables xs. record tables { trail = xs }) table.trail_in (λ _. refl) (λ h. h) refl
 
-  pub edits_counts : Others 18 → Shown → (change : FinMap table.count_cmp table.Count → FinMap table.count_cmp table.Count) → IsMap table.count_cmp table.count_row (new.now.trees 18) (change before.counts)
-      → Edits old new (λ tables. record tables { counts = change tables.counts })
-  edits_counts others shown change now = edits_by old new 18 inside schema others shown (λ tables. record tables { counts = change tables.counts })
-      (entries_by table.count_cmp count_total table.count_row table.count_in (λ _. refl) _ _ now)
-      (ap (λ m. record before { counts = m }) (reads_back table.count_cmp count_total table.count_row table.count_in (λ _. refl) _ _ now))
+  pub edits_outbox : EditsList 13 table.message_id table.message_row (λ tables. tables.outbox) (λ tables xs. record tables { outbox = xs })
+  edits_outbox = by_list _ _ _ (λ tables. tables.outbox) (λ tables xs. record tables { outbox = xs }) table.message_in (λ _. refl) (λ h. h) refl
 
-  pub edits_builds : Others 20 → Shown → (change : FinMap table.build_cmp table.Build → FinMap table.build_cmp table.Build) → IsMap table.build_cmp table.build_row (new.now.trees 20) (change before.builds)
-      → Edits old new (λ tables. record tables { builds = change tables.builds })
-  edits_builds others shown change now = edits_by old new 20 inside schema others shown (λ tables. record tables { builds = change tables.builds })
-      (entries_by table.build_cmp build_total table.build_row table.build_in (λ _. refl) _ _ now)
-      (ap (λ m. record before { builds = m }) (reads_back table.build_cmp build_total table.build_row table.build_in (λ _. refl) _ _ now))
+  pub edits_kept : EditsMap 14 table.kept_cmp table.kept_row (λ tables. tables.kept) (λ tables m. record tables { kept = m })
+  edits_kept = by_map _ _ _ (λ tables. tables.kept) (λ tables m. record tables { kept = m }) kept_total table.kept_in (λ _. refl) (λ h. h) refl
+
+  pub edits_kept_texts : EditsMap 16 table.kept_text_cmp table.kept_text_row (λ tables. tables.kept_texts) (λ tables m. record tables { kept_texts = m })
+  edits_kept_texts = by_map _ _ _ (λ tables. tables.kept_texts) (λ tables m. record tables { kept_texts = m }) kept_text_total table.kept_text_in (λ _. refl) (λ h. h) refl
+
+  pub edits_counts : EditsMap 18 table.count_cmp table.count_row (λ tables. tables.counts) (λ tables m. record tables { counts = m })
+  edits_counts = by_map _ _ _ (λ tables. tables.counts) (λ tables m. record tables { counts = m }) count_total table.count_in (λ _. refl) (λ h. h) refl
+
+  pub edits_builds : EditsMap 20 table.build_cmp table.build_row (λ tables. tables.builds) (λ tables m. record tables { builds = m })
+  edits_builds = by_map _ _ _ (λ tables. tables.builds) (λ tables m. record tables { builds = m }) build_total table.build_in (λ _. refl) (λ h. h) refl
+
+  pub edits_waybills : EditsList 22 table.waybill_id table.waybill_row (λ tables. tables.waybills) (λ tables xs. record tables { waybills = xs })
+  edits_waybills = by_list _ _ _ (λ tables. tables.waybills) (λ tables xs. record tables { waybills = xs }) table.waybill_in (λ _. refl) (λ h. h) refl
 
 -- ---- tables that were just made
 

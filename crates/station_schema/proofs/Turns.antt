@@ -4,7 +4,7 @@ use Rattle.sqlite.specs.Command.TheVariants.{Begin as Starts, Commit as Ends}
 use Rattle.sqlite_tied.specs.Compute.{everything}
 use Rattle.sqlite.specs.Listing.{understood}
 use Rattle.sqlite_trees.specs.declared.error.StoreError.{StoreError}
-use Rattle.sqlite_trees.specs.declared.error.StoreError.TheVariants.{OutOfMemory, Io, Corrupt, Full, Broken, Unstorable}
+use Rattle.sqlite_trees.specs.declared.error.StoreError.TheVariants.{OutOfMemory}
 use Rattle.sqlite.specs.State.{ExecutesIn, IsNotRun, CommitsBy}
 use Rattle.sqlite.specs.Calls.{IsWrite}
 use Rattle.sqlite.specs.declared.error.Error.TheVariants.{ExecuteReturnedResults, SqliteFailure}
@@ -123,11 +123,7 @@ misplaced_result = Err misplaced_error
 
 unstored : (cause : StoreError) → misplaced_error ≢ store_error cause
 unstored OutOfMemory h = absurd (cc)
-unstored Io h = absurd (cc)
-unstored Corrupt h = absurd (cc)
-unstored Full h = absurd (cc)
-unstored Broken h = absurd (cc)
-unstored Unstorable h = absurd (cc)
+unstored _ h = absurd (cc)
 
 unread : (s : State) (sql : List ℕ) (params : Row) → ¬ IsNoStatement s sql params misplaced_error
 unread s sql params (inl h) = absurd (let k = h.2 in cc)

@@ -1,15 +1,15 @@
 -- The rows of a STRICT table that obeys its rules are typed, and its keys come once, whatever the table.
-use Rattle.station_schema.proofs.Common.{AllByRecursion, Any, AreEntries, AreListed, Blob, Bool, Int, Integer, IsAscending, IsKeyedBy, IsShaped, IsTable, IsTotalOrder, IsTrue, List, Ne, None, Null, Option, Ordering, Real, Row, Some, Table, Text, Value, [], agree, all_both, all_unmap, all_weaker, ap, ap₂, are_present, are_typed, arith, ascending_from_map, ascending_weaker, at_ints, clashes, column, column_of, cond, differ, drop, drop-drop, eq_by_cmp, false, has_computed, int_eq, ints, is_null, is_of, length, lt_from_Less, map, none_from_any, not, numbered, numbered_in, plain, refl, rowid, subst, suc, sym, true, value_cmp, value_cmp-Int, zero, ℕ, ℤ, ◌&&◌, ◌+◌, ◌<ℤ◌, ◌<◌, ◌||◌, ◌∙◌, ◌∷◌, ◌≡◌}
+use Rattle.station_schema.proofs.Common.{AllByRecursion, AreEntries, AreListed, Bool, Int, Integer, IsAscending, IsKeyedBy, IsShaped, IsTable, IsTotalOrder, IsTrue, List, Ne, None, Null, Option, Ordering, Row, Some, Table, Text, Value, [], agree, all_both, all_unmap, all_weaker, ap, ap₂, are_present, are_typed, arith, ascending_from_map, ascending_weaker, at_ints, clashes, column, column_of, cond, differ, drop, drop-drop, eq_by_cmp, false, has_computed, int_eq, ints, is_null, is_of, length, lt_from_Less, map, none_from_any, not, numbered, numbered_in, plain, refl, rowid, subst, suc, sym, true, value_cmp, value_cmp-Int, zero, ℕ, ℤ, ◌&&◌, ◌+◌, ◌<ℤ◌, ◌<◌, ◌||◌, ◌∙◌, ◌∷◌, ◌≡◌}
 use Rattle.std.proofs.lemmas.Bool.Decides.{nat_tests}
 use Rattle.sqlite.specs.View.{is_int}
 use Rattle.sqlite.specs.Kind.{Kind}
-use Rattle.sqlite.specs.Kind.TheVariants.{Text as Words, Real as Reals, Blob as Blobs}
+use Rattle.sqlite.specs.Kind.TheVariants.{Text as Words}
 use Rattle.sqlite_schema.specs.declared.schema.Column.{Column}
 use Rattle.sqlite_schema.specs.Names.{is_key}
 use Rattle.sqlite_trees.specs.declared.store.Shape.TheVariants.{Table as TableShape}
 use Rattle.sqlite_keyed.proofs.RuleLemmas.{first_of_both, second_of_both}
 use Rattle.sqlite_typed.specs.Columns.{int_of, bytes_of}
-use Rattle.station_schema.proofs.ColumnKeys.{Compares, number}
+use Rattle.station_schema.proofs.ColumnKeys.{Compares, first_false, no_clash, number}
 
 -- ---- columns of text and of integers
 
@@ -19,10 +19,7 @@ kind_of false = Integer
 
 abbrev is_words : Kind → Bool
 is_words Words = true
-is_words Integer = false
-is_words Reals = false
-is_words Blobs = false
-is_words Any = false
+is_words _ = false
 
 abbrev value_as : Bool → Value → Value
 value_as true v = Text (bytes_of v)
@@ -62,15 +59,9 @@ values_lie [] at row = refl
 values_lie (c ∷ cs) at row = ap₂ ◌∷◌ (ap (value_as c.1) (dropped at 0 row ∙ ap (column row) (omega arith))) (ap (values_as cs) (drop_more at row) ∙ values_lie cs (at + 1) row)
 
 typed_value : (is_text : Bool) (v : Value) → is_of (kind_of is_text) v ≡ true → not (is_null v) ≡ true → v ≡ value_as is_text v
-typed_value b Null t p = absurd (cc)
-typed_value true (Int n) t p = absurd (cc)
 typed_value false (Int n) t p = refl
 typed_value true (Text n) t p = refl
-typed_value false (Text n) t p = absurd (cc)
-typed_value true (Real n) t p = absurd (cc)
-typed_value false (Real n) t p = absurd (cc)
-typed_value true (Blob n) t p = absurd (cc)
-typed_value false (Blob n) t p = absurd (cc)
+typed_value _ _ t p = absurd (cc)
 
 module _ (key : Option ℕ) (row : Row) where
   here : (at : ℕ) → ((i : ℕ) → is_key key (at + i) ≡ false) → is_key key at ≡ false
@@ -96,25 +87,19 @@ module _ (key : Option ℕ) (row : Row) where
       ap₂ ◌∷◌ head tail
 
 int_rowid : (v : Value) → IsTrue (is_int v) → v ≡ Int (int_of v)
-int_rowid Null h = absurd (cc)
 int_rowid (Int n) h = refl
-int_rowid (Real n) h = absurd (cc)
-int_rowid (Text n) h = absurd (cc)
-int_rowid (Blob n) h = absurd (cc)
+int_rowid _ h = absurd (cc)
 
 null_is : (v : Value) → is_null v ≡ true → v ≡ Null
 null_is Null h = refl
-null_is (Int n) h = absurd (cc)
-null_is (Real n) h = absurd (cc)
-null_is (Text n) h = absurd (cc)
-null_is (Blob n) h = absurd (cc)
+null_is _ h = absurd (cc)
 
--- the rules of a table, for one row
-abbrev IsTypedRow : Table → Row → Type 0
-IsTypedRow table row = (are_typed table.key 0 table.columns (drop 1 row) && has_computed table row) ≡ true
+-- the rules of a table with this key and these columns, for one row
+abbrev IsTypedRow : Table → Option ℕ → List Column → Row → Type 0
+IsTypedRow table key columns row = (are_typed key 0 columns (drop 1 row) && has_computed table row) ≡ true
 
-abbrev IsPresentRow : Table → Row → Type 0
-IsPresentRow table row = are_present table.key 0 table.columns row ≡ true
+abbrev IsPresentRow : Option ℕ → List Column → Row → Type 0
+IsPresentRow key columns row = are_present key 0 columns row ≡ true
 
 abbrev IsApart : List ℕ → List Row → Row → Type 0
 IsApart places rows row = (not (clashes plain places rows row) && true) ≡ true
@@ -122,6 +107,14 @@ IsApart places rows row = (not (clashes plain places rows row) && true) ≡ true
 all_three : (P Q R S : Row → Type 0) → ((r : Row) → P r → Q r → R r → S r) → (rows : List Row) → AllByRecursion P rows → AllByRecursion Q rows → AllByRecursion R rows → AllByRecursion S rows
 all_three P Q R S f [] p q r = tt
 all_three P Q R S f (x ∷ rows) p q r = (f x p.0 q.0 r.0, all_three P Q R S f rows p.1 q.1 r.1)
+
+module _ {X : Type 0} (to_row : X → Row) (from_row : Row → X) where
+  rows_back : (rows : List Row) → AllByRecursion (λ r. r ≡ to_row (from_row r)) rows → rows ≡ map to_row (map from_row rows)
+  rows_back [] all = refl
+  rows_back (r ∷ rows) all = ap₂ ◌∷◌ all.0 (rows_back rows all.1)
+
+  keys_rise : (key : X → ℤ) → ((x : X) → rowid (to_row x) ≡ Int (key x)) → (xs : List X) → IsTable (map to_row xs) → IsKeyedBy key xs
+  keys_rise key keyed xs up = ascending_weaker _ _ (λ a b h. lt_from_Less _ _ (sym (ap₂ value_cmp (keyed a) (keyed b) ∙ value_cmp-Int _ _) ∙ h)) _ (ascending_from_map _ to_row xs up)
 
 -- ---- a table whose first column is its INTEGER PRIMARY KEY
 
@@ -143,28 +136,19 @@ keyed_row name cs (r ∷ k ∷ vs) i t p some =
     ap₂ ◌∷◌ (int_rowid r i) (ap₂ ◌∷◌ (null_is k (first_of_both _ _ t))
     (typed_from (Some 0) (r ∷ k ∷ vs) 1 cs vs (shifted r k vs) past_key (second_of_both _ _ t) p))
 
-module _ {X : Type 0} (key : X → ℤ) (to_row : X → Row) (from_row : Row → X) (keyed : (x : X) → rowid (to_row x) ≡ Int (key x))
-    (table : Table) (name : Column) (cs : List (List ℕ × Bool)) (some : 1 < length cs + 1)
-    (key_is : table.key ≡ Some 0) (columns_are : table.columns ≡ name ∷ columns_of cs)
+module _ {X : Type 0} (key : X → ℤ) (to_row : X → Row) (from_row : Row → X) (keyed : (x : X) → rowid (to_row x) ≡ Int (key x)) (table : Table) (name : Column) (cs : List (List ℕ × Bool)) (some : 1 < length cs + 1)
     (row_is : (row : Row) → Int (int_of (rowid row)) ∷ Null ∷ values_at cs 2 row ≡ to_row (from_row row)) where
-  row_back : (row : Row) → IsTrue (is_int (rowid row)) → IsTypedRow table row → IsPresentRow table row → row ≡ to_row (from_row row)
-  row_back row i t p =
-      let typed = subst (λ columns. are_typed (Some 0) 0 columns (drop 1 row) ≡ true) columns_are (subst (λ k. are_typed k 0 table.columns (drop 1 row) ≡ true) key_is (first_of_both _ (has_computed table row) t)) in
-      let present = subst (λ columns. are_present (Some 0) 0 columns row ≡ true) columns_are (subst (λ k. are_present k 0 table.columns row ≡ true) key_is p) in
-      keyed_row name cs row i typed present some ∙ ap (λ vs. Int (int_of (rowid row)) ∷ Null ∷ vs) (values_lie cs 2 row) ∙ row_is row
+  abbrev columns : List Column
+  columns = name ∷ columns_of cs
 
-  rows_back : (rows : List Row) → AllByRecursion (λ r. r ≡ to_row (from_row r)) rows → rows ≡ map to_row (map from_row rows)
-  rows_back [] all = refl
-  rows_back (r ∷ rows) all = ap₂ ◌∷◌ all.0 (rows_back rows all.1)
-
-  keys_rise : (xs : List X) → IsTable (map to_row xs) → IsKeyedBy key xs
-  keys_rise xs up = ascending_weaker _ _ (λ a b h. lt_from_Less _ _ (sym (ap₂ value_cmp (keyed a) (keyed b) ∙ value_cmp-Int _ _) ∙ h)) _ (ascending_from_map _ to_row xs up)
+  row_back : (row : Row) → IsTrue (is_int (rowid row)) → IsTypedRow table (Some 0) columns row → IsPresentRow (Some 0) columns row → row ≡ to_row (from_row row)
+  row_back row i t p = keyed_row name cs row i (first_of_both _ (has_computed table row) t) p some ∙ ap (λ vs. Int (int_of (rowid row)) ∷ Null ∷ vs) (values_lie cs 2 row) ∙ row_is row
 
   -- its rows are typed, and their keys rise
-  pub rows_listed : (rows : List Row) → IsShaped TableShape rows → AllByRecursion (IsTypedRow table) rows → AllByRecursion (IsPresentRow table) rows → AreListed key to_row from_row rows
+  pub rows_listed : (rows : List Row) → IsShaped TableShape rows → AllByRecursion (IsTypedRow table (Some 0) columns) rows → AllByRecursion (IsPresentRow (Some 0) columns) rows → AreListed key to_row from_row rows
   rows_listed rows shaped typed present =
-      let is = rows_back rows (all_three _ _ _ (λ r. r ≡ to_row (from_row r)) row_back rows shaped.1 typed present) in
-      record { rows = is; keyed = keys_rise (map from_row rows) (subst IsTable is shaped.0) }
+      let is = rows_back to_row from_row rows (all_three _ _ _ (λ r. r ≡ to_row (from_row r)) row_back rows shaped.1 typed present) in
+      record { rows = is; keyed = keys_rise to_row from_row key keyed (map from_row rows) (subst IsTable is shaped.0) }
 
 -- ---- a table whose key is made of columns
 
@@ -187,42 +171,22 @@ ascending_both : {X : Type 0} (P Q R : X → X → Type 0) → ((a b : X) → P 
 ascending_both P Q R f [] p q = tt
 ascending_both P Q R f (x ∷ xs) p q = (all_both (P x) (Q x) (R x) (f x) xs p.0 q.0, ascending_both P Q R f xs p.1 q.1)
 
-not_clashing : (b : Bool) → (not b && true) ≡ true → b ≡ false
-not_clashing true h = sym h
-not_clashing false h = refl
-
-agree_false : (e d : Bool) → (e && not d) ≡ false → d ≡ false → e ≡ false
-agree_false true true h k = k
-agree_false true false h k = h
-agree_false false d h k = refl
-
 module _ {K V : Type 0} (R : K → K → Ordering) (total : IsTotalOrder R) (to_row : K × V → Row) (from_row : Row → K × V) (places : List ℕ) (compares : Compares R total to_row places)
-    (table : Table) (cs : List (List ℕ × Bool)) (key_is : table.key ≡ None) (columns_are : table.columns ≡ columns_of cs)
-    (row_is : (row : Row) → values_at cs 1 row ≡ to_row (from_row row)) where
-  entry_back : (row : Row) → IsTrue (is_int (rowid row)) → IsTypedRow table row → IsPresentRow table row → row ≡ numbered to_row (numbered_in from_row row)
-  entry_back row i t p =
-      let typed = subst (λ columns. are_typed None 0 columns (drop 1 row) ≡ true) columns_are (subst (λ k. are_typed k 0 table.columns (drop 1 row) ≡ true) key_is (first_of_both _ (has_computed table row) t)) in
-      let present = subst (λ columns. are_present None 0 columns row ≡ true) columns_are (subst (λ k. are_present k 0 table.columns row ≡ true) key_is p) in
-      plain_row cs row i typed present ∙ ap (λ vs. Int (int_of (rowid row)) ∷ vs) (values_lie cs 1 row ∙ row_is row)
-
-  entries_back : (rows : List Row) → AllByRecursion (λ r. r ≡ numbered to_row (numbered_in from_row r)) rows → rows ≡ map (numbered to_row) (map (numbered_in from_row) rows)
-  entries_back [] all = refl
-  entries_back (r ∷ rows) all = ap₂ ◌∷◌ all.0 (entries_back rows all.1)
-
-  numbers_rise : (xs : List (ℤ × (K × V))) → IsTable (map (numbered to_row) xs) → IsKeyedBy number xs
-  numbers_rise xs up = ascending_weaker _ _ (λ a b h. lt_from_Less _ _ (sym (value_cmp-Int _ _) ∙ h)) _ (ascending_from_map _ (numbered to_row) xs up)
+    (table : Table) (cs : List (List ℕ × Bool)) (row_is : (row : Row) → values_at cs 1 row ≡ to_row (from_row row)) where
+  entry_back : (row : Row) → IsTrue (is_int (rowid row)) → IsTypedRow table None (columns_of cs) row → IsPresentRow None (columns_of cs) row → row ≡ numbered to_row (numbered_in from_row row)
+  entry_back row i t p = plain_row cs row i (first_of_both _ (has_computed table row) t) p ∙ ap (λ vs. Int (int_of (rowid row)) ∷ vs) (values_lie cs 1 row ∙ row_is row)
 
   keys_apart : (xs : List (ℤ × (K × V))) → IsKeyedBy number xs → AllByRecursion (IsApart places (map (numbered to_row) xs)) (map (numbered to_row) xs) → IsAscending (λ a b. eq_by_cmp R a.1.0 b.1.0 ≡ false) xs
   keys_apart xs up all =
       let each = all_weaker _ (λ (b : ℤ × (K × V)). AllByRecursion (λ (a : ℤ × (K × V)). (agree plain places (numbered to_row a) places (numbered to_row b) && differ (Int a.0) (Int b.0)) ≡ false) xs)
-      (λ b h. all_unmap _ (numbered to_row) xs (none_from_any _ (map (numbered to_row) xs) (not_clashing _ h))) xs (all_unmap _ (numbered to_row) xs all) in
+      (λ b h. all_unmap _ (numbered to_row) xs (none_from_any _ (map (numbered to_row) xs) (no_clash _ h))) xs (all_unmap _ (numbered to_row) xs all) in
       ascending_both _ (λ a b. a.0 <ℤ b.0) (λ a b. eq_by_cmp R a.1.0 b.1.0 ≡ false)
-      (λ a b no low. agree_false _ (int_eq a.0 b.0) (sym (ap₂ ◌&&◌ (compares a b) (at_ints false Ne a.0 b.0)) ∙ no) (let k = low in grind (arith, ints))) xs (later_of_all _ xs each) up
+      (λ a b no low. first_false _ (int_eq a.0 b.0) (sym (ap₂ ◌&&◌ (compares a b) (at_ints false Ne a.0 b.0)) ∙ no) (let k = low in grind (arith, ints))) xs (later_of_all _ xs each) up
 
   -- its rows are the entries of a map
-  pub rows_entered : (rows : List Row) → IsShaped TableShape rows → AllByRecursion (IsTypedRow table) rows → AllByRecursion (IsPresentRow table) rows → AllByRecursion (IsApart places rows) rows → AreEntries R to_row from_row rows
+  pub rows_entered : (rows : List Row) → IsShaped TableShape rows → AllByRecursion (IsTypedRow table None (columns_of cs)) rows → AllByRecursion (IsPresentRow None (columns_of cs)) rows → AllByRecursion (IsApart places rows) rows → AreEntries R to_row from_row rows
   rows_entered rows shaped typed present unique =
-      let is = entries_back rows (all_three _ _ _ (λ r. r ≡ numbered to_row (numbered_in from_row r)) entry_back rows shaped.1 typed present) in
+      let is = rows_back (numbered to_row) (numbered_in from_row) rows (all_three _ _ _ (λ r. r ≡ numbered to_row (numbered_in from_row r)) entry_back rows shaped.1 typed present) in
       let raw = map (numbered_in from_row) rows in
-      let keyed = numbers_rise raw (subst IsTable is shaped.0) in
+      let keyed = keys_rise (numbered to_row) (numbered_in from_row) number (λ _. refl) raw (subst IsTable is shaped.0) in
       record { rows = is; keyed = keyed; apart = keys_apart raw keyed (subst (λ rs. AllByRecursion (IsApart places rs) rs) is unique) }

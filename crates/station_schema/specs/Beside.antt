@@ -1,7 +1,6 @@
 -- A change of a store in one step, whatever its tables.
 use Rattle.std.specs.Prelude.{◌≡◌}
-use Rattle.sqlite.specs.Tree.{Trees}
-use Rattle.sqlite.specs.State.{State, Survives}
+use Rattle.station_schema.specs.Common.{Trees, State, Survives}
 
 -- the crash states are those from before, or one more database: the transaction's
 abbrev pub IsOneStep : State → State → Type 0

@@ -1,12 +1,8 @@
 -- The effect of a call on the tables of a station that a connection shows.
 use Rattle.std.specs.Prelude.{◌≡◌, ℕ, pos, List, Bool, true, false, IsTrue, Result, Ok, Err}
-use Rattle.sqlite.specs.declared.error.Error.{Error}
-use Rattle.sqlite.specs.State.{State, Shows, KeepsCommit, HasCleanDisk, Survives}
-use Rattle.sqlite.specs.Held.{Held, state}
-use Rattle.sqlite_trees.specs.declared.store.Store.{Ghosts}
+use Rattle.station_schema.specs.Common.{Error, State, Shows, KeepsCommit, HasCleanDisk, Survives, Held, state, Ghosts, insert_by}
 use Rattle.station_schema.specs.Effects.{Reads}
 use Rattle.station_schema.specs.Streams.{StreamsRows}
-use Rattle.sqlite_keyed.specs.Keyed.{insert_by}
 use Rattle.station_schema.specs.Connection.{opening}
 use Rattle.station_schema.specs.Tables.{Tables, Station, station_id, tables_of, IsStation}
 

@@ -1,10 +1,6 @@
 -- The view of a connection as the tables of a station.
 use Rattle.std.specs.Prelude.{◌≡◌, ◌⊎◌, true, ℕ, pos, List, [], ◌∷◌}
-use Rattle.std.specs.FinMap.{empty}
-use Rattle.sqlite.specs.Tree.{Trees}
-use Rattle.sqlite_trees.specs.declared.store.Store.{Ghosts}
-use Rattle.sqlite.specs.State.{State, HasCleanDisk}
-use Rattle.sqlite.specs.Held.{Held, state}
+use Rattle.station_schema.specs.Common.{empty, Trees, Ghosts, State, HasCleanDisk, Held, state}
 use Rattle.station_schema.specs.Schema.{no_schema}
 use Rattle.station_schema.specs.Tables.{Tables, tables_of}
 use Rattle.station_schema.specs.Store.{View, IsAtRest}

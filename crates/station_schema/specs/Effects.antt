@@ -1,10 +1,6 @@
 -- The effect of a statement on a connection, whatever its tables.
 use Rattle.std.specs.Prelude.{◌≡◌, ◌⊎◌, [], true, false, IsTrue, Result, Ok, Err}
-use Rattle.std.specs.List.{AllByRecursion}
-use Rattle.sqlite.specs.declared.error.Error.{Error}
-use Rattle.sqlite.specs.Schema.{Schema}
-use Rattle.sqlite.specs.Table.{Table}
-use Rattle.sqlite.specs.State.{State, Shows, IsUnchanged, IsRolledBack, KeepsCommit}
+use Rattle.station_schema.specs.Common.{AllByRecursion, Error, Schema, Table, State, Shows, IsUnchanged, IsRolledBack, KeepsCommit}
 
 -- nothing was done, or the transaction was rolled back
 abbrev pub Stops : State → State → Type 0

@@ -1,3 +1,4 @@
+pub mod Common
 pub mod Beside
 pub mod Calls
 pub mod Connection

@@ -1,8 +1,6 @@
 -- The names of a new station's tables and of its own index.
 use Rattle.std.specs.Prelude.{ℕ, Bool, ◌||◌, List, [], ◌∷◌, codes, is_some}
-use Rattle.std.specs.List.{list_any}
-use Rattle.sqlite.specs.Schema.{Schema}
-use Rattle.sqlite_schema.specs.Names.{table_named, index_named, view_named}
+use Rattle.station_schema.specs.Common.{list_any, Schema, table_named, index_named, view_named}
 
 -- fourteen tables, and the index of the moves by waybill
 abbrev pub station_names : List (List ℕ)

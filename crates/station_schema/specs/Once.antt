@@ -1,13 +1,7 @@
 -- That tables are a station's has at most one proof.
 use Rattle.std.specs.Prelude.{◌<ℤ◌, ◌==◌, ℤ, ℕ, List, [], ◌∷◌, refl, Bool, true, false, MatchBool}
-use Rattle.std.specs.List.{AllByRecursion}
+use Rattle.station_schema.specs.Common.{AllByRecursion, Table, Ordering, Row, Database, IsAscending-prop, rows_set, IsKeyedBy}
 use Rattle.station_schema.specs.Schema.{station_schema}
-use Rattle.sqlite.specs.Table.{Table}
-use Rattle.std.specs.declared.cmp.Ordering.{Ordering}
-use Rattle.sqlite.specs.Order.{Row}
-use Rattle.sqlite.specs.Effect.{Database}
-use Rattle.sqlite_trees.specs.Props.{IsAscending-prop, rows_set}
-use Rattle.sqlite_keyed.specs.Keyed.{IsKeyedBy}
 use Rattle.sqlite_schema.specs.contracts.schema.Schema.{the_row as schema_row}
 use Rattle.station_schema.specs.ColumnKeys.{AreEntries, AreListed}
 use Rattle.station_schema.specs.Tables.{IsTyped, IsStation}

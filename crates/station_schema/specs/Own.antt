@@ -1,11 +1,6 @@
 -- Trees whose schema is that of a station.
 use Rattle.std.specs.Prelude.{◌≡◌, ℕ, List, IsTrue}
-use Rattle.sqlite.specs.Tree.{Trees}
-use Rattle.sqlite.specs.Schema.{Schema}
-use Rattle.sqlite_catalog.specs.Listing.{IsSound}
-use Rattle.sqlite_trees.specs.declared.store.Store.{Ghosts}
-use Rattle.sqlite_trees.specs.View.{IsOrdered}
-use Rattle.sqlite_trees.specs.Objects.{catalog_tree, IsListed}
+use Rattle.station_schema.specs.Common.{Trees, Schema, IsSound, Ghosts, IsOrdered, catalog_tree, IsListed}
 use Rattle.sqlite_schema.specs.contracts.schema.Schema.{the_row as schema_row}
 use Rattle.station_schema.specs.Connection.{opening}
 use Rattle.station_schema.specs.Schema.{old_schema, station_schema}

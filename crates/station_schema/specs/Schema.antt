@@ -1,14 +1,7 @@
 -- The tables of a station, as SQLite lists them.
-use Rattle.sqlite.specs.Collation.TheVariants.{Binary}
+use Rattle.station_schema.specs.Common.{Binary, Null, Column, Index, plain, Table, Schema, Kind, Integer}
 use Rattle.std.specs.Prelude.{true, false, [], ◌∷◌, Some, None, codes, List, ℕ}
-use Rattle.sqlite.specs.declared.types.Value.TheVariants.{Null}
-use Rattle.sqlite_schema.specs.declared.schema.Column.{Column}
-use Rattle.sqlite_schema.specs.declared.schema.Index.{Index}
-use Rattle.sqlite_value.specs.Keys.{plain}
-use Rattle.sqlite.specs.Table.{Table}
-use Rattle.sqlite.specs.Schema.{Schema}
-use Rattle.sqlite.specs.Kind.{Kind}
-use Rattle.sqlite.specs.Kind.TheVariants.{Integer, Text}
+use Rattle.sqlite.specs.Kind.TheVariants.{Text}
 
 -- a column of a STRICT table
 abbrev pub key_column : List ℕ → Kind → Column

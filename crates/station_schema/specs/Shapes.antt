@@ -1,8 +1,6 @@
 -- A table and an index by their shapes.
 use Rattle.std.specs.Prelude.{◌∷◌, map}
-use Rattle.sqlite.specs.Kind.TheVariants.{Integer}
-use Rattle.sqlite.specs.Table.{Table}
-use Rattle.sqlite_schema.specs.declared.schema.Index.{Index}
+use Rattle.station_schema.specs.Common.{Integer, Table, Index}
 use Rattle.station_schema.specs.declared.shapes.IndexShape.{IndexShape}
 use Rattle.station_schema.specs.declared.shapes.Key.{Key}
 use Rattle.station_schema.specs.declared.shapes.Key.TheVariants.{Number, Columns}

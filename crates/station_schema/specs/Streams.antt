@@ -1,13 +1,7 @@
 -- Queries whose rows are handed out one at a time.
 use Rattle.std.specs.Prelude.{ℕ, ◌⊎◌, Bool, Result, Ok, Err, Option, Some, None, List, ◌++◌, [], ◌∷◌, ◌≡◌, IsTrue}
-use Rattle.sqlite.specs.Given.{HasGiven}
-use Rattle.sqlite.specs.Held.{Held, state}
-use Rattle.sqlite.specs.Order.{Row}
-use Rattle.sqlite.specs.declared.error.Error.{Error}
-use Rattle.sqlite.specs.State.{State, IsUnchanged, Shown, Begins}
-use Rattle.sqlite_trees.specs.declared.store.Store.{Ghosts}
+use Rattle.station_schema.specs.Common.{HasGiven, Held, state, Row, Error, State, IsUnchanged, Shown, Begins, Ghosts, HandedOut, Hands}
 use Rattle.station_schema.specs.Effects.{Stops}
-use Rattle.row_sinks.specs.Handed.{HandedOut, Hands}
 
 -- a sink takes a row, described by its value
 abbrev pub taking : {S T X : Type 0} → (X → T → Type 0) → (S → T → Bool → S → Type 0) → S → X → Bool → S → Type 0

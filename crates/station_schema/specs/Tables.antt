@@ -1,18 +1,7 @@
 -- The tables of a station as typed rows: a list if SQLite gets the key as a rowid, and a map if the
 -- key has columns.
 use Rattle.std.specs.Prelude.{◌≡◌, ◌==◌, ℤ, pos, ℕ, List, [], ◌∷◌, map, MatchBool}
-use Rattle.sqlite.specs.declared.types.Value.TheVariants.{Null, Int, Text}
-use Rattle.sqlite.specs.Order.{Row, column}
-use Rattle.std.specs.List.{AllByRecursion}
-use Rattle.sqlite.specs.Tree.{Trees}
-use Rattle.sqlite.specs.Table.{Table}
-use Rattle.sqlite.specs.Effect.{Database}
-use Rattle.sqlite_typed.specs.Columns.{int_of, bytes_of}
-use Rattle.sqlite_typed.specs.Tests.{bytes_cmp}
-use Rattle.std.specs.declared.cmp.Ordering.{Ordering}
-use Rattle.std.specs.Ordering.{int_cmp, int_eq}
-use Rattle.std.specs.FinMap.{FinMap, from_entries}
-use Rattle.sqlite_keyed.specs.Lists.{update_where}
+use Rattle.station_schema.specs.Common.{Null, Int, Text, Row, column, AllByRecursion, Trees, Table, Database, int_of, bytes_of, bytes_cmp, Ordering, int_cmp, int_eq, FinMap, from_entries, update_where}
 use Rattle.sqlite_keyed.proofs.SortLemmas.{pair_cmp}
 use Rattle.station_schema.specs.ColumnKeys.{AreEntries, AreListed}
 use Rattle.station_schema.specs.Schema.{old_schema, station_schema}

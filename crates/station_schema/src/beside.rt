@@ -1,6 +1,5 @@
 ghost use Rattle.std.specs.Prelude.{◌≡◌, false, IsTrue, OnOk, OnErr};
-ghost use Rattle.sqlite.specs.State.{HasCleanDisk, KeepsCommit, Survives};
-ghost use Rattle.sqlite.specs.Held.{state};
+ghost use Rattle.station_schema.specs.Common.{HasCleanDisk, KeepsCommit, Survives, state};
 ghost use Rattle.station_schema.specs.Effects.{IsSettled, IsUndone};
 ghost use Rattle.station_schema.specs.Beside.{IsOneStep};
 

@@ -1,5 +1,5 @@
 ghost use Rattle.std.specs.Prelude.{◌≡◌, true, IsTrue, map};
-ghost use Rattle.sqlite.specs.Kind.TheVariants.{Integer};
+ghost use Rattle.station_schema.specs.Common.{Integer};
 ghost use Rattle.station_schema.specs.Schema.{column_of, key_column};
 ghost use Rattle.station_schema.specs.Wanted.{column_as};
 

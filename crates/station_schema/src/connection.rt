@@ -1,5 +1,5 @@
 ghost use Rattle.std.specs.Prelude.{◌≡◌, ◌↔◌, true, IsTrue};
-ghost use Rattle.sqlite.specs.Held.{state};
+ghost use Rattle.station_schema.specs.Common.{state};
 ghost use Rattle.station_schema.specs.Schema.{old_schema, station_schema};
 ghost use Rattle.station_schema.specs.Tables.{IsStation, IsOldStation};
 ghost use Rattle.station_schema.specs.Own.{IsOwn, IsOldOwn, LiesInOrder};

@@ -1,6 +1,5 @@
 ghost use Rattle.std.specs.Prelude.{◌≡◌, map, OnOk, OnErr};
-ghost use Rattle.sqlite.specs.State.{HasCleanDisk, Survives};
-ghost use Rattle.sqlite.specs.Held.{state};
+ghost use Rattle.station_schema.specs.Common.{HasCleanDisk, Survives, state};
 ghost use Rattle.station_schema.specs.Effects.{IsMade, IsSettled, IsUndone, Makes};
 ghost use Rattle.station_schema.specs.Schema.{no_schema, station_schema};
 ghost use Rattle.station_schema.specs.Connection.{IsVacant};

@@ -1,5 +1,5 @@
 ghost use Rattle.std.specs.Prelude.{◌≡◌, true, IfOk};
-ghost use Rattle.sqlite.specs.Steps.{over_memory};
+ghost use Rattle.station_schema.specs.Common.{over_memory};
 ghost use Rattle.station_schema.specs.Store.{IsAtRest};
 ghost use Rattle.station_schema.specs.Connection.{connection_view, IsVacant};
 

@@ -1,5 +1,4 @@
-ghost use Rattle.sqlite.specs.Files.{over_files};
-ghost use Rattle.sqlite.specs.Steps.{over_memory};
+ghost use Rattle.station_schema.specs.Common.{over_files, over_memory};
 ghost use Rattle.station_schema.specs.Own.{LiesInOrder};
 
 use sqlite_disk::Disk;

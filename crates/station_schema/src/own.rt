@@ -1,5 +1,5 @@
 ghost use Rattle.std.specs.Prelude.{◌≡◌, IsTrue};
-ghost use Rattle.sqlite.specs.Held.{state};
+ghost use Rattle.station_schema.specs.Common.{state};
 ghost use Rattle.station_schema.specs.Own.{IsOwn};
 ghost use Rattle.station_schema.specs.Schema.{station_schema};
 

@@ -1,12 +1,7 @@
 ghost use Rattle.std.specs.Prelude.{◌≡◌, ℕ, [], List, IsTrue};
-ghost use Rattle.sqlite.specs.Given.{IsPlain, HasGiven};
-ghost use Rattle.sqlite.specs.Held.{state};
-ghost use Rattle.sqlite.specs.Listing.{understood};
+ghost use Rattle.station_schema.specs.Common.{IsPlain, HasGiven, state, understood, HasCleanDisk, Survives, CommitsShowing, bound, HandedOut};
 ghost use Rattle.sqlite.specs.Order.{Row as AnyRow};
-ghost use Rattle.sqlite.specs.State.{HasCleanDisk, Survives, CommitsShowing};
-ghost use Rattle.sqlite.specs.Values.{bound};
 ghost use Rattle.station_schema.specs.Streams.{Moves, Streams, taking};
-ghost use Rattle.row_sinks.specs.Handed.{HandedOut};
 
 use row_sinks::Sink;
 use sqlite::types::ValueRef;

@@ -1,6 +1,5 @@
 ghost use Rattle.std.specs.Prelude.{◌≡◌, [], ◌∷◌, Some, None, true, false, map, IsTrue};
-ghost use Rattle.sqlite_value.specs.Keys.{plain};
-ghost use Rattle.sqlite.specs.Kind.TheVariants.{Integer};
+ghost use Rattle.station_schema.specs.Common.{plain, Integer};
 ghost use Rattle.station_schema.specs.Schema.{key_column, keyed_table, table_by};
 ghost use Rattle.station_schema.specs.Shapes.{table_of};
 ghost use Rattle.station_schema.specs.Wanted.{column_as};

@@ -1,6 +1,5 @@
 ghost use Rattle.std.specs.Prelude.{◌≡◌, Err, IsTrue};
-ghost use Rattle.sqlite.specs.State.{HasCleanDisk, Survives, IsUnchanged};
-ghost use Rattle.sqlite.specs.Held.{state};
+ghost use Rattle.station_schema.specs.Common.{HasCleanDisk, Survives, IsUnchanged, state};
 ghost use Rattle.station_schema.specs.Effects.{Begins, Commits, Stops, IsUndone};
 
 use sqlite::{Alter, Connection, Error, ErrorCode};

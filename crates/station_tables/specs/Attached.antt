@@ -1,21 +1,7 @@
 -- Stores whose tables were found to be a station's.
 use Rattle.std.specs.Prelude.{◌≡◌, ⊤, Some, Result, Ok, Err}
-use Rattle.sqlite.specs.Effect.{Database}
-use Rattle.sqlite.specs.Held.{Held}
-use Rattle.sqlite_trees.specs.declared.store.Store.{Ghosts}
-use Rattle.station_core.specs.Step.{State}
-use Rattle.station_schema.specs.Tables.{Tables, tables_of}
-use Rattle.row_codec.specs.Meaning.{meaning_of, Means}
-use Rattle.table_audits.specs.declared.state.FoundState.{FoundState}
-use Rattle.table_audits.specs.declared.unfit.Unfit.{Unfit}
+use Rattle.station_tables.specs.Common.{Database, Held, Ghosts, State, Tables, tables_of, meaning_of, Means, FoundState, Unfit, IsStationOf, Reading, read_as, FileVersion, First, Second, TableName, Waybill, Waybill2, IsUnfit, Tells}
 use Rattle.table_audits.specs.declared.unfit.Unfit.TheVariants as unfit
-use Rattle.table_audits.specs.Good.{IsStationOf}
-use Rattle.table_load.specs.Reading.{Reading, read_as}
-use Rattle.table_load.specs.declared.station.FileVersion.{FileVersion}
-use Rattle.table_load.specs.declared.station.FileVersion.TheVariants.{First, Second}
-use Rattle.table_audits.specs.declared.name.TableName.{TableName}
-use Rattle.table_audits.specs.declared.name.TableName.TheVariants.{Waybill, Waybill2}
-use Rattle.table_audits.specs.Verdict.{IsUnfit, Tells}
 use Rattle.station_tables.specs.declared.fault.AttachFault.{AttachFault}
 use Rattle.station_tables.specs.declared.fault.AttachFault.TheVariants as fault
 use Rattle.station_tables.specs.declared.station.Station.{Station}

@@ -1,23 +1,7 @@
 -- The effect of each call over a file, as records that a caller's contract can cite.
 use Rattle.std.specs.Prelude.{◌≡◌, ◌≢◌, ◌⊎◌, ◌↔◌, ℕ, true, false, IsTrue, Option, Some, None, Result, Err, IfOk, IfErr, OnOk, List}
-use Rattle.sqlite.specs.Held.{Held, state}
+use Rattle.station_tables.specs.Common.{Held, state, HasCleanDisk, Survives, Trees, Ghosts, IsUndone, IsOneStep, connection_view, IsVacant, takes_name, IsOldOwn, IsOwn, LiesInOrder, IsUnchanged, First, Keeping, State, IsLawfulState, opening, are_declared, rows_view, IsFileOf, IfGivenBack}
 use Rattle.sqlite.specs.State as connection
-use Rattle.sqlite.specs.State.{HasCleanDisk, Survives}
-use Rattle.sqlite.specs.Tree.{Trees}
-use Rattle.sqlite_trees.specs.declared.store.Store.{Ghosts}
-use Rattle.station_schema.specs.Effects.{IsUndone}
-use Rattle.station_schema.specs.Beside.{IsOneStep}
-use Rattle.station_schema.specs.Connection.{connection_view, IsVacant}
-use Rattle.station_schema.specs.Names.{takes_name}
-use Rattle.station_schema.specs.Own.{IsOldOwn, IsOwn, LiesInOrder}
-use Rattle.station_schema.specs.Store.{IsUnchanged}
-use Rattle.table_load.specs.declared.station.FileVersion.TheVariants.{First}
-use Rattle.station_core.specs.Keeping.{Keeping}
-use Rattle.station_core.specs.Step.{State, IsLawfulState, opening}
-use Rattle.station_rows.specs.Own.{are_declared}
-use Rattle.station_rows.specs.View.{rows_view}
-use Rattle.table_state.specs.File.{IsFileOf}
-use Rattle.table_state.specs.Shown.{IfGivenBack}
 use Rattle.station_tables.specs.declared.fault.AttachFault.{AttachFault}
 use Rattle.station_tables.specs.declared.fault.AttachFault.TheVariants as fault
 use Rattle.station_tables.specs.declared.station.Station.{Station}

@@ -1,12 +1,7 @@
 -- Calls of a station and of its openings, and the events of a caller that repeats its inputs.
 use Rattle.std.specs.Prelude.{◌≡◌, ◌⊎◌, Bool, true, false, List, [], ◌∷◌, ◌++◌, Option, Some, None, Result, Ok, Err}
-use Rattle.station_days.specs.Date.{LocalMinute}
-use Rattle.station_core.specs.declared.answer.ActFault.{ActFault}
+use Rattle.station_tables.specs.Common.{LocalMinute, ActFault, Answer, Input, RetryEvent, sent, cut_before, cut_after, reopened, started, ActsOnce, committed, State, step, after_all}
 use Rattle.station_core.specs.declared.answer.ActFault.TheVariants as fault
-use Rattle.station_core.specs.declared.answer.Answer.{Answer}
-use Rattle.station_core.specs.declared.input.Input.{Input}
-use Rattle.station_core.specs.Retries.{RetryEvent, sent, cut_before, cut_after, reopened, started, ActsOnce, committed}
-use Rattle.station_core.specs.Step.{State, step, after_all}
 
 -- a call with its result: `act`, with refusals as answers; `attach`, with whether it opened the
 -- station; and `attach_and_repeat`, with its answer, if any

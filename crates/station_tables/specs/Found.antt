@@ -1,7 +1,6 @@
 -- States that reopening a store of tables may find.
 use Rattle.std.specs.Prelude.{Option}
-use Rattle.station_core.specs.Step.{State}
-use Rattle.station_schema.specs.Store.{View}
+use Rattle.station_tables.specs.Common.{State, View}
 use Rattle.station_engine.specs.Found as stored
 use Rattle.table_state.specs.Shown as tables
 

@@ -1,13 +1,7 @@
 -- The lives of a file: in each, a station opens it, is given inputs, and ends.
 use Rattle.std.specs.Prelude.{◌≡◌, ◌⊎◌, ℕ, ◌+◌, ◌<◌, List, [], ◌∷◌, take, length, Option, Some, None}
-use Rattle.std.specs.List.{flat_map}
-use Rattle.station_days.specs.Date.{LocalMinute}
-use Rattle.shipment_machine.specs.Laws.{IsConserved, AreBalances}
-use Rattle.station_core.specs.declared.answer.ActFault.{ActFault}
+use Rattle.station_tables.specs.Common.{flat_map, LocalMinute, IsConserved, AreBalances, ActFault, Input, IsAfterAnswered, State, IsLawfulState, after_all}
 use Rattle.station_core.specs.declared.answer.ActFault.TheVariants as fault
-use Rattle.station_core.specs.declared.input.Input.{Input}
-use Rattle.station_core.specs.Keeping.{IsAfterAnswered}
-use Rattle.station_core.specs.Step.{State, IsLawfulState, after_all}
 
 -- The inputs given to a station, the number answered, and the fault that ended them, if any. Then
 -- it returned its connection, or was cut off.

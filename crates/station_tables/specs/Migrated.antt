@@ -1,13 +1,7 @@
 -- The effect of an upgrade on a file of version 1.
 use Rattle.std.specs.Prelude.{◌≡◌, Some, IsTrue}
-use Rattle.sqlite.specs.Effect.{Database}
-use Rattle.sqlite.specs.Tree.{Trees}
+use Rattle.station_tables.specs.Common.{Database, Trees, IsSettled, IsOwn, tables_of, Means, State}
 use Rattle.sqlite.specs.State as sqlite
-use Rattle.station_schema.specs.Effects.{IsSettled}
-use Rattle.station_schema.specs.Own.{IsOwn}
-use Rattle.station_schema.specs.Tables.{tables_of}
-use Rattle.row_codec.specs.Meaning.{Means}
-use Rattle.station_core.specs.Step.{State}
 use Rattle.station_tables.specs.Attached.{IsStateIn, IsOldStateIn}
 
 -- the trees are of version 2, as a station declares it, with the state that the database had as

@@ -1,13 +1,6 @@
 -- The effect of an input given to a station as it is opened again.
 use Rattle.std.specs.Prelude.{◌≡◌, ◌⊎◌, Option, Some}
-use Rattle.station_days.specs.Date.{LocalMinute}
-use Rattle.sqlite.specs.Effect.{Database}
-use Rattle.station_schema.specs.Store.{View}
-use Rattle.station_core.specs.declared.answer.Answer.{Answer}
-use Rattle.station_core.specs.declared.answer.Answer.TheVariants.{Done}
-use Rattle.station_core.specs.declared.answer.Reply.{Reply}
-use Rattle.station_core.specs.declared.input.Input.{Input}
-use Rattle.station_core.specs.Step.{State, repeated, step}
+use Rattle.station_tables.specs.Common.{LocalMinute, Database, View, Answer, Done, Reply, Input, State, repeated, step}
 use Rattle.station_tables.specs.Attached.{IsStateIn}
 use Rattle.station_tables.specs.Found.{Finds}
 

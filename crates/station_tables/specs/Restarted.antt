@@ -1,12 +1,6 @@
 -- The state found by opening a station again after a stop.
 use Rattle.std.specs.Prelude.{◌≡◌, ℕ, Bool, false, List, Option, Some}
-use Rattle.station_days.specs.Date.{LocalMinute}
-use Rattle.sqlite.specs.Effect.{Database}
-use Rattle.shipment_machine.specs.Laws.{IsConserved, AreBalances}
-use Rattle.station_core.specs.declared.answer.ActFault.{ActFault}
-use Rattle.station_core.specs.declared.input.Input.{Input}
-use Rattle.station_core.specs.Keeping.{IsAfterAnswered}
-use Rattle.station_core.specs.Step.{State, IsLawfulState}
+use Rattle.station_tables.specs.Common.{LocalMinute, Database, IsConserved, AreBalances, ActFault, Input, IsAfterAnswered, State, IsLawfulState}
 use Rattle.station_tables.specs.Attached.{IsTypedState}
 
 -- The state after the inputs that were answered or, if they ended with `Store`, perhaps after one

@@ -1,21 +1,7 @@
 ghost use Rattle.std.specs.Prelude.{◌≡◌, ◌≢◌, true, false, Some, Err, IsTrue, IfOk, IfErr};
-ghost use Rattle.sqlite.specs.State.{HasCleanDisk, IsUnchanged, Survives};
-ghost use Rattle.station_schema.specs.Effects.{IsSettled, IsUndone, Reads};
-ghost use Rattle.sqlite.specs.Held.{state};
-ghost use Rattle.sqlite.specs.Effect.{Database};
-ghost use Rattle.table_load.specs.Reading.{read_as};
-ghost use Rattle.table_load.specs.declared.station.FileVersion.TheVariants.{Second};
-ghost use Rattle.station_core.specs.Step.{State, IsLawfulState};
-ghost use Rattle.station_schema.specs.Connection.{connection_view};
-ghost use Rattle.station_schema.specs.Schema.{station_schema};
+ghost use Rattle.station_tables.specs.Common.{HasCleanDisk, Survives, IsSettled, IsUndone, Reads, state, Database, read_as, Second, State, IsLawfulState, connection_view, station_schema, IsStation, Tables, Means, at_rest, HasThese, Knows, IsOwn, LiesInOrder, are_declared, IsUnfit, Tells};
+ghost use Rattle.sqlite.specs.State.{IsUnchanged};
 ghost use Rattle.station_schema.specs.Store as store;
-ghost use Rattle.station_schema.specs.Tables.{IsStation, Tables};
-ghost use Rattle.row_codec.specs.Meaning.{Means};
-ghost use Rattle.state_store.specs.Store.{at_rest};
-ghost use Rattle.table_state.specs.Shown.{HasThese, Knows};
-ghost use Rattle.station_schema.specs.Own.{IsOwn, LiesInOrder};
-ghost use Rattle.station_rows.specs.Own.{are_declared};
-ghost use Rattle.table_audits.specs.Verdict.{IsUnfit, Tells};
 ghost use Rattle.station_tables.specs.Attached.{connection_in, IsBreakdown, IsJudged, IsStateIn, IsTypedState, Refuses};
 ghost use Rattle.station_tables.specs.Called.{HasFound};
 

@@ -1,10 +1,6 @@
 //! Laws about the lives of a file.
 ghost use Rattle.std.specs.Prelude.{◌≡◌, ◌↔◌, ℕ, List, Bool, true, Result};
-ghost use Rattle.sqlite.specs.Held.{Held, state};
-ghost use Rattle.sqlite.specs.State.{HasCleanDisk};
-ghost use Rattle.std.specs.List.{AllByRecursion};
-ghost use Rattle.station_core.specs.Ranges.{AreInputs};
-ghost use Rattle.station_core.specs.Step.{State, IsLawfulState, opening};
+ghost use Rattle.station_tables.specs.Common.{Held, state, HasCleanDisk, AllByRecursion, AreInputs, State, IsLawfulState, opening};
 ghost use Rattle.station_tables.specs.declared.station.Station.{Station as Kept};
 ghost use Rattle.station_tables.specs.Called.{GoesOn, HasFound, HasReleased};
 ghost use Rattle.station_tables.specs.Calls.{Call, Desk, DoAll, CallsActOnce};

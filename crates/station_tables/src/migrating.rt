@@ -1,19 +1,9 @@
 //! Upgrades of files from version 1 to version 2.
 ghost use Rattle.std.specs.Prelude.{◌≡◌, ◌≢◌, Err, IsTrue, IfOk, IfErr};
-ghost use Rattle.table_load.specs.Reading.{read_as};
-ghost use Rattle.table_load.specs.declared.station.FileVersion.TheVariants.{First};
-ghost use Rattle.station_schema.specs.Effects.{IsSettled, IsUndone};
-ghost use Rattle.station_schema.specs.Own.{IsOldOwn, LiesInOrder};
-ghost use Rattle.station_schema.specs.Tables.{IsOldStation};
-ghost use Rattle.sqlite.specs.Effect.{Database};
-ghost use Rattle.sqlite.specs.Held.{state};
-ghost use Rattle.sqlite.specs.State.{HasCleanDisk, Survives};
-ghost use Rattle.table_audits.specs.Verdict.{IsUnfit};
-ghost use Rattle.station_core.specs.Step.{State};
+ghost use Rattle.station_tables.specs.Common.{read_as, First, IsSettled, IsUndone, IsOldOwn, LiesInOrder, IsOldStation, Database, state, HasCleanDisk, Survives, IsUnfit, State, MeansUpgraded};
 ghost use Rattle.station_tables.specs.Attached.{IsJudged, IsOldStateIn, RefusesAs, old_name};
 ghost use Rattle.station_tables.specs.Called.{HasMoved};
 ghost use Rattle.station_tables.specs.Migrated.{HasMigrated};
-ghost use Rattle.table_load.specs.Upgrade.{MeansUpgraded};
 
 use crate::attaching::{breakdown, judge};
 use crate::fault::AttachFault;

@@ -1,11 +1,5 @@
 ghost use Rattle.std.specs.Prelude.{◌≡◌, ◌≢◌, true, false, Err, Option, Some, IfOk, IfErr, OnOk};
-ghost use Rattle.sqlite.specs.State.{HasCleanDisk, Survives};
-ghost use Rattle.station_schema.specs.Effects.{IsUndone};
-ghost use Rattle.sqlite.specs.Held.{state};
-ghost use Rattle.station_schema.specs.Own.{IsOwn, LiesInOrder};
-ghost use Rattle.station_schema.specs.Connection.{connection_view};
-ghost use Rattle.station_core.specs.Keeping.{Answers, FindsOnly, IfSound, IfWorks, IsMemoryOrStore, MayLeave};
-ghost use Rattle.station_core.specs.Step.{State, IsLawfulState};
+ghost use Rattle.station_tables.specs.Common.{HasCleanDisk, Survives, IsUndone, state, IsOwn, LiesInOrder, connection_view, Answers, FindsOnly, IfSound, IfWorks, IsMemoryOrStore, MayLeave, State, IsLawfulState};
 ghost use Rattle.station_tables.specs.Attached.{connection_in, IsBreakdown, IsStateIn, IsTypedState, Refuses};
 ghost use Rattle.station_tables.specs.Found.{Finds};
 ghost use Rattle.station_tables.specs.Repeated.{HasAnswered, HasRepeated, IsBeforeIn, IsBeforeOrAfter, IsBeforeOrAfterIn};

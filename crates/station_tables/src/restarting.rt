@@ -1,11 +1,5 @@
 ghost use Rattle.std.specs.Prelude.{◌≡◌, ◌<◌, true, false, [], None, Some, length, take, IfOk, IfErr};
-ghost use Rattle.sqlite.specs.State.{HasCleanDisk, Survives};
-ghost use Rattle.sqlite.specs.Held.{state};
-ghost use Rattle.station_core.specs.Keeping.{IfSound, IfWorks, IsBrokenAtEnd, IsMemoryOrReopen, IsMemoryOrStore};
-ghost use Rattle.station_core.specs.Step.{State, after_all, answers_of};
-ghost use Rattle.station_rows.specs.Own.{are_declared};
-ghost use Rattle.station_rows.specs.View.{rows_view};
-ghost use Rattle.table_state.specs.Shown.{IfGivenBack};
+ghost use Rattle.station_tables.specs.Common.{HasCleanDisk, Survives, state, IfSound, IfWorks, IsBrokenAtEnd, IsMemoryOrReopen, IsMemoryOrStore, State, after_all, answers_of, are_declared, rows_view, IfGivenBack};
 ghost use Rattle.station_tables.specs.Attached.{connection_in, IsBreakdown};
 ghost use Rattle.station_tables.specs.Restarted.{IsRestored};
 

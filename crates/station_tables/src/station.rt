@@ -1,7 +1,5 @@
 ghost use Rattle.std.specs.Prelude.{◌≡◌, false, Err};
-ghost use Rattle.sqlite.specs.Held.{state};
-ghost use Rattle.sqlite.specs.State.{HasCleanDisk};
-ghost use Rattle.station_core.specs.Keeping.{Acts, Breaks, FindsOnly, IfWorks, Leaves, Reopens};
+ghost use Rattle.station_tables.specs.Common.{state, HasCleanDisk, Acts, Breaks, FindsOnly, IfWorks, Leaves, Reopens};
 ghost use Rattle.station_tables.specs.Attached.{connection_in};
 ghost use Rattle.station_tables.specs.Called.{HasReleased};
 

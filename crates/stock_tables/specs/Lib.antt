@@ -1,3 +1,4 @@
+pub mod Common
 pub mod Ordered
 pub mod Reads
 pub mod Rows

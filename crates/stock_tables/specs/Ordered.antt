@@ -1,12 +1,6 @@
 -- An order on the stock in the tables of a store.
 use Rattle.std.specs.Prelude.{◌≡◌, ℕ, true, None, Option, Result, OnOk, IfErr}
-use Rattle.agent_stock.specs.Refusing.{OnRefused, RefusesBy}
-use Rattle.agent_stock.specs.Stock.{Holders, is_run}
-use Rattle.agent_stock.specs.declared.stock.Run.{Run}
-use Rattle.agent_stock.specs.declared.stock.StockFault.{StockFault}
-use Rattle.station_schema.specs.Store.{View, IsShowing, Survives, at_rest}
-use Rattle.station_schema.specs.Tables.{Tables}
-use Rattle.row_codec.specs.Stock.{holders_in}
+use Rattle.stock_tables.specs.Common.{OnRefused, RefusesBy, Holders, is_run, Run, StockFault, View, IsShowing, Survives, at_rest, Tables, holders_in}
 use Rattle.stock_tables.specs.Stocked.{Stocked, Restocked}
 
 -- What the holders in stock say refuses an order of a run, or it is done in a transaction that it

@@ -1,11 +1,6 @@
 -- What the last row below a number says.
 use Rattle.std.specs.Prelude.{ℕ, ◌+◌, ◌-◌, length, drop, Bool, false, ◌&&◌, ◌||◌, nat_eq, nat_le, nat_lt, if◌then◌else◌, Option, Some, None, List, [], ◌∷◌, filter}
-use Rattle.std.specs.List.{last_or}
-use Rattle.awb_number.specs.Number.{prefix_of}
-use Rattle.agent_stock.specs.declared.stock.Holder.{Holder}
-use Rattle.agent_stock.specs.declared.stock.Run.{Run}
-use Rattle.agent_stock.specs.declared.runs.StockRun.{StockRun}
-use Rattle.agent_stock.specs.Runs.{end_of}
+use Rattle.stock_tables.specs.Common.{last_or, prefix_of, Holder, Run, StockRun, end_of}
 
 -- a row of a prefix begins below a number
 abbrev pub is_below : ℕ → ℕ → StockRun → Bool

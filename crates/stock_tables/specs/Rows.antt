@@ -1,11 +1,6 @@
 -- The stock as rows, one for a run of numbers that one holder has.
 use Rattle.std.specs.Prelude.{ℕ, ◌≡◌, ◌≢◌, ◌+◌, ◌-◌, ◌≤◌, ◌<◌, ◌⊎◌, Bool, not, ◌&&◌, nat_eq, nat_le, nat_lt, Option, Some, None, IfSome, List, [], ◌∷◌, ◌++◌, filter}
-use Rattle.std.specs.List.{AllByRecursion}
-use Rattle.awb_number.specs.Number.{prefix_of}
-use Rattle.agent_stock.specs.declared.stock.Holder.{Holder}
-use Rattle.agent_stock.specs.declared.stock.Run.{Run}
-use Rattle.agent_stock.specs.declared.runs.StockRun.{StockRun}
-use Rattle.agent_stock.specs.Runs.{end_of}
+use Rattle.stock_tables.specs.Common.{AllByRecursion, prefix_of, Holder, Run, StockRun, end_of}
 use Rattle.stock_tables.specs.declared.joining.Joined.{Joined}
 
 -- a row of the run's prefix that has a number of the run, or of those beside it

@@ -1,11 +1,6 @@
 -- Runs as rows of the stock's table.
 use Rattle.std.specs.Prelude.{ℕ, ℤ, pos, ◌≡◌, ◌+◌, ◌-◌, Some, List, []}
-use Rattle.awb_number.specs.Number.{IsNumber, prefix_of, serial_of}
-use Rattle.agent_stock.specs.declared.stock.Holder.{Holder}
-use Rattle.agent_stock.specs.declared.stock.Holder.TheVariants.{Desk, Agent, Used, Void}
-use Rattle.agent_stock.specs.declared.runs.StockRun.{StockRun}
-use Rattle.station_schema.specs.Tables.{Stock, StockKey}
-use Rattle.row_codec.specs.Stock.{holder_by}
+use Rattle.stock_tables.specs.Common.{IsNumber, prefix_of, serial_of, Holder, Desk, Agent, Used, Void, StockRun, Stock, StockKey, holder_by}
 
 -- what stands in a row for a holder: its number, and the agent's code
 abbrev pub holder_number : Holder → ℤ

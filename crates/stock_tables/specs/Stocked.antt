@@ -1,16 +1,7 @@
 -- The stock in the tables of a store, and what a change of it leaves.
 use Rattle.std.specs.Prelude.{◌≡◌, ◌==◌, ◌≤◌, ◌+◌, ◌++◌, ℕ, true, if◌then◌else◌, is_some, Some, List}
-use Rattle.std.specs.List.{AllByRecursion}
-use Rattle.std.specs.FinMap.{FinMap, get}
-use Rattle.agent_stock.specs.Stock.{Holders}
-use Rattle.agent_stock.specs.declared.stock.Holder.TheVariants.{Used}
-use Rattle.agent_stock.specs.declared.stock.Run.{Run}
-use Rattle.agent_stock.specs.declared.runs.StockRun.{StockRun}
-use Rattle.station_schema.specs.Store.{View, Displays, inside}
-use Rattle.station_schema.specs.Tables.{Tables, Stock, stock_cmp}
-use Rattle.row_codec.specs.Stock.{holders_in, AreStockRows}
+use Rattle.stock_tables.specs.Common.{AllByRecursion, FinMap, get, Holders, Used, Run, StockRun, View, Displays, inside, Tables, Stock, stock_cmp, holders_in, AreStockRows, end_of}
 use Rattle.stock_tables.specs.Rows.{AreAround}
-use Rattle.agent_stock.specs.Runs.{end_of}
 use Rattle.stock_tables.specs.Runs.{key_of}
 use Rattle.stock_tables.specs.Writes.{begins}
 

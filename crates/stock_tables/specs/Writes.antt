@@ -1,9 +1,6 @@
 -- What the writes make of the stock's table.
 use Rattle.std.specs.Prelude.{ℕ, Bool, nat_eq, if◌then◌else◌, List, [], ◌∷◌}
-use Rattle.std.specs.List.{list_any}
-use Rattle.std.specs.FinMap.{FinMap, insert, remove}
-use Rattle.agent_stock.specs.declared.runs.StockRun.{StockRun}
-use Rattle.station_schema.specs.Tables.{Stock, stock_cmp}
+use Rattle.stock_tables.specs.Common.{list_any, FinMap, insert, remove, StockRun, Stock, stock_cmp}
 use Rattle.stock_tables.specs.Runs.{key_of, row_in}
 
 -- whether one of the rows begins with a number

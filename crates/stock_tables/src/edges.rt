@@ -1,8 +1,7 @@
 //! The rests of the rows at the ends of a run.
 ghost use Rattle.std.specs.Prelude.{◌≡◌, ◌≤◌, ◌+◌, IsSome, IfSome};
-ghost use Rattle.std.specs.List.{AllByRecursion};
+ghost use Rattle.stock_tables.specs.Common.{AllByRecursion, IsRunRow};
 ghost use Rattle.stock_tables.specs.Rows.{Before, Behind};
-ghost use Rattle.agent_stock.specs.Runs.{IsRunRow};
 
 use agent_stock::{Holder, StockRun};
 use awb_number::Awb;

@@ -1,7 +1,6 @@
 //! The lowest number of a run that fails a test.
 ghost use Rattle.std.specs.Prelude.{◌≡◌, ◌+◌, ◌≤◌, ◌<◌, ◌⊎◌, ◌↔◌, ℕ, IsTrue, true, false};
-ghost use Rattle.agent_stock.specs.Stock.{Holders, is_run, passes, covers, lowest_failing};
-ghost use Rattle.agent_stock.specs.Runs.{StandFrom, holders_by};
+ghost use Rattle.stock_tables.specs.Common.{Holders, is_run, passes, covers, lowest_failing, StandFrom, holders_by};
 
 use crate::row::end_key;
 use agent_stock::{Holder, Run, StockRun, Test};

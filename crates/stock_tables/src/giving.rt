@@ -1,10 +1,6 @@
 //! A run of numbers is given to a holder, in a transaction.
 ghost use Rattle.std.specs.Prelude.{◌≡◌, true, map, OnOk};
-ghost use Rattle.std.specs.FinMap.{entries};
-ghost use Rattle.agent_stock.specs.Stock.{is_run, assigned};
-ghost use Rattle.station_schema.specs.Store.{IsShowing, Survives, at_rest, inside};
-ghost use Rattle.station_schema.specs.Tables.{Tables};
-ghost use Rattle.row_codec.specs.Stock.{holders_in, run_in};
+ghost use Rattle.stock_tables.specs.Common.{entries, is_run, assigned, IsShowing, Survives, at_rest, inside, Tables, holders_in, run_in};
 ghost use Rattle.stock_tables.specs.Rows.{rows_near};
 ghost use Rattle.stock_tables.specs.Stocked.{Stocked, Restocked, using_up};
 

@@ -1,8 +1,6 @@
 //! The holder of a number.
 ghost use Rattle.std.specs.Prelude.{◌≡◌, IfOk};
-ghost use Rattle.row_codec.specs.Stock.{holders_in, run_in};
-ghost use Rattle.station_rows.specs.Clauses.{Reads};
-ghost use Rattle.station_rows.specs.Meant.{stock_meant};
+ghost use Rattle.stock_tables.specs.Common.{holders_in, run_in, Reads, stock_meant};
 ghost use Rattle.stock_tables.specs.Reads.{holder_at};
 ghost use Rattle.stock_tables.specs.Stocked.{Stocked};
 

@@ -1,9 +1,8 @@
 //! The rows in place of those that a run touches.
 ghost use Rattle.std.specs.Prelude.{◌≡◌, ◌++◌, true, List, IsSome, IfSome};
-ghost use Rattle.agent_stock.specs.Stock.{is_run, assigned};
+ghost use Rattle.stock_tables.specs.Common.{is_run, assigned, AreRuns, holders_by};
 ghost use Rattle.agent_stock.specs.declared.runs.StockRun.{StockRun as Row};
 ghost use Rattle.stock_tables.specs.Rows.{AreAround, AreNear, written, IsJoined};
-ghost use Rattle.agent_stock.specs.Runs.{AreRuns, holders_by};
 
 use crate::edges::{before, behind};
 use agent_stock::{Holder, Run, StockRun};

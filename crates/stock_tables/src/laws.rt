@@ -1,9 +1,6 @@
 //! The runs that the rows of the stock's table mean.
 ghost use Rattle.std.specs.Prelude.{◌≡◌, map};
-ghost use Rattle.std.specs.FinMap.{FinMap, entries};
-ghost use Rattle.station_schema.specs.Tables.{Stock, stock_cmp};
-ghost use Rattle.row_codec.specs.Stock.{AreStockRows, holders_in, run_in};
-ghost use Rattle.agent_stock.specs.Runs.{AreRuns, holders_by};
+ghost use Rattle.stock_tables.specs.Common.{FinMap, entries, Stock, stock_cmp, AreStockRows, holders_in, run_in, AreRuns, holders_by};
 
 /// Rows within range that are apart are runs in ascending order, and say who has each number as the
 /// table does.

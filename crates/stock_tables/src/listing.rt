@@ -1,9 +1,6 @@
 //! The stock as its runs.
 ghost use Rattle.std.specs.Prelude.{map, IfOk};
-ghost use Rattle.agent_stock.specs.Runs.{AreStockRuns, AreRuns, holders_by};
-ghost use Rattle.row_codec.specs.Stock.{holders_in, run_in};
-ghost use Rattle.station_rows.specs.Clauses.{Reads};
-ghost use Rattle.station_rows.specs.Meant.{stock_meant};
+ghost use Rattle.stock_tables.specs.Common.{AreStockRuns, AreRuns, holders_by, holders_in, run_in, Reads, stock_meant};
 ghost use Rattle.stock_tables.specs.Stocked.{Stocked};
 
 use crate::near::with_rows;

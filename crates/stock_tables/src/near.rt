@@ -1,11 +1,8 @@
 //! The rows that a run touches.
 ghost use Rattle.std.specs.Prelude.{◌≡◌, ◌++◌, map, filter, option_map, IfSome, IfOk};
-ghost use Rattle.std.specs.FinMap.{entries};
+ghost use Rattle.stock_tables.specs.Common.{entries, Reads, stock_meant, run_in};
 ghost use Rattle.stock_tables.specs.Rows.{rows_near};
-ghost use Rattle.station_rows.specs.Clauses.{Reads};
-ghost use Rattle.station_rows.specs.Meant.{stock_meant};
 ghost use Rattle.stock_tables.specs.Reads.{reaches, reaching, are_enough};
-ghost use Rattle.row_codec.specs.Stock.{run_in};
 ghost use Rattle.stock_tables.specs.Stocked.{Stocked, IsCut, EndsBehind, BeginsAhead};
 
 use crate::row::end_key;

@@ -1,6 +1,6 @@
 //! Orders on the stock.
 ghost use Rattle.std.specs.Prelude.{◌≡◌, true, false, Err, None};
-ghost use Rattle.agent_stock.specs.Stock.{is_run, lowest_failing, refused_by, run_refusal, order_refusal, run_of, assigned, after_order};
+ghost use Rattle.stock_tables.specs.Common.{is_run, lowest_failing, refused_by, run_refusal, order_refusal, run_of, assigned, after_order};
 ghost use Rattle.stock_tables.specs.Ordered.{Ordered};
 
 use crate::giving::begin_giving;

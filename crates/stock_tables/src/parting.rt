@@ -1,9 +1,8 @@
 //! The rows before a run, those that it touches, and those behind it.
 ghost use Rattle.std.specs.Prelude.{◌≡◌, ◌++◌, ℕ, true, List, IsTrue};
-ghost use Rattle.agent_stock.specs.Stock.{is_run, covers};
+ghost use Rattle.stock_tables.specs.Common.{is_run, covers, AreRuns, holders_by};
 ghost use Rattle.agent_stock.specs.declared.runs.StockRun.{StockRun as Row};
 ghost use Rattle.stock_tables.specs.Rows.{AreAround, AreNear, rows_ahead, rows_near, rows_behind};
-ghost use Rattle.agent_stock.specs.Runs.{AreRuns, holders_by};
 
 use agent_stock::Run;
 

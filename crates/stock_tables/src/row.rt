@@ -1,8 +1,6 @@
 //! Runs as rows of `stock`.
 ghost use Rattle.std.specs.Prelude.{◌≡◌, ℤ, Some, IfOk, OnOk};
-ghost use Rattle.row_codec.specs.Stock.{holder_by};
-ghost use Rattle.station_rows.specs.Meant.{stock_meant};
-ghost use Rattle.agent_stock.specs.Runs.{end_of};
+ghost use Rattle.stock_tables.specs.Common.{holder_by, stock_meant, end_of};
 ghost use Rattle.stock_tables.specs.Runs.{holder_number, code_of, entry_of, IsWritable};
 
 use agent_stock::{Holder, StockRun};

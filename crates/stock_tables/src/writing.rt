@@ -1,12 +1,7 @@
 //! New rows in place of those that a run touches.
 ghost use Rattle.std.specs.Prelude.{◌≡◌, ◌∷◌, [], true, Some, OnOk};
-ghost use Rattle.std.specs.FinMap.{get};
-ghost use Rattle.std.specs.List.{AllByRecursion};
-ghost use Rattle.station_schema.specs.Store.{IsShowing, Survives, inside};
-ghost use Rattle.station_schema.specs.Tables.{Tables, Stock};
+ghost use Rattle.stock_tables.specs.Common.{get, AllByRecursion, IsShowing, Survives, inside, Tables, Stock, ShowsChange, stock_meant, with_stock};
 ghost use Rattle.stock_tables.specs.Rows.{listed, written};
-ghost use Rattle.station_rows.specs.Clauses.{ShowsChange};
-ghost use Rattle.station_rows.specs.Meant.{stock_meant, with_stock};
 ghost use Rattle.stock_tables.specs.Runs.{IsWritable};
 ghost use Rattle.stock_tables.specs.Writes.{begins, without, cleared, put_in};
 ghost use Rattle.stock_tables.specs.Stocked.{restocked, AreThere};

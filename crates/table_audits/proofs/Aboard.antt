@@ -1,5 +1,5 @@
 -- The sums on a flight are those of the waybills that are built on it.
-use Rattle.table_audits.proofs.Common.{AllByRecursion, AreSums, BookSums, Bool, Build, BuildPlace, Built, FlightDate, Less, List, Move, None, Option, Some, Tally, [], ap, ap₂, arith, build_due, build_place_cmp, build_row, built, cond, false, int_cmp, int_eq, int_pos, ints, is_at, is_left, is_some, keys_of, length, lookup, map, nat_cmp, nat_cmp_total, nat_lt, nat_tests, natural, negsuc, none_is, on_flight, option_map, ordering_then, pos, refl, running, running_on, slice_get, subst, sym, tied_itself, true, true≢false, unless_nothing, waybills_on, ℕ, ℤ, ◌&&◌, ◌<◌, ◌==◌, ◌||◌, ◌∙◌, ◌∷◌, ◌≡◌}
+use Rattle.table_audits.proofs.Common.{AllByRecursion, AreSums, BookSums, Bool, Build, BuildPlace, Built, FlightDate, Less, List, Move, None, Option, Some, Tally, [], ap, arith, build_due, build_place_cmp, build_row, built, cond, false, int_cmp, int_eq, int_pos, ints, is_at, is_left, is_some, keys_of, length, lookup, map, nat_cmp, nat_cmp_total, nat_lt, nat_tests, natural, negsuc, none_is, on_flight, option_map, ordering_then, pos, refl, running, running_on, slice_get, subst, sym, tied_itself, true, true≢false, unless_nothing, waybills_on, ℕ, ℤ, ◌&&◌, ◌<◌, ◌==◌, ◌∙◌, ◌∷◌, ◌≡◌, length-map}
 use Rattle.std.specs.List.Sorted.{IsStrictlySortedBy}
 use Rattle.shipment_machine.specs.Numbers.{IsAscending as Rising, is_in}
 use Rattle.shipment_machine.proofs.Rising.{same_rising}
@@ -13,41 +13,25 @@ use Rattle.table_audits.proofs.Stocked.{row_tally, built_none, built_some}
 abbrev pub waybills_at : ℕ → List (BuildPlace × Tally) → List ℕ
 waybills_at i es = map (λ (e : BuildPlace × Tally). natural e.0.awb) (on_flight i es)
 
-as_many : {X Y : Type 0} (f : X → Y) (xs : List X) → length (map f xs) ≡ length xs
-as_many f [] = refl
-as_many f (x ∷ xs) = let a = as_many f xs in omega (arith, a)
-
 -- a key that is a waybill's
 abbrev IsNumbered : BuildPlace × Tally → Type 0
 IsNumbered e = (n : ℕ) × (e.0.awb ≡ pos n)
 
 -- ---- which waybills they are
 
-found_or : (b : Bool) (t : Tally) (o : Option Tally) → (b || is_some o) ≡ is_some (cond b (Some t) o)
-found_or true t o = refl
-found_or false t o = refl
-
 in_sums : (r i : ℕ) (es : List (BuildPlace × Tally)) → AllByRecursion IsNumbered es → is_in r (waybills_at i es) ≡ is_some (lookup (is_at (build_place_cmp (record { flight = i; awb = pos r }))) es)
 in_sums r i [] all = refl
 in_sums r i (e ∷ es) all =
-    go (in_sums r i es all.1) (e.0.flight == i) refl
-    ∙ ap (λ b. is_some (cond b (Some e.1) (lookup (is_at (build_place_cmp (record { flight = i; awb = pos r }))) es))) (sym (key_eq i e.0.flight (pos r) e.0.awb))
+    let waybill : (natural e.0.awb == r) ≡ int_eq (pos r) e.0.awb = ap (λ z. natural z == r) all.0.1 ∙ sym (int_pos r all.0.0) ∙ ap (int_eq (pos r)) (sym all.0.1) in
+    let turned : (e.0.flight == i) ≡ (i == e.0.flight) = grind (arith, nat_tests) in
+    rw (key_eq i e.0.flight (pos r) e.0.awb, turned) (go (i == e.0.flight) (int_eq (pos r) e.0.awb) waybill (in_sums r i es all.1))
   where
-    waybill : (natural e.0.awb == r) ≡ int_eq (pos r) e.0.awb
-    waybill = ap (λ z. natural z == r) all.0.1 ∙ sym (int_pos r all.0.0) ∙ ap (int_eq (pos r)) (sym all.0.1)
-
-    go : is_in r (waybills_at i es) ≡ is_some (lookup (is_at (build_place_cmp (record { flight = i; awb = pos r }))) es) → (b : Bool) → (e.0.flight == i) ≡ b
+    go : (b c : Bool) → (natural e.0.awb == r) ≡ c → is_in r (waybills_at i es) ≡ is_some (lookup (is_at (build_place_cmp (record { flight = i; awb = pos r }))) es)
         → is_in r (map (λ (d : BuildPlace × Tally). natural d.0.awb) (cond b (e ∷ on_flight i es) (on_flight i es)))
-        ≡ is_some (cond ((i == e.0.flight) && int_eq (pos r) e.0.awb) (Some e.1) (lookup (is_at (build_place_cmp (record { flight = i; awb = pos r }))) es))
-    go rest true h =
-        let yes : (i == e.0.flight) ≡ true = grind (arith, nat_tests) in
-        ap₂ ◌||◌ waybill rest
-        ∙ found_or (int_eq (pos r) e.0.awb) e.1 (lookup (is_at (build_place_cmp (record { flight = i; awb = pos r }))) es)
-        ∙ ap (λ b. is_some (cond (b && int_eq (pos r) e.0.awb) (Some e.1) (lookup (is_at (build_place_cmp (record { flight = i; awb = pos r }))) es))) (sym yes)
-    go rest false h =
-        let no : (i == e.0.flight) ≡ false = grind (arith, nat_tests) in
-        rest
-        ∙ ap (λ b. is_some (cond (b && int_eq (pos r) e.0.awb) (Some e.1) (lookup (is_at (build_place_cmp (record { flight = i; awb = pos r }))) es))) (sym no)
+        ≡ is_some (cond (b && c) (Some e.1) (lookup (is_at (build_place_cmp (record { flight = i; awb = pos r }))) es))
+    go true true here rest = rw here refl
+    go true false here rest = rw here rest
+    go false c here rest = rest
 
 -- ---- they rise
 
@@ -119,13 +103,13 @@ module _ (flights : List FlightDate) (sums : BookSums) (book : List Move) (are :
   -- where something is left of each sum, the sums on a flight are the waybills on it
   pub on_listed : (i : ℕ) (f : FlightDate) → slice_get flights i ≡ Some f → ((w : ℕ) (t : Tally) → told i w ≡ Some t → is_left t ≡ true) → length (on_flight i sums.builds.entries) ≡ length (waybills_on book f)
   on_listed i f is left =
-      sym (as_many (λ (e : BuildPlace × Tally). natural e.0.awb) (on_flight i sums.builds.entries))
+      sym (length-map (on_flight i sums.builds.entries) (λ (e : BuildPlace × Tally). natural e.0.awb))
       ∙ ap (λ (ws : List ℕ). length ws) (same_rising (waybills_at i sums.builds.entries) (waybills_on book f) (rising_at i sums.builds.entries numbered up) (Rising-waybills_on book f)
       (λ r. in_sums r i sums.builds.entries numbered ∙ aboard r f (told i r) (told_on i r f is) (left r) ∙ sym (is_in-waybills_on r book f)))
 
   pub on_unlisted : (i : ℕ) → slice_get flights i ≡ None → length (on_flight i sums.builds.entries) ≡ 0
   on_unlisted i none =
-      sym (as_many (λ (e : BuildPlace × Tally). natural e.0.awb) (on_flight i sums.builds.entries))
+      sym (length-map (on_flight i sums.builds.entries) (λ (e : BuildPlace × Tally). natural e.0.awb))
       ∙ ap (λ (ws : List ℕ). length ws) (same_rising (waybills_at i sums.builds.entries) [] (rising_at i sums.builds.entries numbered up) tt
       (λ r. in_sums r i sums.builds.entries numbered ∙ ap is_some (none_told i r none)))
 

@@ -1,12 +1,14 @@
 -- The balances of a station are lawful exactly where each sum is, and no flight has more than 500
 -- of them.
-use Rattle.table_audits.proofs.Common.{AllByRecursion, AreBalances, AreFlightsOf, AreSums, BookSums, Bool, Build, BuildPlace, Built, Count, CountPlace, Delivered, Departed, Flight, FlightDate, FlightKey, Free, Hand, IsAntisymmetric, IsCovered, IsStocked, IsStrictlySortedBy, IsTotalOrder, List, Missing, Move, None, Option, Ordering, Place, Some, Surplus, Tables, Tally, Transferred, [], all_from_test, and_from, and_parts, ap, ap₂, arith, book_in, build_due, build_place_cmp, build_row, built, bytes_cmp, cond, count_here, count_in, count_place_cmp, count_row, drawn_at, drawn_by, each_entry, entries, eq_by_cmp, false, flight_cmp, flight_key, flights_in, get, get-entries, inl, inr, int_cmp, int_cmp-IsAntisymmetric, int_cmp_total, int_eq, int_lt, is_at, is_built, is_closed, is_covered, is_designator, is_eq, is_false, is_lawful_build, is_lawful_count, is_left, is_open, is_outside, is_set, is_tied, keys_of, length, list_all, lookup, map, nat_cmp, nat_cmp-IsAntisymmetric, nat_lt, negsuc, none_is, not, on_flight, on_total, option_map, outbound_by, pair_same, pair_total, place_code, plain_place, pos, refl, running, running_in, same-is, same_key, slice_get, some_is, subst, suc, sym, taken_and_found, test_from_all, texts_total, then_total, true, true≢false, unless_nothing, waybills_on, zero, ℕ, ℤ, ◌&&◌, ◌||◌, ◌∙◌, ◌∷◌, ◌≡◌, ◌≢◌, ◌≤◌, ◌⊎◌}
+use Rattle.table_audits.proofs.Common.{AllByRecursion, AreBalances, AreFlightsOf, AreSums, BookSums, Bool, Build, BuildPlace, Built, Count, CountPlace, Flight, FlightDate, FlightKey, Hand, IsAntisymmetric, IsCovered, IsStocked, IsStrictlySortedBy, IsTotalOrder, List, Move, None, Option, Ordering, Place, Some, Surplus, Tables, Tally, [], all_from_test, and_from, and_parts, ap, ap₂, arith, book_in, build_due, build_place_cmp, build_row, built, bytes_cmp, cond, count_here, count_in, count_place_cmp, count_row, drawn_at, drawn_by, each_entry, entries, eq_by_cmp, false, flight_cmp, flight_key, flights_in, get, get-entries, inl, inr, int_cmp, int_cmp-IsAntisymmetric, int_cmp_total, int_eq, int_lt, is_at, is_built, is_closed, is_covered, is_designator, is_eq, is_false, is_lawful_build, is_lawful_count, is_left, is_open, is_outside, is_set, is_tied, keys_of, length, list_all, lookup, map, nat_cmp, nat_cmp-IsAntisymmetric, nat_lt, negsuc, none_is, not, on_flight, on_total, option_map, outbound_by, pair_same, pair_total, place_code, plain_place, pos, refl, running, running_in, same-is, same_key, slice_get, some_is, subst, suc, sym, taken_and_found, test_from_all, texts_total, then_total, true, true≢false, unless_nothing, waybills_on, ℕ, ℤ, ◌&&◌, ◌||◌, ◌∙◌, ◌∷◌, ◌≡◌, ◌≢◌, ◌≤◌, ◌⊎◌}
+use Rattle.std.proofs.lemmas.Option.{slice_get-map}
+use Rattle.sqlite_keyed.proofs.ListLemmas.{all-slice_get}
 use Rattle.std.specs.FinMap.{find}
 use Rattle.shipment_machine.specs.Amount.{plus, fits}
 use Rattle.row_codec.proofs.Codes as codes
 use Rattle.table_audits.specs.Balances.{is_within}
 use Rattle.table_audits.proofs.Sorted.{each_looked_up}
-use Rattle.table_audits.proofs.Mapped.{got_map, index_of, listed}
+use Rattle.table_audits.proofs.Mapped.{index_of, listed}
 use Rattle.table_audits.proofs.Made.{distinct, build_places_total}
 use Rattle.table_audits.proofs.Stocked.{row_tally, stocked_even, told_even, told_stocked, stocked_told, told_covered, covered_told, told_drawn, built_none, built_some}
 use Rattle.table_audits.proofs.Aboard.{told, told_on, on_listed, on_unlisted, nothing_on}
@@ -21,14 +23,10 @@ pub record IsAudited (rows : List (FlightKey × Flight)) (sums : BookSums) : Typ
 
 looked_up : {K V : Type 0} (R : K → K → Ordering) → IsAntisymmetric R → (P : K × V → Type 0) (es : List (K × V)) → AllByRecursion P es → (q : K) (v : V) → lookup (is_at (R q)) es ≡ Some v → P (q, v)
 looked_up R same P [] all q v h = absurd (true≢false (sym (none_is v h)))
-looked_up R same P (e ∷ es) all q v h = go (looked_up R same P es all.1 q v) (is_eq (R q e.0)) refl h
-  where
-    go : (lookup (is_at (R q)) es ≡ Some v → P (q, v)) → (b : Bool) → is_eq (R q e.0) ≡ b → cond b (Some e.1) (lookup (is_at (R q)) es) ≡ Some v → P (q, v)
-    go rest true is h =
-        let key : q ≡ e.0 = same q e.0 (is_tied (R q e.0) is) in
-        let value : e.1 ≡ v = some_is e.1 v h in
-        subst (λ k. P (k, v)) (sym key) (subst (λ x. P (e.0, x)) value all.0)
-    go rest false is h = rest h
+looked_up R same P (e ∷ es) all q v h = elim (is_eq (R q e.0)) as (λ b. is_eq (R q e.0) ≡ b → cond b (Some e.1) (lookup (is_at (R q)) es) ≡ Some v → P (q, v)) [
+  | true ↦ λ is has. subst P (ap₂ (λ k x. (k, x)) (sym (same q e.0 (is_tied (R q e.0) is))) (some_is e.1 v has)) all.0
+  | false ↦ λ is has. looked_up R same P es all.1 q v has
+] refl h
 
 count_same : IsAntisymmetric count_place_cmp
 count_same a b h =
@@ -42,11 +40,6 @@ build_same a b h =
 
 count_places_total : IsTotalOrder count_place_cmp
 count_places_total = then_total (on_total (λ (p : CountPlace). p.awb) int_cmp_total) (on_total (λ (p : CountPlace). p.place) int_cmp_total)
-
-all_at : {X : Type 0} (P : X → Type 0) (xs : List X) (i : ℕ) (x : X) → AllByRecursion P xs → slice_get xs i ≡ Some x → P x
-all_at P [] i x all h = absurd (true≢false (sym (none_is x h)))
-all_at P (y ∷ xs) zero x all h = subst P (some_is y x h) all.0
-all_at P (y ∷ xs) (suc i) x all h = all_at P xs i x all.1 h
 
 -- ---- places
 
@@ -67,8 +60,6 @@ closed_row false o h = absurd (true≢false (sym h))
 no_row : (f : FlightDate) → is_designator f.flight ≡ true → (fs : List FlightDate) (es : List (FlightKey × Flight)) → map flight_key fs ≡ map (λ (row : FlightKey × Flight). row.0) es
     → AllByRecursion (λ (g : FlightDate). is_designator g.flight ≡ true) fs → ((j : ℕ) → slice_get fs j ≢ Some f) → find flight_cmp (flight_key f) es ≡ None
 no_row f is [] [] keys each nowhere = refl
-no_row f is [] (e ∷ es) keys each nowhere = absurd (cc)
-no_row f is (g ∷ fs) [] keys each nowhere = absurd (cc)
 no_row f is (g ∷ fs) (e ∷ es) keys each nowhere =
     let head : flight_key g ≡ e.0 = cc in
     let tail : map flight_key fs ≡ map (λ (row : FlightKey × Flight). row.0) es = cc in
@@ -76,6 +67,7 @@ no_row f is (g ∷ fs) (e ∷ es) keys each nowhere =
     ap (λ k. cond (eq_by_cmp flight_cmp (flight_key f) k) (Some e.1) (find flight_cmp (flight_key f) es)) (sym head)
     ∙ ap (λ b. cond b (Some e.1) (find flight_cmp (flight_key f) es)) apart
     ∙ no_row f is fs es tail each.1 (λ j. nowhere (suc j))
+no_row f is _ _ keys each nowhere = absurd (cc)
 
 module _ (t : Tables) (flights : List FlightDate) (of : AreFlightsOf flights (entries t.flights)) where
   abbrev rows : List (FlightKey × Flight)
@@ -86,14 +78,14 @@ module _ (t : Tables) (flights : List FlightDate) (of : AreFlightsOf flights (en
 
   row_of : (i : ℕ) (f : FlightDate) → slice_get flights i ≡ Some f → (row : Flight) × (slice_get rows i ≡ Some (flight_key f, row)) × (get t.flights (flight_key f) ≡ Some row)
   row_of i f is = go (slice_get rows i) refl
-      (sym (got_map (λ (row : FlightKey × Flight). row.0) rows i) ∙ ap (λ l. slice_get l i) (sym of.keys) ∙ got_map flight_key flights i ∙ ap (option_map flight_key) is)
+      (sym (slice_get-map (λ (row : FlightKey × Flight). row.0) rows i) ∙ ap (λ l. slice_get l i) (sym of.keys) ∙ slice_get-map flight_key flights i ∙ ap (option_map flight_key) is)
     where
       go : (o : Option (FlightKey × Flight)) → slice_get rows i ≡ o → option_map (λ (row : FlightKey × Flight). row.0) o ≡ Some (flight_key f)
           → (row : Flight) × (slice_get rows i ≡ Some (flight_key f, row)) × (get t.flights (flight_key f) ≡ Some row)
       go None at h = absurd (true≢false (sym (none_is (flight_key f) h)))
       go (Some e) at h =
           let key : e.0 ≡ flight_key f = some_is e.0 (flight_key f) h in
-          (e.1, at ∙ ap (λ (k : FlightKey). Some (k, e.1)) key, subst (λ k. get t.flights k ≡ Some e.1) key (all_at (λ (e : FlightKey × Flight). get t.flights e.0 ≡ Some e.1) rows i e each_row at))
+          (e.1, at ∙ ap (λ (k : FlightKey). Some (k, e.1)) key, subst (λ k. get t.flights k ≡ Some e.1) key (all-slice_get (λ (e : FlightKey × Flight). get t.flights e.0 ≡ Some e.1) rows i e at each_row))
 
   -- where a flight with a row stands
   row_at : (f : FlightDate) (row : Flight) → is_designator f.flight ≡ true → get t.flights (flight_key f) ≡ Some row → (i : ℕ) × (slice_get flights i ≡ Some f) × (slice_get rows i ≡ Some (flight_key f, row))
@@ -130,12 +122,8 @@ module _ (t : Tables) (flights : List FlightDate) (of : AreFlightsOf flights (en
       lawful_at : (w : ℕ) (p : Place) (v : Tally) → is_built p ≡ false → count_told_at w p ≡ Some v → is_lawful_count sums (record { awb = pos w; place = pos (place_code p) }, v) ≡ true
       lawful_at w Hand v plain is = and_from (is_within sums (pos w)) (is_covered v) (within_at w) (covered_told book w v ((sym is) ∙ told_at w Hand plain) (law.covered w))
       lawful_at w Surplus v plain is = and_from (is_within sums (pos w)) true (within_at w) refl
-      lawful_at w Free v plain is = left_at w Free v refl refl is
       lawful_at w (Built f) v plain is = absurd (true≢false plain)
-      lawful_at w Departed v plain is = left_at w Departed v refl refl is
-      lawful_at w Delivered v plain is = left_at w Delivered v refl refl is
-      lawful_at w Missing v plain is = left_at w Missing v refl refl is
-      lawful_at w Transferred v plain is = left_at w Transferred v refl refl is
+      lawful_at w p v plain is = left_at w p v refl refl is
 
       -- of which place a sum is
       count_due : (awb place : ℤ) (c : Count) → Some c ≡ count_in (running book) (awb, place) → (w : ℕ) × (p : Place) × (awb ≡ pos w) × (plain_place place ≡ Some p)
@@ -193,12 +181,8 @@ module _ (t : Tables) (flights : List FlightDate) (of : AreFlightsOf flights (en
         all_stocked : (w : ℕ) (p : Place) → is_outside p ≡ false → IsStocked book w p
         all_stocked w Hand inside = absurd (true≢false inside)
         all_stocked w Surplus inside = absurd (true≢false inside)
-        all_stocked w Free inside = stocked_plain w Free refl refl
         all_stocked w (Built f) inside = stocked_built w f
-        all_stocked w Departed inside = stocked_plain w Departed refl refl
-        all_stocked w Delivered inside = stocked_plain w Delivered refl refl
-        all_stocked w Missing inside = stocked_plain w Missing refl refl
-        all_stocked w Transferred inside = stocked_plain w Transferred refl refl
+        all_stocked w p inside = stocked_plain w p refl refl
 
         all_covered : (w : ℕ) → IsCovered book w
         all_covered w = told_covered book w (count_told_at w Hand) (told_at w Hand refl)
@@ -239,13 +223,12 @@ module _ (t : Tables) (flights : List FlightDate) (of : AreFlightsOf flights (en
         on_left i w f at v is = stocked_told book w (Built f) v ((sym is) ∙ built_told i w f at) (law.stocked w (Built f) refl)
 
         not_closed : (f : FlightDate) (row : Flight) → is_designator f.flight ≡ true → get t.flights (flight_key f) ≡ Some row → (w : ℕ) → nat_lt 0 (built book w f).pieces ≡ true → not (is_set row.closed) ≡ true
-        not_closed f row is has w some = go (is_set row.closed) refl
-          where
-            go : (b : Bool) → is_set row.closed ≡ b → not b ≡ true
-            go false h = refl
-            go true h =
-                let closed : is_closed (flights_in t.flights f) ≡ true = ap₂ (λ b o. is_closed (cond b (option_map outbound_by o) None)) is has ∙ h in
-                absurd (true≢false (sym some ∙ ap (nat_lt 0) (law.empty f w closed)))
+        not_closed f row is has w some = elim (is_set row.closed) as (λ b. is_set row.closed ≡ b → not b ≡ true) [
+          | false ↦ λ h. refl
+          | true ↦ λ h.
+              let closed : is_closed (flights_in t.flights f) ≡ true = ap₂ (λ b o. is_closed (cond b (option_map outbound_by o) None)) is has ∙ h in
+              absurd (true≢false (sym some ∙ ap (nat_lt 0) (law.empty f w closed)))
+        ] refl
 
         build_due_of : (awb : ℤ) (o : Option FlightDate) (b : Build) → Some b ≡ build_due (running book) awb o → (w : ℕ) × (f : FlightDate) × (awb ≡ pos w) × (o ≡ Some f)
         build_due_of (pos w) None b h = absurd (true≢false (sym (none_is b (sym h))))

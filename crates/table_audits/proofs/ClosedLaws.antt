@@ -1,27 +1,18 @@
 -- Flights are closed exactly where they departed, row by row.
 use Rattle.table_audits.proofs.Common.{AllByRecursion, AreDepartures, AreDistinct, Bool, Built, Departed, Flight, FlightDate, FlightEntry, FlightKey, IsDeparted, IsLawfulMove, IsNoted, IsSome, IsTrue, List, Move, None, Option, Outbound, Place, Some, Tables, [], all_from_test, and_parts, ap, ap₂, at_key, book_in, cargo_in, cond, cond-true, departs_in, departs_with, each_entry, entries, false, flight_cmp, flight_entry, flight_in, flight_key, flight_same, flight_total, flights_in, get, is_closed, is_designator, is_false, is_flight_row, is_set, is_some, length, length-map, list_all, listed_in, map, map-map, option_map, outbound_by, refl, same-is, same_bool, same_place, subst, sym, true, true≢false, ◌||◌, ◌↔◌, ◌∙◌, ◌∷◌, ◌≡◌}
+use Rattle.std.proofs.lemmas.List.{map-id}
 use Rattle.table_audits.proofs.Made.{distinct}
 use Rattle.table_audits.proofs.Listed.{IsNamed, named, named_by, flights_are}
 
 -- ---- lists
 
-first_is : (x y : Bool) (xs ys : List Bool) → ◌≡◌ {A = List Bool} (x ∷ xs) (y ∷ ys) → x ≡ y
-first_is x y xs ys h = cc
-
-rest_is : (x y : Bool) (xs ys : List Bool) → ◌≡◌ {A = List Bool} (x ∷ xs) (y ∷ ys) → xs ≡ ys
-rest_is x y xs ys h = cc
-
 each_same : {X : Type 0} (f g : X → Bool) (xs : List X) → map f xs ≡ map g xs → AllByRecursion (λ x. f x ≡ g x) xs
 each_same f g [] h = tt
-each_same f g (x ∷ xs) h = (first_is (f x) (g x) (map f xs) (map g xs) h, each_same f g xs (rest_is (f x) (g x) (map f xs) (map g xs) h))
+each_same f g (x ∷ xs) h = (cc, each_same f g xs (cc))
 
 all_same : {X : Type 0} (f g : X → Bool) (xs : List X) → AllByRecursion (λ x. f x ≡ g x) xs → map f xs ≡ map g xs
 all_same f g [] h = refl
 all_same f g (x ∷ xs) h = ap₂ (λ y ys. y ∷ ys) h.0 (all_same f g xs h.1)
-
-map_itself : (xs : List Bool) → map (λ x. x) xs ≡ xs
-map_itself [] = refl
-map_itself (x ∷ xs) = ap (λ l. x ∷ l) (map_itself xs)
 
 -- ---- flights
 
@@ -82,7 +73,7 @@ module _ (t : Tables) (within : list_all is_flight_row (entries t.flights) ≡ t
     left = sym (map-map is_closed_row flight_entry fs) ∙ sym (ap (map is_closed_row) is)
 
     right : map (λ (mark : Bool). mark) marks ≡ map (λ row. departs_in book (flight_in row)) (entries t.flights)
-    right = map_itself marks ∙ departed.marks_are ∙ map-map (departs_in book) flight_in (entries t.flights)
+    right = map-id marks ∙ departed.marks_are ∙ map-map (departs_in book) flight_in (entries t.flights)
 
     pub closed_so : AllByRecursion (IsLawfulMove (cargo_in t)) book → (b : Bool) → (IsTrue b ↔ IsAlike) → IsTrue b ↔ AreDepartures t
     closed_so lawful b says = (

@@ -1,11 +1,11 @@
 -- The names that proofs of this crate cite, passed on from one place. Declares nothing.
 pub use Rattle.agent_stock.specs.Code.{is_agent_code}
-pub use Rattle.awb_number.specs.Digits.{decimal_value, is_digit, is_letter, is_letter_or_digit}
+pub use Rattle.awb_number.specs.Digits.{is_letter_or_digit}
 pub use Rattle.desk_commands.proofs.Ascii.{IsAscii-airport, IsAscii-flight, IsAscii-goods}
 pub use Rattle.imp_fields.specs.Airport.{is_airport}
-pub use Rattle.imp_fields.specs.Characters.{drop_while, is_line, is_printable}
-pub use Rattle.imp_fields.specs.Flight.{Designator, flight_of, flight_text, is_carrier, suffix_of}
-pub use Rattle.row_codec.proofs.FlightKeys.{designator_test, is_one, same_key}
+pub use Rattle.imp_fields.specs.Characters.{is_line, is_printable}
+pub use Rattle.imp_fields.specs.Flight.{Designator, flight_of, flight_text}
+pub use Rattle.row_codec.proofs.FlightKeys.{is_one, same_key}
 pub use Rattle.row_codec.proofs.MapLaws.{at_key, each_entry, is_tied}
 pub use Rattle.row_codec.proofs.MoveRows.{columns_again, columns_of}
 pub use Rattle.row_codec.proofs.Storing.{comes_to_sum, rows_again}
@@ -30,11 +30,11 @@ pub use Rattle.shipment_machine.specs.Amount.{amount}
 pub use Rattle.shipment_machine.specs.Book.{built, drawn, moved_in, moved_out, pieces_of, same_place, taken_and_found, tenths_of, waybills_on}
 pub use Rattle.shipment_machine.specs.Effect.{is_closed}
 pub use Rattle.shipment_machine.specs.Flights.{same_flight_date}
-pub use Rattle.shipment_machine.specs.Lawful.{IsCovered, IsLawful, IsLawfulAmount, IsLawfulMove, IsNoted, IsStocked, NamesFlight, StaysDeparted, builds_on, departs_with, is_outside, is_pair}
+pub use Rattle.shipment_machine.specs.Lawful.{IsCovered, IsLawfulAmount, IsLawfulMove, IsNoted, IsStocked, NamesFlight, StaysDeparted, builds_on, departs_with, is_outside, is_pair}
 pub use Rattle.shipment_machine.specs.declared.flight.FlightDate.{FlightDate}
 pub use Rattle.shipment_machine.specs.declared.moves.Move.{Move}
 pub use Rattle.shipment_machine.specs.declared.moves.Outbound.{Outbound}
-pub use Rattle.shipment_machine.specs.declared.moves.Place.TheVariants.{Built, Delivered, Departed, Free, Hand, Missing, Surplus, Transferred}
+pub use Rattle.shipment_machine.specs.declared.moves.Place.TheVariants.{Built, Departed, Hand, Surplus}
 pub use Rattle.shipment_machine.specs.declared.moves.Place.{Place}
 pub use Rattle.sqlite.specs.Effect.{Database}
 pub use Rattle.sqlite.specs.Held.{Held, state}
@@ -51,12 +51,12 @@ pub use Rattle.station_rows.specs.declared.moves.MoveRow.{MoveRow}
 pub use Rattle.station_rows.specs.declared.outbox.MessageRow.{MessageRow}
 pub use Rattle.station_rows.specs.declared.trail.TrailRow.{TrailRow}
 pub use Rattle.station_rows.specs.declared.waybills.WaybillRow.{WaybillRow}
-pub use Rattle.station_schema.proofs.Keys.{build_same, build_total, count_total, expected_same, expected_total, flight_same, flight_total, kept_same, kept_text_same, kept_text_total, kept_total, part_same, part_total, stock_total}
+pub use Rattle.station_schema.proofs.Keys.{build_total, count_total, expected_same, expected_total, flight_same, flight_total, kept_same, kept_text_same, kept_text_total, kept_total, part_same, part_total, stock_total}
 pub use Rattle.station_schema.proofs.Maps.{entries_of, entries_rise}
 pub use Rattle.station_schema.proofs.OneRow.{first_true, int_tied, pair_eq, pair_same, pair_total, second_true, texts_same, texts_total}
 pub use Rattle.station_schema.specs.Connection.{opening}
 pub use Rattle.station_schema.specs.Tables.{Build, BuildKey, Count, CountKey, Expected, ExpectedKey, Flight, FlightKey, IsOldStation, IsStation, Kept, Message, OldWaybill, PartKey, Station, Stock, StockKey, Tables, TrailLine, Waybill, build_cmp, count_cmp, expected_cmp, expected_row, flight_cmp, flight_row, kept_cmp, kept_row, kept_text_cmp, kept_text_row, message_id, move_id, old_tables_of, old_waybill_id, part_cmp, part_row, raised, station_id, station_in, station_row, stock_cmp, stock_row, tables_of, trail_id, typed_stations, undated, upgraded, waybill_id}
-pub use Rattle.std.proofs.Common.{Bool, Equal, Err, Greater, Less, List, None, Ok, Option, Ordering, Result, Some, T, [], ap, ap₂, arith, cond, drop, false, get_or, inl, inr, int_cmp, is_eq, is_lt, length, length-append, map, nat_cmp, nat_lt, neg_ℤ, negsuc, of_z, option_map, pos, refl, replicate, rules, slice_get, slice_index_or, string_bytes, subst, suc, sym, take, tests, to_z, true, true≢false, w64, zero, ℕ, ℤ, ◌%◌, ◌*◌, ◌++◌, ◌+◌, ◌-ℤ◌, ◌-◌, ◌/◌, ◌<◌, ◌==◌, ◌^◌, ◌∙◌, ◌∷◌, ◌≡◌, ◌≢◌, ◌≤◌, ◌⊎◌}
+pub use Rattle.std.proofs.Common.{Bool, Equal, Err, Greater, Less, List, None, Ok, Option, Ordering, Result, Some, T, [], ap, ap₂, arith, cond, drop, false, get_or, inl, inr, int_cmp, is_eq, is_lt, length, length-append, map, nat_cmp, nat_lt, neg_ℤ, negsuc, of_z, option_map, pos, refl, replicate, rules, slice_get, slice_index_or, string_bytes, subst, suc, sym, tests, to_z, true, true≢false, w64, zero, ℕ, ℤ, ◌%◌, ◌*◌, ◌++◌, ◌+◌, ◌-ℤ◌, ◌-◌, ◌/◌, ◌<◌, ◌==◌, ◌∙◌, ◌∷◌, ◌≡◌, ◌≢◌, ◌≤◌, ◌⊎◌}
 pub use Rattle.std.proofs.lemmas.Bool.Decides.{Decides-int_eq, nat_tests}
 pub use Rattle.std.proofs.lemmas.Bool.{and_from, and_parts, cases_Bool, cond-true, eq-eqb, le-leb, leb-true}
 pub use Rattle.std.proofs.lemmas.Fn.{always_returns_same}
@@ -65,7 +65,7 @@ pub use Rattle.std.proofs.lemmas.Iterator.Search.{all_from_yields_List}
 pub use Rattle.std.proofs.lemmas.Iterator.{YieldsList-from_slice, cases_from_all}
 pub use Rattle.std.proofs.lemmas.List.Folds.{list_all-append, list_all-map, list_any-append}
 pub use Rattle.std.proofs.lemmas.List.Sorted.{answers_always, searchable_from_sorted}
-pub use Rattle.std.proofs.lemmas.List.{drop_all, drop_more, length-map, map-append}
+pub use Rattle.std.proofs.lemmas.List.{length-map, map-append}
 pub use Rattle.std.proofs.lemmas.Result.{on_ok_weaker}
 pub use Rattle.std.proofs.lemmas.Str.{IsUtf8-from_ascii, IsUtf8-string_bytes, is_utf8-from_IsUtf8}
 pub use Rattle.std.specs.BTreeMap.{is_at}
@@ -77,7 +77,7 @@ pub use Rattle.std.specs.List.{AllAdjacentBelow, AllByRecursion, AllWithin, Hold
 pub use Rattle.std.specs.Map.{keys_of, lookup}
 pub use Rattle.std.specs.Option.{option_and_then}
 pub use Rattle.std.specs.Ordering.{eq_by_cmp, int_eq, ordering_then}
-pub use Rattle.std.specs.Prelude.{IfSome, IsErr, IsSome, IsTrue, MatchBool, MatchOption, OnOk, find, if◌then◌else◌, int_le, int_lt, is_some, nat_le, not, slice_set, take_while, ◌&&◌, ◌||◌, ◌↔◌}
+pub use Rattle.std.specs.Prelude.{IfSome, IsErr, IsSome, IsTrue, MatchBool, MatchOption, OnOk, find, if◌then◌else◌, int_le, int_lt, is_some, nat_le, not, slice_set, ◌&&◌, ◌||◌, ◌↔◌}
 pub use Rattle.std.specs.Str.{IsAscii, bytes_eq, is_utf8}
 pub use Rattle.table_audits.specs.Audited.{AreDepartures, AreMoveRows, flight_in, flights_of, is_fit_move, nowhere}
 pub use Rattle.table_audits.specs.Balances.{AreBalances, drawn_at, drawn_by, is_covered, is_lawful_build, is_lawful_count, is_left, is_open, on_flight}

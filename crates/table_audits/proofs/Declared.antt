@@ -1,5 +1,5 @@
 -- In a database with the tables that a station declares, those that are held are the typed ones.
-use Rattle.table_audits.proofs.Common.{Bool, Database, FileVersion, First, IsLawfulTable, IsOldStation, IsStation, IsStationOf, List, Reading, Second, Station, TableName, Tables, Trees, [], ap, arith, build_old, build_typed, counts_old, counts_typed, damaged, entries, expected_old, expected_typed, false, flight_old, flight_typed, found_in_rows, if◌then◌else◌, int_eq, ints, is_utf8, kept_key_old, kept_key_typed, kept_text_old, kept_text_typed, map, moves_old, moves_typed, old_tables_of, old_waybill_old, old_waybill_typed, one_row, other_version, outbox_old, outbox_typed, part_old, part_typed, pos, raised, read_as, refl, row_of_version, same_entries_map, station_columns, station_found, station_id, station_in, station_name, station_of, station_row, station_shown, stock_old, stock_typed, sym, tables_of, trail_old, trail_typed, true, typed_stations, undated, upgraded, version_number, waybill_typed, ℕ, ℤ, ◌&&◌, ◌∙◌, ◌∷◌, ◌≡◌}
+use Rattle.table_audits.proofs.Common.{Bool, Database, FileVersion, First, IsLawfulTable, IsOldStation, IsStation, IsStationOf, List, Reading, Second, Station, TableName, Tables, Trees, [], ap, build_old, build_typed, counts_old, counts_typed, damaged, entries, expected_old, expected_typed, flight_old, flight_typed, found_in_rows, if◌then◌else◌, int_eq, is_utf8, kept_key_old, kept_key_typed, kept_text_old, kept_text_typed, map, moves_old, moves_typed, old_tables_of, old_waybill_old, old_waybill_typed, one_row, other_version, outbox_old, outbox_typed, part_old, part_typed, pos, raised, read_as, refl, row_of_version, same_entries_map, station_columns, station_found, station_id, station_in, station_name, station_of, station_row, station_shown, stock_old, stock_typed, sym, tables_of, trail_old, trail_typed, true, typed_stations, undated, upgraded, version_number, waybill_typed, ℕ, ℤ, ◌&&◌, ◌∙◌, ◌∷◌, ◌≡◌, is_int}
 use Rattle.sqlite.specs.Order.{column}
 use Rattle.sqlite.specs.Table.{Table}
 use Rattle.sqlite_tied.specs.Compute.{everything}
@@ -15,18 +15,13 @@ each_lawful db t all name = (through db t all name).0.lawful
 
 -- ---- the row of `station`
 
-pub is_it : (a b : ℤ) → int_eq a b ≡ true → a ≡ b
-is_it a b h = grind (arith, ints)
-
 same_row : (v : FileVersion) (x : Station) (a : List ℕ) (c : ℤ) → x.id ≡ pos 1 → x.airport ≡ a → x.version ≡ version_number v → x.confirmed ≡ c → x ≡ row_of_version v a c
 same_row v x a c i p n q = λ k. record { id = i k; airport = p k; version = n k; confirmed = q k }
 
 row_says : (v : FileVersion) (x : Station) (a : List ℕ) (c : ℤ) (n i u : Bool) → int_eq x.version (version_number v) ≡ n → int_eq x.id (pos 1) ≡ i → is_utf8 x.airport ≡ u
     → (if n then (if i && u then one_row x.airport x.confirmed else damaged) else other_version x.version) ≡ one_row a c → x ≡ row_of_version v a c
-row_says v x a c true true true n i u h = same_row v x a c (is_it x.id (pos 1) i) (same_words h) (is_it x.version (version_number v) n) (same_mark h)
-row_says v x a c true true false n i u h = absurd (cc)
-row_says v x a c true false u n i t h = absurd (cc)
-row_says v x a c false i u n j t h = absurd (cc)
+row_says v x a c true true true n i u h = same_row v x a c (is_int x.id (pos 1) i) (same_words h) (is_int x.version (version_number v) n) (same_mark h)
+row_says v x a c _ _ _ n i u h = absurd (cc)
 
 rows_say : (v : FileVersion) (st : List Station) (a : List ℕ) (c : ℤ) → found_in_rows v (map station_shown st) ≡ one_row a c → st ≡ row_of_version v a c ∷ []
 rows_say v [] a c h = absurd (cc)

@@ -1,13 +1,13 @@
 -- Flights that have departed, marked move by move.
 use Rattle.std.proofs.Common.{◌≡◌, ◌≢◌, ℕ, zero, suc, ℤ, pos, Bool, true, false, cond, ◌&&◌, ◌||◌, Some, unwrap_or, List, [], ◌∷◌, ◌++◌, map, length, slice_get, replicate, refl, sym, ap, ap₂, ◌∙◌, true≢false, arith, int_eq}
 use Rattle.table_audits.proofs.Common.{AreDistinct, Built, Departed, FlightDate, Hand, IsPosting, IsSpot, Move, OnFlight, Place, Plain, Posting, Spot, StaysDeparted, and_no, builds_on, departs_in, departs_with, is_built, is_false, is_marked, list_any, marked, marks_of, none_is, place_code, same-is, same-refl, same_flight_date, same_place, slice_set, some_is}
+use Rattle.sqlite_keyed.proofs.ListLemmas.{map_same}
 use Rattle.table_audits.proofs.Lists.{or_no, or_yes, any_push, any_within, got_map}
 
 -- ---- one move more
 
 first_or : (a b : Bool) → (a || b) ≡ false → a ≡ false
-first_or true b h = absurd (true≢false h)
-first_or false b h = refl
+first_or a b h = grind arith
 
 pub stays_push : (f : FlightDate) (past : List Move) (m : Move) → StaysDeparted f past → (list_any (departs_with f) past ≡ true → builds_on f m ≡ false) → StaysDeparted f (past ++ m ∷ [])
 stays_push f [] m stays none = (λ h. refl, tt)
@@ -38,18 +38,13 @@ plain_off (Built g) f h = absurd (true≢false h)
 plain_off _ f h = refl
 
 and_yes : (b : Bool) → (b && true) ≡ b
-and_yes true = refl
-and_yes false = refl
+and_yes b = grind arith
 
 departed_code : (p : Place) (code : ℤ) → code ≡ pos (place_code p) → int_eq code (pos 4) ≡ same_place p Departed
 departed_code Hand code is = ap (λ c. int_eq c (pos 4)) is
 departed_code _ code is = ap (λ c. int_eq c (pos 4)) is
 
 -- ---- marks
-
-map_alike : {X Y : Type 0} (f g : X → Y) → ((x : X) → f x ≡ g x) → (xs : List X) → map f xs ≡ map g xs
-map_alike f g h [] = refl
-map_alike f g h (x ∷ xs) = ap₂ (λ y ys. y ∷ ys) (h x) (map_alike f g h xs)
 
 module _ (h : FlightDate → Bool) (g : FlightDate) where
   off_list : (flights : List FlightDate) → ((j : ℕ) → slice_get flights j ≢ Some g) → map h flights ≡ map (λ f. h f || same_flight_date g f) flights
@@ -71,10 +66,10 @@ module _ (h : FlightDate → Bool) (g : FlightDate) where
 module _ (flights : List FlightDate) (distinct : AreDistinct flights) (past : List Move) (m : Move) (p : Posting) (is : IsPosting flights p m) where
   -- each flight is marked anew where the move departs with it
   marks_then : (h : FlightDate → Bool) → ((f : FlightDate) → departs_with f m ≡ h f) → marks_of flights (past ++ m ∷ []) ≡ map (λ f. departs_in past f || h f) flights
-  marks_then h same = map_alike (departs_in (past ++ m ∷ [])) (λ f. departs_in past f || h f) (λ f. any_push (departs_with f) past m ∙ ap (λ b. departs_in past f || b) (same f)) flights
+  marks_then h same = map_same (departs_in (past ++ m ∷ [])) (λ f. departs_in past f || h f) (λ f. any_push (departs_with f) past m ∙ ap (λ b. departs_in past f || b) (same f)) flights
 
   none_then : ((f : FlightDate) → departs_with f m ≡ false) → marks_of flights past ≡ marks_of flights (past ++ m ∷ [])
-  none_then none = map_alike (departs_in past) (λ f. departs_in past f || false) (λ f. sym (or_no (departs_in past f))) flights ∙ sym (marks_then (λ f. false) none)
+  none_then none = map_same (departs_in past) (λ f. departs_in past f || false) (λ f. sym (or_no (departs_in past f))) flights ∙ sym (marks_then (λ f. false) none)
 
   pub marked_then : marked (marks_of flights past) p.from p.to ≡ marks_of flights (past ++ m ∷ [])
   marked_then = go p.from p.to is.from_is is.to_is

@@ -3,12 +3,12 @@ use Rattle.table_audits.proofs.Common.{AllByRecursion, Bool, IsAscending, IsLawf
 
 -- ---- tests of lists
 
-pub found_passes : {X : Type 0} (p test : X → Bool) (xs : List X) (x : X) → list_all p xs ≡ true → find test xs ≡ Some x → p x ≡ true
-found_passes p test [] x all has = cc
-found_passes p test (y ∷ xs) x all has = go (test y) has (found_passes p test xs x (and_parts (p y) (list_all p xs) all).1)
+pub found_holds : {X : Type 0} (P : X → Type 0) (test : X → Bool) (xs : List X) (x : X) → AllByRecursion P xs → find test xs ≡ Some x → P x
+found_holds P test [] x all has = absurd (cc)
+found_holds P test (y ∷ xs) x all has = go (test y) has (found_holds P test xs x all.1)
   where
-    go : (b : Bool) → cond b (Some y) (find test xs) ≡ Some x → (find test xs ≡ Some x → p x ≡ true) → p x ≡ true
-    go true is more = let same : y ≡ x = cc in subst (λ z. p z ≡ true) same (and_parts (p y) (list_all p xs) all).0
+    go : (b : Bool) → cond b (Some y) (find test xs) ≡ Some x → (find test xs ≡ Some x → P x) → P x
+    go true is more = let same : y ≡ x = cc in subst P same all.0
     go false is more = more is
 
 pub found_test : {X : Type 0} (test : X → Bool) (xs : List X) (x : X) → find test xs ≡ Some x → test x ≡ true
@@ -47,10 +47,8 @@ natural_again low high (negsuc n) h = absurd (let no : ⊥ = grind (arith, ints)
 
 pub amount_of : (p t : ℤ) → is_within 1 9999 p ≡ true → is_within 0 999_999 t ≡ true → int_le p t ≡ true → IsLawfulAmount (natural p) (natural t)
 amount_of (pos p) (pos t) a b c = record { some = grind (arith, ints); not_more = grind (arith, ints); tenth_a_piece = grind (arith, ints); not_heavier = grind (arith, ints) }
-amount_of (negsuc p) t a b c = absurd (let no : ⊥ = grind (arith, ints) in no)
-amount_of (pos p) (negsuc t) a b c = absurd (let no : ⊥ = grind (arith, ints) in no)
+amount_of _ _ a b c = absurd (let no : ⊥ = grind (arith, ints) in no)
 
 pub amount_back : (p t : ℤ) → is_within 1 9999 p ≡ true → is_within 0 999_999 t ≡ true → IsLawfulAmount (natural p) (natural t) → int_le p t ≡ true
 amount_back (pos p) (pos t) a b c = let enough : p ≤ t = c.tenth_a_piece in grind (arith, ints)
-amount_back (negsuc p) t a b c = absurd (let no : ⊥ = grind (arith, ints) in no)
-amount_back (pos p) (negsuc t) a b c = absurd (let no : ⊥ = grind (arith, ints) in no)
+amount_back _ _ a b c = absurd (let no : ⊥ = grind (arith, ints) in no)

@@ -1,7 +1,8 @@
 -- Rows of `kept_key` that are taken one by one.
 use Rattle.table_audits.proofs.Common.{AllByRecursion, AreKeptKeys, AreRequests, Bool, IsLawfulKept, IsTrue, Kept, KeptKeyEntry, List, Tables, [], all_both, all_from_test, all_weaker, at_key, each_entry, entries, false, is_kept_row, kept_cmp, kept_key_entry, kept_same, kept_total, map, map-append, subst, sym, test_from_all, true, true≢false, ℕ, ◌++◌, ◌↔◌, ◌∙◌, ◌∷◌, ◌≡◌}
 use Rattle.station_core.specs.Told.{IsRequest}
-use Rattle.table_audits.proofs.Lists.{all_push, all_pop}
+use Rattle.sqlite_keyed.proofs.ListLemmas.{all-append}
+use Rattle.table_audits.proofs.Lists.{all_pop}
 
 abbrev pub Asks : List ℕ × Kept → Type 0
 Asks row = IsRequest row.1.command
@@ -17,7 +18,7 @@ last_key rows row all = all_pop IsLawfulKept (map kept_key_entry rows) (kept_key
 
 pub key_taken : (rows : List KeptKeyEntry) (row : KeptKeyEntry) (b : Bool) → AreSo b rows → IsLawfulKept (kept_key_entry row) → AreSo b (rows ++ row ∷ [])
 key_taken rows row b was is = (
-  λ h. subst (AllByRecursion IsLawfulKept) (sym (map-append kept_key_entry rows (row ∷ []))) (all_push IsLawfulKept (map kept_key_entry rows) (kept_key_entry row) (was.0 h) is),
+  λ h. subst (AllByRecursion IsLawfulKept) (sym (map-append kept_key_entry rows (row ∷ []))) (all-append IsLawfulKept (map kept_key_entry rows) (kept_key_entry row ∷ []) (was.0 h) (is, tt)),
   λ all. was.1 (last_key rows row all).0,
 )
 

@@ -1,8 +1,8 @@
 -- The flights that rows of `flight` name.
-use Rattle.table_audits.proofs.Common.{AllByRecursion, AreFlightsOf, FinMap, Flight, FlightDate, FlightKey, IsAscending, IsSome, Less, List, None, Option, Outbound, Some, [], and_parts, ap, ap₂, ascending-map, ascending_from_map, columns_again, cond-true, each_entry, entries, entries_rise, flight_cmp, flight_date_of, flight_in, flight_key, flight_total, flights_in, flights_of, get, is_designator, is_flight_row, list_all, map, nowhere, option_map, outbound_by, refl, slice_get, subst, sym, true, ℕ, ◌∙◌, ◌∷◌, ◌≡◌}
+use Rattle.table_audits.proofs.Common.{AllByRecursion, AreFlightsOf, FinMap, Flight, FlightDate, FlightKey, IsAscending, Less, List, None, Option, Some, [], and_parts, ap, ap₂, ascending-map, ascending_from_map, columns_again, cond-true, each_entry, entries, entries_rise, flight_cmp, flight_date_of, flight_in, flight_key, flight_total, flights_in, flights_of, get, is_designator, is_flight_row, list_all, map, nowhere, option_map, outbound_by, refl, slice_get, subst, sym, true, ℕ, ◌∙◌, ◌∷◌, ◌≡◌}
 use Rattle.std.specs.Option.{unwrap_or}
 use Rattle.table_audits.proofs.FlightRows.{flight_at}
-use Rattle.table_audits.proofs.Lists.{all_got, got_of}
+use Rattle.sqlite_keyed.proofs.ListLemmas.{all-slice_get}
 
 -- a row within range names a flight, under whose key it stands
 pub record IsNamed (row : FlightKey × Flight) : Type 0 where
@@ -57,15 +57,11 @@ module _ (m : FinMap flight_cmp Flight) (all : list_all is_flight_row (entries m
   -- what is noted of the flight of a row
   pub noted_row : (i : ℕ) (row : FlightKey × Flight) → slice_get (entries m) i ≡ Some row → flights_in m (flight_in row) ≡ Some (outbound_by row.1)
   noted_row i row is =
-      let one : IsNamed row = all_got IsNamed (entries m) each i row is in
-      let found : get m row.0 ≡ Some row.1 = all_got (λ (e : FlightKey × Flight). get m e.0 ≡ Some e.1) (entries m) (each_entry flight_cmp flight_total (λ e. get m e.0 ≡ Some e.1) m (λ k v has. has)) i row is in
+      let one : IsNamed row = all-slice_get IsNamed (entries m) i row is each in
+      let found : get m row.0 ≡ Some row.1 = all-slice_get (λ (e : FlightKey × Flight). get m e.0 ≡ Some e.1) (entries m) i row is
+      (each_entry flight_cmp flight_total (λ e. get m e.0 ≡ Some e.1) m (λ k v has. has)) in
       cond-true (is_designator (flight_in row).flight) (option_map outbound_by (get m (flight_key (flight_in row)))) None one.designator
       ∙ ap (option_map outbound_by) (ap (get m) one.key ∙ found)
 
   pub row_named : (i : ℕ) (row : FlightKey × Flight) → slice_get (entries m) i ≡ Some row → IsNamed row
-  row_named = all_got IsNamed (entries m) each
-
-  pub listed_noted : (i : ℕ) (f : FlightDate) → slice_get (flights_of (entries m)) i ≡ Some f → IsSome (flights_in m f)
-  listed_noted i f is =
-      let row = got_of flight_in (entries m) i f is in
-      subst (λ (g : FlightDate). IsSome (flights_in m g)) row.2 (subst (λ (o : Option Outbound). IsSome o) (sym (noted_row i row.0 row.1)) refl)
+  row_named i row is = all-slice_get IsNamed (entries m) i row is each

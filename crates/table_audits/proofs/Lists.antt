@@ -1,38 +1,16 @@
 -- Lists, index by index and one element more.
-use Rattle.table_audits.proofs.Common.{AllByRecursion, Bool, List, Some, [], ap, arith, false, get_or, length, list_any, list_any-append, map, none_is, refl, slice_get, some_is, subst, suc, sym, true, true≢false, zero, ℕ, ◌++◌, ◌<◌, ◌||◌, ◌∙◌, ◌∷◌, ◌≡◌}
+use Rattle.table_audits.proofs.Common.{AllByRecursion, Bool, List, Some, [], ap, arith, false, get_or, length, list_any, list_any-append, map, none_is, refl, slice_get, some_is, suc, sym, true, true≢false, zero, ℕ, ◌++◌, ◌<◌, ◌||◌, ◌∙◌, ◌∷◌, ◌≡◌}
 
 pub or_no : (b : Bool) → (b || false) ≡ b
-or_no true = refl
-or_no false = refl
+or_no b = grind arith
 
 pub or_yes : (b : Bool) → (b || true) ≡ true
-or_yes true = refl
-or_yes false = refl
-
-pub all_at : {X : Type 0} (P : X → Type 0) (xs : List X) → AllByRecursion P xs → (i : ℕ) (d : X) → i < length xs → P (get_or xs i d)
-all_at P [] all i d low = absurd (omega arith)
-all_at P (x ∷ xs) all zero d low = all.0
-all_at P (x ∷ xs) all (suc i) d low = all_at P xs all.1 i d (omega arith)
-
-pub all_got : {X : Type 0} (P : X → Type 0) (xs : List X) → AllByRecursion P xs → (i : ℕ) (x : X) → slice_get xs i ≡ Some x → P x
-all_got P [] all i x is = absurd (true≢false (sym (none_is x is)))
-all_got P (y ∷ xs) all zero x is = subst P (some_is y x is) all.0
-all_got P (y ∷ xs) all (suc i) x is = all_got P xs all.1 i x is
-
--- what stands at an index of a list that is made of another
-pub got_of : {X Y : Type 0} (f : X → Y) (xs : List X) (i : ℕ) (y : Y) → slice_get (map f xs) i ≡ Some y → (x : X) × (slice_get xs i ≡ Some x) × (f x ≡ y)
-got_of f [] i y is = absurd (true≢false (sym (none_is y is)))
-got_of f (x ∷ xs) zero y is = (x, refl, some_is (f x) y is)
-got_of f (x ∷ xs) (suc i) y is = got_of f xs i y is
+or_yes b = grind arith
 
 pub got_map : {X Y : Type 0} (f : X → Y) (xs : List X) (i : ℕ) (x : X) → slice_get xs i ≡ Some x → slice_get (map f xs) i ≡ Some (f x)
 got_map f [] i x is = absurd (true≢false (sym (none_is x is)))
 got_map f (y ∷ xs) zero x is = ap (λ z. Some (f z)) (some_is y x is)
 got_map f (y ∷ xs) (suc i) x is = got_map f xs i x is
-
-pub all_push : {X : Type 0} (P : X → Type 0) (xs : List X) (x : X) → AllByRecursion P xs → P x → AllByRecursion P (xs ++ x ∷ [])
-all_push P [] x all is = (is, tt)
-all_push P (y ∷ xs) x all is = (all.0, all_push P xs x all.1 is)
 
 pub all_pop : {X : Type 0} (P : X → Type 0) (xs : List X) (x : X) → AllByRecursion P (xs ++ x ∷ []) → AllByRecursion P xs × P x
 all_pop P [] x all = (tt, all.0)

@@ -1,6 +1,7 @@
 -- The rows of `build` that the sums make, in the order of their keys.
 use Rattle.table_audits.proofs.Common.{AllByRecursion, AreBuilds, AreDistinct, AreFlightsOf, AreSums, BookSums, Bool, Build, BuildKey, BuildPlace, Equal, Flight, FlightDate, FlightKey, Greater, IsAscending, IsTotalOrder, IsTrue, Less, List, Move, None, Option, Ordering, Some, T, Tables, Tally, [], ap, arith, below_all, build_cmp, build_due, build_entry, build_place_cmp, build_row, builds_total, bytes_cmp, entries, flight_cmp, flight_key, flight_text, get-entries, int_cmp, int_cmp-IsAntisymmetric, int_cmp_total, is_lt, is_sorted, keys_of, map, map-map, nat_cmp, nat_cmp-IsAntisymmetric, nat_cmp_total, negsuc, none_is, on_total, option_map, ordering_then, pair_cmp, pair_same, pair_total, pos, ranked, refl, running, slice_get, some_is, subst, suc, sym, texts_same, texts_total, then_total, tied_itself, true≢false, zero, ℕ, ℤ, ◌<◌, ◌↔◌, ◌∙◌, ◌∷◌, ◌≡◌}
 use Rattle.std.specs.List.Sorted.{IsStrictlySortedBy}
+use Rattle.sqlite_keyed.proofs.ListLemmas.{all-slice_get}
 use Rattle.table_audits.proofs.Sorted.{both, each_looked_up, entries_are}
 use Rattle.table_audits.proofs.Mapped.{entry, entry_is, told_builds}
 
@@ -12,12 +13,7 @@ build_places_total = then_total (on_total (λ (p : BuildPlace). p.flight) nat_cm
 is_below : {X : Type 0} (R : X → X → Type 0) (xs : List X) (x y : X) (i j : ℕ) → IsAscending R xs → i < j → slice_get xs i ≡ Some x → slice_get xs j ≡ Some y → R x y
 is_below R [] x y i j up less is_x is_y = absurd (true≢false (sym (none_is x is_x)))
 is_below R (a ∷ xs) x y zero zero up less is_x is_y = absurd (omega (arith, less))
-is_below R (a ∷ xs) x y zero (suc j) up less is_x is_y = subst (λ z. R z y) (some_is a x is_x) (each xs j up.0 is_y)
-  where
-    each : (ys : List _) (k : ℕ) → AllByRecursion (R a) ys → slice_get ys k ≡ Some y → R a y
-    each [] k all h = absurd (true≢false (sym (none_is y h)))
-    each (b ∷ ys) zero all h = subst (R a) (some_is b y h) all.0
-    each (b ∷ ys) (suc k) all h = each ys k all.1 h
+is_below R (a ∷ xs) x y zero (suc j) up less is_x is_y = subst (λ z. R z y) (some_is a x is_x) (all-slice_get (R a) xs j y is_y up.0)
 is_below R (a ∷ xs) x y (suc i) zero up less is_x is_y = absurd (omega (arith, less))
 is_below R (a ∷ xs) x y (suc i) (suc j) up less is_x is_y = is_below R xs x y i j up.1 (omega (arith, less)) is_x is_y
 
@@ -66,9 +62,7 @@ module _ (flights : List FlightDate) (rows : List (FlightKey × Flight)) (of : A
   first_less : (a b c : Ordering) → ordering_then a b ≡ Less → ordering_then a (ordering_then b c) ≡ Less
   first_less Less b c h = refl
   first_less Equal Less c h = refl
-  first_less Equal Equal c h = absurd (cc)
-  first_less Equal Greater c h = absurd (cc)
-  first_less Greater b c h = absurd (cc)
+  first_less _ _ c h = absurd (cc)
 
   in_order : (f g : FlightDate) (d e : BuildPlace × Tally) → slice_get flights d.0.flight ≡ Some f → slice_get flights e.0.flight ≡ Some g → build_place_cmp d.0 e.0 ≡ Less → build_cmp (entry f d).0 (entry g e).0 ≡ Less
   in_order f g d e is_f is_g less = go (nat_cmp d.0.flight e.0.flight) refl less

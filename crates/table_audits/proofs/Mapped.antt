@@ -1,14 +1,12 @@
 -- Rows of `build` that are compared with the sums one by one.
-use Rattle.table_audits.proofs.Common.{AllByRecursion, AreDistinct, AreFlightsOf, AreSums, BookSums, Bool, Build, BuildKey, BuildPlace, Designator, Flight, FlightDate, FlightKey, List, Move, None, Option, Some, Tally, [], and_from, ap, build_cmp, build_due, build_entry, build_eq, build_here, build_in, build_place_cmp, build_row, bytes_cmp, cond, eq-eqb, eq_by_cmp, false, first_true, flight_key, flight_text, inl, inr, int_eq, int_itself, is_at, is_designator, is_false, is_int, is_nat, is_text, lookup, map, negsuc, none_is, option_map, pos, refl, running, same-is, same-refl, same_bool, same_flight_date, second_true, slice_get, some_is, suc, sym, text_itself, true, true≢false, written_again, written_flight, written_so, zero, ℕ, ℤ, ◌&&◌, ◌==◌, ◌∙◌, ◌∷◌, ◌≡◌, ◌≢◌, ◌⊎◌}
+use Rattle.table_audits.proofs.Common.{AreDistinct, AreFlightsOf, AreSums, BookSums, Bool, Build, BuildKey, BuildPlace, Designator, Flight, FlightDate, FlightKey, List, Move, None, Option, Some, Tally, [], and_from, ap, build_cmp, build_due, build_entry, build_eq, build_here, build_in, build_place_cmp, build_row, bytes_cmp, cond, eq-eqb, eq_by_cmp, false, first_true, flight_key, flight_text, inl, inr, int_eq, int_itself, is_at, is_designator, is_false, is_int, is_nat, is_text, lookup, map, negsuc, none_is, option_map, pos, refl, running, same-is, same-refl, same_bool, same_flight_date, second_true, slice_get, some_is, suc, sym, text_itself, true, true≢false, written_again, written_flight, written_so, zero, ℕ, ℤ, ◌&&◌, ◌==◌, ◌∙◌, ◌∷◌, ◌≡◌, ◌≢◌, ◌⊎◌, arith}
 use Rattle.std.specs.FinMap.{find}
+use Rattle.std.proofs.lemmas.Option.{slice_get-map}
+use Rattle.sqlite_keyed.proofs.ListLemmas.{all-slice_get}
+use Rattle.row_codec.proofs.Tests.{and_no, twice}
 use Rattle.table_audits.proofs.Posted.{key_eq}
 
 -- ---- lists
-
-pub got_map : {X Y : Type 0} (f : X → Y) (xs : List X) (i : ℕ) → slice_get (map f xs) i ≡ option_map f (slice_get xs i)
-got_map f [] i = refl
-got_map f (x ∷ xs) zero = refl
-got_map f (x ∷ xs) (suc i) = got_map f xs i
 
 abbrev first_or : {X : Type 0} → X → List X → X
 first_or d [] = d
@@ -18,13 +16,8 @@ abbrev rest : {X : Type 0} → List X → List X
 rest [] = []
 rest (x ∷ xs) = xs
 
-again : {X Y Z : Type 0} (f : X → Y) (g : Y → Z) (o : Option X) → option_map g (option_map f o) ≡ option_map (λ x. g (f x)) o
-again f g None = refl
-again f g (Some x) = refl
-
 together : (x y z : Bool) → (x && (y && z)) ≡ ((x && y) && z)
-together true y z = refl
-together false y z = refl
+together x y z = grind arith
 
 abbrev pub entry : FlightDate → BuildPlace × Tally → BuildKey × Build
 entry f e = ((flight_text f.flight, (pos f.day, e.0.awb)), build_row e.1)
@@ -48,19 +41,14 @@ index_of (g ∷ flights) f = go (same_flight_date g f) refl (index_of flights f)
         not_there e nowhere (suc i) h = nowhere i h
 
 module _ (flights : List FlightDate) (rows : List (FlightKey × Flight)) (of : AreFlightsOf flights rows) (distinct : AreDistinct flights) where
-  designator : (fs : List FlightDate) → AllByRecursion (λ (f : FlightDate). is_designator f.flight ≡ true) fs → (i : ℕ) (f : FlightDate) → slice_get fs i ≡ Some f → is_designator f.flight ≡ true
-  designator [] all i f h = absurd (true≢false (sym (none_is f h)))
-  designator (g ∷ fs) all zero f h = ap (λ (x : FlightDate). is_designator x.flight) (sym (some_is g f h)) ∙ all.0
-  designator (g ∷ fs) all (suc i) f h = designator fs all.1 i f h
-
   pub listed : (i : ℕ) (f : FlightDate) → slice_get flights i ≡ Some f → is_designator f.flight ≡ true
-  listed = designator flights of.each
+  listed i f is = all-slice_get (λ (f : FlightDate). is_designator f.flight ≡ true) flights i f is of.each
 
   pub entry_is : (e : BuildPlace × Tally) → build_entry rows e ≡ option_map (λ f. entry f e) (slice_get flights e.0.flight)
   entry_is e =
-      sym (again (λ (row : FlightKey × Flight). row.0) (at_key e) (slice_get rows e.0.flight))
-      ∙ ap (option_map (at_key e)) (sym (got_map (λ (row : FlightKey × Flight). row.0) rows e.0.flight) ∙ ap (λ l. slice_get l e.0.flight) (sym of.keys) ∙ got_map flight_key flights e.0.flight)
-      ∙ again flight_key (at_key e) (slice_get flights e.0.flight)
+      sym (twice (at_key e) (λ (row : FlightKey × Flight). row.0) (slice_get rows e.0.flight))
+      ∙ ap (option_map (at_key e)) (sym (slice_get-map (λ (row : FlightKey × Flight). row.0) rows e.0.flight) ∙ ap (λ l. slice_get l e.0.flight) (sym of.keys) ∙ slice_get-map flight_key flights e.0.flight)
+      ∙ twice (at_key e) flight_key (slice_get flights e.0.flight)
 
   one_flight : (f g : FlightDate) → is_designator f.flight ≡ true → is_designator g.flight ≡ true → flight_text f.flight ≡ flight_text g.flight → pos f.day ≡ pos g.day → f ≡ g
   one_flight f g is_f is_g text day =
@@ -77,12 +65,6 @@ module _ (flights : List FlightDate) (rows : List (FlightKey × Flight)) (of : A
       ap (λ (x : FlightDate). eq_by_cmp bytes_cmp (flight_text f.flight) (flight_text x.flight) && int_eq (pos f.day) (pos x.day)) (sym one)
       ∙ and_from _ _ (text_itself (flight_text f.flight)) (int_itself (pos f.day)))
 
-  step : (b c : Bool) → b ≡ c → (t : Tally) (x : Option Build) (y : Option Tally) → x ≡ option_map build_row y → cond b (Some (build_row t)) x ≡ option_map build_row (cond c (Some t) y)
-  step true true e t x y h = refl
-  step true false e t x y h = absurd (true≢false e)
-  step false true e t x y h = absurd (true≢false (sym e))
-  step false false e t x y h = h
-
   -- a row is that of a flight of the list
   row_of : (r : BuildKey × Build) (e : BuildPlace × Tally) (o : Option FlightDate) → slice_get flights e.0.flight ≡ o → ◌≡◌ {A = Option (BuildKey × Build)} (Some r) (option_map (λ f. entry f e) o)
       → (g : FlightDate) × (slice_get flights e.0.flight ≡ Some g) × (r ≡ entry g e)
@@ -94,26 +76,21 @@ module _ (flights : List FlightDate) (rows : List (FlightKey × Flight)) (of : A
       → (i : ℕ) (f : FlightDate) → slice_get flights i ≡ Some f → (awb : ℤ)
       → find build_cmp (flight_text f.flight, (pos f.day, awb)) L ≡ option_map build_row (lookup (is_at (build_place_cmp (record { flight = i; awb = awb }))) es)
   found_there [] [] h i f is awb = refl
-  found_there [] (e ∷ es) h i f is awb = absurd (cc)
-  found_there (r ∷ L) [] h i f is awb = absurd (cc)
   found_there (r ∷ L) (e ∷ es) h i f is awb =
       let here = row_of r e (slice_get flights e.0.flight) refl (ap (first_or None) h ∙ entry_is e) in
-      ap (λ (x : BuildKey × Build). cond (eq_by_cmp build_cmp (flight_text f.flight, (pos f.day, awb)) x.0) (Some x.1) (find build_cmp (flight_text f.flight, (pos f.day, awb)) L)) here.2
-      ∙ step (eq_by_cmp build_cmp (flight_text f.flight, (pos f.day, awb)) (entry here.0 e).0) (eq_by_cmp build_place_cmp (record { flight = i; awb = awb }) e.0)
-      (build_eq (flight_text f.flight) (flight_text here.0.flight) (pos f.day) (pos here.0.day) awb e.0.awb
+      let same = build_eq (flight_text f.flight) (flight_text here.0.flight) (pos f.day) (pos here.0.day) awb e.0.awb
       ∙ together (eq_by_cmp bytes_cmp (flight_text f.flight) (flight_text here.0.flight)) (int_eq (pos f.day) (pos here.0.day)) (int_eq awb e.0.awb)
       ∙ ap (λ b. b && int_eq awb e.0.awb) (same_key i e.0.flight f here.0 is here.1)
-      ∙ sym (key_eq i e.0.flight awb e.0.awb))
-      e.1 (find build_cmp (flight_text f.flight, (pos f.day, awb)) L) (lookup (is_at (build_place_cmp (record { flight = i; awb = awb }))) es)
-      (found_there L es (ap rest h) i f is awb)
+      ∙ sym (key_eq i e.0.flight awb e.0.awb) in
+      ap (λ (x : BuildKey × Build). cond (eq_by_cmp build_cmp (flight_text f.flight, (pos f.day, awb)) x.0) (Some x.1) (find build_cmp (flight_text f.flight, (pos f.day, awb)) L)) here.2
+      ∙ (let more = found_there L es (ap rest h) i f is awb in grind (arith, same, more))
+  found_there _ _ h i f is awb = absurd (cc)
 
   -- and of a flight that isn't listed
   pub found_nowhere : (L : List (BuildKey × Build)) (es : List (BuildPlace × Tally)) → ◌≡◌ {A = List (Option (BuildKey × Build))} (map (λ r. Some r) L) (map (build_entry rows) es)
       → (text : List ℕ) (day awb : ℤ) → ((j : ℕ) (g : FlightDate) → slice_get flights j ≡ Some g → (eq_by_cmp bytes_cmp text (flight_text g.flight) && int_eq day (pos g.day)) ≡ false)
       → find build_cmp (text, (day, awb)) L ≡ None
   found_nowhere [] [] h text day awb nowhere = refl
-  found_nowhere [] (e ∷ es) h text day awb nowhere = absurd (cc)
-  found_nowhere (r ∷ L) [] h text day awb nowhere = absurd (cc)
   found_nowhere (r ∷ L) (e ∷ es) h text day awb nowhere =
       let here = row_of r e (slice_get flights e.0.flight) refl (ap (first_or None) h ∙ entry_is e) in
       ap (λ (x : BuildKey × Build). cond (eq_by_cmp build_cmp (text, (day, awb)) x.0) (Some x.1) (find build_cmp (text, (day, awb)) L)) here.2
@@ -122,6 +99,7 @@ module _ (flights : List FlightDate) (rows : List (FlightKey × Flight)) (of : A
       ∙ together (eq_by_cmp bytes_cmp text (flight_text here.0.flight)) (int_eq day (pos here.0.day)) (int_eq awb e.0.awb)
       ∙ ap (λ b. b && int_eq awb e.0.awb) (nowhere e.0.flight here.0 here.1))
       ∙ found_nowhere L es (ap rest h) text day awb nowhere
+  found_nowhere _ _ h text day awb nowhere = absurd (cc)
 
   module _ (sums : BookSums) (book : List Move) (are : AreSums flights sums (running book)) (L : List (BuildKey × Build))
       (zip : ◌≡◌ {A = List (Option (BuildKey × Build))} (map (λ r. Some r) L) (map (build_entry rows) sums.builds.entries)) where
@@ -170,5 +148,4 @@ module _ (flights : List FlightDate) (rows : List (FlightKey × Flight)) (of : A
         go : (o : Option Designator) → due day (negsuc n) o ≡ None
         go None = refl
         go (Some d) = refl
-    told_builds (text, (negsuc n, pos w)) = found_nowhere L sums.builds.entries zip text (negsuc n) (pos w) (λ j g is. is_false _ (λ h. absurd (true≢false (sym (second_true (eq_by_cmp bytes_cmp text (flight_text g.flight)) false h)))))
-    told_builds (text, (negsuc n, negsuc k)) = found_nowhere L sums.builds.entries zip text (negsuc n) (negsuc k) (λ j g is. is_false _ (λ h. absurd (true≢false (sym (second_true (eq_by_cmp bytes_cmp text (flight_text g.flight)) false h)))))
+    told_builds (text, (negsuc n, awb)) = found_nowhere L sums.builds.entries zip text (negsuc n) awb (λ j g is. and_no (eq_by_cmp bytes_cmp text (flight_text g.flight)))

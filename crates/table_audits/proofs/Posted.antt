@@ -1,5 +1,5 @@
 -- What an amount that is posted makes of the sums.
-use Rattle.table_audits.proofs.Common.{AreDistinct, AreSums, BookSums, Bool, Build, BuildPlace, Built, Count, CountKey, CountPlace, FlightDate, IsPosting, List, Move, None, Option, Place, Posting, Some, Sums, Tally, [], and_no, ap, ap₂, arith, build_due, build_place_cmp, build_row, build_told, come, come_to, comes_to_sum, cond, count_cmp, count_here, count_in, count_place_cmp, count_row, count_told, counts_total, eq_by_cmp, eq_by_cmp_equiv, false, first_true, gone, int_cmp, int_eq, int_pos, int_tied, is_built, is_false, is_nat, nat_cmp, nat_tests, negated, negsuc, none_is, off, option_map, pair_eq, place_code, plain_place, plus, pos, posting, refl, running, running_in, running_on, same-is, same-refl, same_bool, same_flight_date, same_place, second_true, slice_get, some_is, subst, sym, true, unless_nothing, ℕ, ℤ, ◌&&◌, ◌++◌, ◌==◌, ◌∙◌, ◌∷◌, ◌≡◌, ◌≢◌}
+use Rattle.table_audits.proofs.Common.{AreDistinct, AreSums, BookSums, Bool, Build, BuildPlace, Built, Count, CountKey, CountPlace, FlightDate, IsPosting, List, Move, None, Option, Place, Posting, Some, Sums, Tally, [], and_no, ap, ap₂, arith, build_due, build_place_cmp, build_row, build_told, come, come_to, comes_to_sum, cond, count_cmp, count_here, count_in, count_place_cmp, count_row, count_told, counts_total, eq_by_cmp, eq_by_cmp_equiv, false, gone, int_cmp, int_eq, int_tied, is_built, is_false, is_nat, nat_cmp, nat_tests, negated, negsuc, none_is, off, option_map, pair_eq, place_code, plain_place, plus, pos, posting, refl, running, running_in, running_on, same-is, same-refl, same_bool, same_flight_date, same_place, slice_get, some_is, subst, sym, unless_nothing, ℕ, ℤ, ◌&&◌, ◌++◌, ◌==◌, ◌∙◌, ◌∷◌, ◌≡◌, ◌≢◌, ints}
 use Rattle.std.specs.BTreeMap.{get}
 use Rattle.row_codec.proofs.Codes as codes
 use Rattle.row_codec.proofs.Moved.{sums_then}
@@ -32,8 +32,7 @@ no_sums flights sums c b = record {
 -- ---- an amount more
 
 pub mapped : {X Y : Type 0} (f : X → Y) (b : Bool) (x y : Option X) → option_map f (cond b x y) ≡ cond b (option_map f x) (option_map f y)
-mapped f true x y = refl
-mapped f false x y = refl
+mapped f b x y = grind arith
 
 -- what a row comes to, and the tally that it keeps
 module _ {V : Type 0} (row : Tally → V) (amount : V → Tally) (again : (t : Tally) → amount (row t) ≡ t) where
@@ -82,52 +81,38 @@ posted_count flights old new s key by are told same a p awb_is place_is plain = 
 
 -- on a flight
 
-nat_tied : (a b : ℕ) → eq_by_cmp nat_cmp a b ≡ (a == b)
-nat_tied a b = grind (arith, nat_tests)
-
-nat_turned : (a b : ℕ) → (a == b) ≡ (b == a)
-nat_turned a b = grind (arith, nat_tests)
-
-nat_itself : (a b : ℕ) → a ≡ b → (a == b) ≡ true
-nat_itself a b h = grind (arith, nat_tests)
-
 turned : (x y : Bool) → (x && y) ≡ (y && x)
-turned true true = refl
-turned true false = refl
-turned false true = refl
-turned false false = refl
+turned x y = grind arith
 
 pub key_eq : (i j : ℕ) (a w : ℤ) → eq_by_cmp build_place_cmp (record { flight = i; awb = a }) (record { flight = j; awb = w }) ≡ ((i == j) && int_eq a w)
-key_eq i j a w = pair_eq nat_cmp int_cmp (i, a) (j, w) ∙ ap₂ ◌&&◌ (nat_tied i j) (int_tied a w)
+key_eq i j a w = pair_eq nat_cmp int_cmp (i, a) (j, w) ∙ ap₂ ◌&&◌ tied (int_tied a w)
+  where
+    tied : eq_by_cmp nat_cmp i j ≡ (i == j)
+    tied = grind (arith, nat_tests)
 
 module _ (flights : List FlightDate) (distinct : AreDistinct flights) (s : Sums) (a : ℕ) (f : FlightDate) (r : Tally) (at : ℕ) (is : slice_get flights at ≡ Some f) where
   abbrev pub sum : Option Build
   sum = option_map build_row (unless_nothing (plus (s a (Built f)) r))
 
-  where_same : (w : ℕ) (g : FlightDate) (b : Bool) → ((a == w) && same_flight_date g f) ≡ b
-      → option_map build_row (unless_nothing (cond b (plus (s w (Built g)) r) (s w (Built g)))) ≡ cond b sum (option_map build_row (unless_nothing (s w (Built g))))
-  where_same w g true e =
-      let waybill : a ≡ w = is_nat a w (first_true (a == w) (same_flight_date g f) e) in
-      let flight : g ≡ f = same-is g f (second_true (a == w) (same_flight_date g f) e) in
-      ap₂ (λ x y. option_map build_row (unless_nothing (plus (s x (Built y)) r))) (sym waybill) flight
-  where_same w g false e = refl
-
   same_index : (i : ℕ) (g : FlightDate) → slice_get flights i ≡ Some g → (at == i) ≡ same_flight_date g f
   same_index i g here = same_bool _ _
       (λ e. let one : f ≡ g = some_is f g (sym is ∙ ap (slice_get flights) (is_nat at i e) ∙ here) in ap (λ x. same_flight_date x f) (sym one) ∙ same-refl f)
-      (λ e. nat_itself at i (distinct at i f is (here ∙ ap (λ x. Some x) (same-is g f e))))
+      (λ e. let one = distinct at i f is (here ∙ ap (λ x. Some x) (same-is g f e)) in grind (arith, nat_tests))
 
   no_index : (i : ℕ) → slice_get flights i ≡ None → (at == i) ≡ false
   no_index i none = is_false _ (λ e. none_is f (sym none ∙ ap (slice_get flights) (sym (is_nat at i e)) ∙ is))
+
+  int_tests : (x y : ℕ) → int_eq (pos x) (pos y) ≡ (x == y)
+  int_tests x y = grind (arith, ints, nat_tests)
 
   pub due_after : (i : ℕ) (awb : ℤ) → build_due (posting a (Built f) r s) awb (slice_get flights i) ≡ cond ((at == i) && int_eq (pos a) awb) sum (build_due s awb (slice_get flights i))
   due_after i (pos w) = go (slice_get flights i) refl
     where
       go : (o : Option FlightDate) → slice_get flights i ≡ o → build_due (posting a (Built f) r s) (pos w) o ≡ cond ((at == i) && int_eq (pos a) (pos w)) sum (build_due s (pos w) o)
       go None e = ap (λ b. cond (b && int_eq (pos a) (pos w)) sum None) (sym (no_index i e))
-      go (Some g) e = where_same w g ((a == w) && same_flight_date g f) refl
+      go (Some g) e = codes.row_after build_row s a (Built f) r w (Built g)
           ∙ ap (λ b. cond b sum (option_map build_row (unless_nothing (s w (Built g)))))
-          (turned (a == w) (same_flight_date g f) ∙ ap₂ ◌&&◌ (sym (same_index i g e)) (nat_turned a w ∙ sym (int_pos a w)))
+          (turned (a == w) (same_flight_date g f) ∙ ap₂ ◌&&◌ (sym (same_index i g e)) (sym (int_tests a w)))
   due_after i (negsuc n) = ap (λ b. cond b sum None) (sym (and_no (at == i)))
 
   pub due_at : build_due s (pos a) (slice_get flights at) ≡ option_map build_row (unless_nothing (s a (Built f)))
@@ -136,15 +121,12 @@ module _ (flights : List FlightDate) (distinct : AreDistinct flights) (s : Sums)
   pub none_other : (w : ℕ) (g : FlightDate) → ((i : ℕ) → slice_get flights i ≢ Some g) → posting a (Built f) r s w (Built g) ≡ s w (Built g)
   none_other w g none = not_posted s a (Built f) r w (Built g) (is_false _ (λ e. absurd (none at (is ∙ ap (λ x. Some x) (sym (same-is g f e))))))
 
-count_of_flight : (flights : List FlightDate) (s : Sums) (a : ℕ) (f : FlightDate) (r : Tally) (q : CountKey) → count_in s q ≡ count_in (posting a (Built f) r s) q
-count_of_flight flights s a f r q = sym (codes.counts_stay s a f r q)
-
 pub posted_build : (flights : List FlightDate) (old new : BookSums) (s : Sums) (key : BuildPlace) (by : Tally) → AreDistinct flights → AreSums flights old s
     → ((q : BuildPlace) → get build_place_cmp new.builds q ≡ cond (eq_by_cmp build_place_cmp key q) (unless_nothing (come_to (λ t. t) (get build_place_cmp old.builds key) by)) (get build_place_cmp old.builds q))
     → new.counts ≡ old.counts → (a : ℕ) (f : FlightDate) → key.awb ≡ pos a → slice_get flights key.flight ≡ Some f
     → AreSums flights new (posting a (Built f) by s)
 posted_build flights old new s key by distinct are told same a f awb_is flight_is = record {
-  counts = λ q. ap (λ m. option_map count_row (get count_place_cmp m (record { awb = q.0; place = q.1 }))) same ∙ are.counts q ∙ count_of_flight flights s a f by q;
+  counts = λ q. ap (λ m. option_map count_row (get count_place_cmp m (record { awb = q.0; place = q.1 }))) same ∙ are.counts q ∙ sym (codes.counts_stay s a f by q);
   builds = λ i awb. build_at i awb;
   others = λ w g none. ap unless_nothing (none_other flights distinct s a f by key.flight flight_is w g none) ∙ are.others w g none;
 }

@@ -1,5 +1,5 @@
 -- What a row within range holds as a text is one.
-use Rattle.table_audits.proofs.Common.{AllByRecursion, AreBuilds, Bool, Build, BuildKey, Expected, ExpectedKey, FinMap, Flight, FlightKey, HasBuildTexts, HasExpectedTexts, HasFlightTexts, HasKeptKeyTexts, HasKeptTextTexts, HasMovesTexts, HasOutboxTexts, HasPartTexts, HasStockTexts, HasTrailTexts, HasWaybillTexts, IsAscii, IsAscii-airport, IsAscii-flight, IsAscii-goods, IsText, IsUtf8-from_ascii, Kept, List, Message, None, PartKey, Some, Stock, StockKey, TrailLine, Waybill, [], and_parts, arith, build_cmp, build_here, build_in, build_total, each_entry, entries, false, flight_of, if◌then◌else◌, int_eq, is_agent_code, is_airport, is_day, is_expected_row, is_flight_row, is_flight_text, is_kept_row, is_kept_text_row, is_key_byte, is_letter_or_digit, is_message_row, is_move_row, is_one, is_part_row, is_printable, is_some, is_stock_row, is_trail_row, is_utf8-from_IsUtf8, is_waybill_row, length, nat_tests, negsuc, pos, refl, running, subst, sym, true, unnamed_holder, ℕ, ℤ, ◌&&◌, ◌<◌, ◌==◌, ◌||◌, ◌∙◌, ◌∷◌, ◌≡◌}
+use Rattle.table_audits.proofs.Common.{AllByRecursion, AreBuilds, Bool, Build, BuildKey, Expected, ExpectedKey, FinMap, Flight, FlightKey, HasBuildTexts, HasExpectedTexts, HasFlightTexts, HasKeptKeyTexts, HasKeptTextTexts, HasMovesTexts, HasOutboxTexts, HasPartTexts, HasStockTexts, HasTrailTexts, HasWaybillTexts, IsAscii, IsAscii-airport, IsAscii-flight, IsAscii-goods, IsText, IsUtf8-from_ascii, Kept, List, Message, None, PartKey, Some, Stock, StockKey, TrailLine, Waybill, [], and_parts, arith, build_cmp, build_here, build_in, build_total, each_entry, entries, false, flight_of, if◌then◌else◌, int_eq, is_agent_code, is_airport, is_day, is_expected_row, is_flight_row, is_flight_text, is_kept_row, is_kept_text_row, is_key_byte, is_letter_or_digit, is_message_row, is_move_row, is_one, is_part_row, is_printable, is_some, is_stock_row, is_trail_row, is_utf8-from_IsUtf8, is_waybill_row, length, nat_tests, pos, refl, running, subst, sym, true, unnamed_holder, ℕ, ℤ, ◌&&◌, ◌<◌, ◌==◌, ◌||◌, ◌∙◌, ◌∷◌, ◌≡◌}
 use Rattle.std.proofs.lemmas.Str.Ascii.{IsAscii-nil}
 use Rattle.awb_number.specs.Ascii.{IsAscii-tested, ascii-letter_or_digit}
 use Rattle.agent_stock.specs.declared.stock.Holder.TheVariants as holder
@@ -48,9 +48,8 @@ waybill_texts row h =
 agent : (n : ℤ) (text : List ℕ) (one code empty : Bool) → int_eq n (pos 1) ≡ one → is_agent_code text ≡ code → (length text == 0) ≡ empty
     → is_some (if one then (if code then Some (holder.Agent text) else None) else if empty then unnamed_holder n else None) ≡ true → IsText text
 agent n text true true empty is_one is_code is_empty h = ascii text (IsAscii-tested is_letter_or_digit ascii-letter_or_digit text (and_parts _ _ is_code).1)
-agent n text true false empty is_one is_code is_empty h = absurd (cc)
 agent n text false code true is_one is_code is_empty h = nothing text is_empty
-agent n text false code false is_one is_code is_empty h = absurd (cc)
+agent n text _ _ _ is_one is_code is_empty h = absurd (cc)
 
 pub stock_texts : (row : StockKey × Stock) → is_stock_row row ≡ true → HasStockTexts row
 stock_texts row h = agent row.1.holder row.1.agent (int_eq row.1.holder (pos 1)) (is_agent_code row.1.agent) (length row.1.agent == 0) refl refl refl (and_parts _ _ h).1
@@ -98,8 +97,7 @@ module _ (builds : FinMap build_cmp Build) (book : List cargo.Move) (are : AreBu
 
   load : (key : BuildKey) (row : Build) → build_in (running book) key ≡ Some row → IsText key.0
   load (text, (pos day, pos w)) row has = written text (is_flight_text text) day w row refl has
-  load (text, (pos day, negsuc w)) row has = absurd (cc)
-  load (text, (negsuc day, w)) row has = absurd (cc)
+  load _ row has = absurd (cc)
 
   pub build_texts : AllByRecursion HasBuildTexts (entries builds)
   build_texts = each_entry build_cmp build_total HasBuildTexts builds (λ key row has. load key row (sym (are key) ∙ has))

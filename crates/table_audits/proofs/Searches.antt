@@ -1,18 +1,10 @@
 -- What a binary search finds among rows in the order of their keys, each key once.
-use Rattle.table_audits.proofs.Common.{AllByRecursion, Bool, Equal, Err, FinMap, IsAntisymmetric, IsAscending, IsBinarySearchResult, IsSearchInRange, IsTotalOrder, Less, List, None, Ok, Option, Ordering, Result, RisesByNumber, Some, WaybillRow, [], ap, ap₂, arith, ascending_sorted, cases_Bool, cond, contains_key, each_entry, entries, entries_rise, eq_by_cmp, eq_by_cmp_equiv, false, find, get, get-entries, has_key, inl, inr, int_cmp, int_cmp_total, int_eq, int_tied, is_eq, is_some, length, list_any, map, nat_lt, nat_tests, on_total, refl, searchable_from_sorted, slice_index_or, subst, suc, sym, true, waybill_id, waybill_meant, zero, ℕ, ℤ, ◌<◌, ◌||◌, ◌∙◌, ◌∷◌, ◌≡◌, ◌≤◌}
+use Rattle.table_audits.proofs.Common.{Bool, Err, FinMap, IsAntisymmetric, IsAscending, IsBinarySearchResult, IsSearchInRange, IsTotalOrder, Less, List, None, Ok, Option, Ordering, Result, RisesByNumber, Some, WaybillRow, [], ap, ap₂, arith, ascending_sorted, cases_Bool, contains_key, entries, entries_rise, eq_by_cmp, eq_by_cmp_equiv, false, get, get-entries, has_key, inl, inr, int_cmp, int_cmp_total, int_tied, is_eq, is_some, length, list_any, map, nat_lt, nat_tests, on_total, refl, searchable_from_sorted, slice_index_or, subst, suc, sym, true, waybill_id, waybill_meant, zero, ℕ, ℤ, ◌<◌, ◌||◌, ◌∙◌, ◌∷◌, ◌≡◌, ◌≤◌, ascending_from_map}
 use Rattle.std.specs.Result.{is_ok}
 use Rattle.std.specs.FinMap.{find as find_entry}
-use Rattle.table_audits.proofs.Lists.{all_at, or_yes}
+use Rattle.table_audits.proofs.Lists.{or_yes}
 
 -- ---- lists
-
-all_from_map : {X Y : Type 0} (f : X → Y) (P : Y → Type 0) (xs : List X) → AllByRecursion P (map f xs) → AllByRecursion (λ x. P (f x)) xs
-all_from_map f P [] h = tt
-all_from_map f P (x ∷ xs) h = (h.0, all_from_map f P xs h.1)
-
-pub rising_from_map : {X Y : Type 0} (f : X → Y) (R : Y → Y → Type 0) (xs : List X) → IsAscending R (map f xs) → IsAscending (λ a b. R (f a) (f b)) xs
-rising_from_map f R [] h = tt
-rising_from_map f R (x ∷ xs) h = (all_from_map f (R (f x)) xs h.0, rising_from_map f R xs h.1)
 
 any_at : {X : Type 0} (p : X → Bool) (xs : List X) (i : ℕ) → i < length xs → ((d : X) → p (slice_index_or xs i d) ≡ true) → list_any p xs ≡ true
 any_at p [] i low h = absurd (omega arith)
@@ -42,15 +34,11 @@ module _ {K X : Type 0} (R : K → K → Ordering) (total : IsTotalOrder R) (key
 
 has_key-any : {X Y : Type 0} (f : X → Y) (key : Y → ℤ) (xs : List X) (id : ℤ) → list_any (λ x. eq_by_cmp int_cmp (key (f x)) id) xs ≡ has_key key (map f xs) id
 has_key-any f key [] id = refl
-has_key-any f key (x ∷ xs) id = ap (λ b. b || list_any (λ y. eq_by_cmp int_cmp (key (f y)) id) xs) (int_tied (key (f x)) id) ∙ go (int_eq (key (f x)) id) (has_key-any f key xs id)
-  where
-    go : (b : Bool) → list_any (λ y. eq_by_cmp int_cmp (key (f y)) id) xs ≡ has_key key (map f xs) id → (b || list_any (λ y. eq_by_cmp int_cmp (key (f y)) id) xs) ≡ is_some (cond b (Some (f x)) (find (λ y. int_eq (key y) id) (map f xs)))
-    go true h = refl
-    go false h = h
+has_key-any f key (x ∷ xs) id = grind (arith, int_tied (key (f x)) id, has_key-any f key xs id)
 
 pub has_number : (rows : List WaybillRow) (id : ℤ) (r : Result ℕ ℕ) → RisesByNumber (map waybill_meant rows) → IsSearchInRange r (length rows) → IsBinarySearchResult (λ row. int_cmp row.awb id) rows r
     → is_ok r ≡ has_key waybill_id (map waybill_meant rows) id
-has_number rows id r up low h = is_found int_cmp int_cmp_total (λ (row : WaybillRow). row.awb) id rows (rising_from_map waybill_meant _ rows up) r low h ∙ has_key-any waybill_meant waybill_id rows id
+has_number rows id r up low h = is_found int_cmp int_cmp_total (λ (row : WaybillRow). row.awb) id rows (ascending_from_map _ waybill_meant rows up) r low h ∙ has_key-any waybill_meant waybill_id rows id
 
 -- ---- the rows of a map
 
@@ -61,25 +49,14 @@ not_some (Some x) h = cc
 module _ {X K V : Type 0} (R : K → K → Ordering) (total : IsTotalOrder R) (same : IsAntisymmetric R) (f : X → K × V) where
   found_any : (q : K) (xs : List X) → is_some (find_entry R q (map f xs)) ≡ list_any (λ x. eq_by_cmp R (f x).0 q) xs
   found_any q [] = refl
-  found_any q (x ∷ xs) = go (eq_by_cmp R q (f x).0) (eq_by_cmp R (f x).0 q) ((eq_by_cmp_equiv total).symm q (f x).0) (found_any q xs)
-    where
-      go : (b c : Bool) → b ≡ c → is_some (find_entry R q (map f xs)) ≡ list_any (λ y. eq_by_cmp R (f y).0 q) xs → is_some (cond b (Some (f x).1) (find_entry R q (map f xs))) ≡ (c || list_any (λ y. eq_by_cmp R (f y).0 q) xs)
-      go true true e h = refl
-      go true false e h = cc
-      go false true e h = cc
-      go false false e h = h
+  found_any q (x ∷ xs) = grind (arith, (eq_by_cmp_equiv total).symm q (f x).0, found_any q xs)
 
   module _ (m : FinMap R V) (xs : List X) (are : entries m ≡ map f xs) (q : K) where
     rows_rise : IsAscending (λ a b. R (f a).0 (f b).0 ≡ Less) xs
-    rows_rise = rising_from_map f (λ a b. R a.0 b.0 ≡ Less) xs (subst (IsAscending (λ a b. R a.0 b.0 ≡ Less)) are (entries_rise R total m))
+    rows_rise = ascending_from_map (λ a b. R a.0 b.0 ≡ Less) f xs (subst (IsAscending (λ a b. R a.0 b.0 ≡ Less)) are (entries_rise R total m))
 
     pub has_entry : (r : Result ℕ ℕ) → IsSearchInRange r (length xs) → IsBinarySearchResult (λ x. R (f x).0 q) xs r → is_ok r ≡ contains_key m q
     has_entry r low h = is_found R total (λ x. (f x).0) q xs rows_rise r low h ∙ sym (ap is_some (get-entries m q ∙ ap (find_entry R q) are) ∙ found_any q xs)
-
-    pub entry_at : (i : ℕ) (d : X) → i < length xs → ((e : X) → R (f (slice_index_or xs i e)).0 q ≡ Equal) → get m q ≡ Some (f (slice_index_or xs i d)).1
-    entry_at i d low h =
-        let is : get m (f (slice_index_or xs i d)).0 ≡ Some (f (slice_index_or xs i d)).1 = all_at (λ x. get m (f x).0 ≡ Some (f x).1) xs (all_from_map f (λ e. get m e.0 ≡ Some e.1) xs (subst (AllByRecursion (λ e. get m e.0 ≡ Some e.1)) are (each_entry R total (λ e. get m e.0 ≡ Some e.1) m (λ k v has. has)))) i d low in
-        subst (λ k. get m k ≡ Some (f (slice_index_or xs i d)).1) (same _ q (h d)) is
 
     pub no_entry : (i : ℕ) → i ≤ length xs → IsBinarySearchResult (λ x. R (f x).0 q) xs (Err i) → get m q ≡ None
     no_entry i low h = not_some (get m q) (sym (has_entry (Err i) low h))

@@ -1,8 +1,8 @@
 -- The rows of `stock` are lawful exactly where the table is.
-use Rattle.table_audits.proofs.Common.{AllByRecursion, AreStocks, Bool, IsLawfulStock, IsSome, List, None, Option, Some, Stock, StockKey, Tables, [], all_both, all_from_test, all_weaker, ap, are_apart, arith, cargo_in, cond, entries, false, find, has_waybill, holder_by, holders_in, int_eq, ints, is_agent_code, is_some, is_stock_row, length, option_and_then, pos, refl, stands_for, subst, sym, test_from_all, true, true≢false, ℕ, ◌==◌, ◌∙◌, ◌∷◌, ◌≡◌}
+use Rattle.table_audits.proofs.Common.{AllByRecursion, AreStocks, Bool, IsLawfulStock, IsSome, List, None, Option, Some, Stock, StockKey, Tables, all_both, all_from_test, all_weaker, ap, are_apart, arith, cargo_in, cond, entries, false, find, has_waybill, holder_by, holders_in, int_eq, ints, is_agent_code, is_some, is_stock_row, length, option_and_then, pos, refl, stands_for, test_from_all, true, ℕ, ◌==◌, ◌∙◌, ◌≡◌}
 use Rattle.agent_stock.specs.declared.stock.Holder.{Holder}
 use Rattle.agent_stock.specs.declared.stock.Holder.TheVariants as holder
-use Rattle.table_audits.proofs.Each.{found_test}
+use Rattle.table_audits.proofs.Each.{found_holds, found_test}
 use Rattle.table_audits.proofs.DeclaredLaws.{declared_from, declared_back}
 use Rattle.table_audits.proofs.StockRows.{in_range, between, stands, IsFound, each_found}
 
@@ -22,11 +22,8 @@ used_if agent false code true false false true h = absurd (cc)
 used_if agent false code true false false false h = absurd (cc)
 
 held_used : (agent : List ℕ) (one code empty zero two three : Bool) → one ≡ false → zero ≡ false → two ≡ true → is_some (held_if agent one code empty zero two three) ≡ true → held_if agent one code empty zero two three ≡ Some holder.Used
-held_used agent true code empty zero two three a b d h = absurd (true≢false a)
-held_used agent false code false zero two three a b d h = absurd (true≢false (sym h))
-held_used agent false code true true two three a b d h = absurd (true≢false b)
-held_used agent false code true false false three a b d h = absurd (true≢false (sym d))
 held_used agent false code true false true three a b d h = refl
+held_used agent _ _ _ _ _ _ a b d h = absurd (cc)
 
 used_row : (s : Stock) → holder_by s ≡ Some holder.Used → int_eq s.holder (pos 2) ≡ true
 used_row s h = used_if s.agent (int_eq s.holder (pos 1)) (is_agent_code s.agent) (length s.agent == 0) (int_eq s.holder (pos 0)) (int_eq s.holder (pos 2)) (int_eq s.holder (pos 3)) h
@@ -35,14 +32,6 @@ is_used : (s : Stock) → is_some (holder_by s) ≡ true → int_eq s.holder (po
 is_used s some two = held_used s.agent (int_eq s.holder (pos 1)) (is_agent_code s.agent) (length s.agent == 0) (int_eq s.holder (pos 0)) (int_eq s.holder (pos 2)) (int_eq s.holder (pos 3)) (grind (arith, ints)) (grind (arith, ints)) two some
 
 -- ---- the table
-
-found_holds : {X : Type 0} (P : X → Type 0) (test : X → Bool) (xs : List X) (x : X) → AllByRecursion P xs → find test xs ≡ Some x → P x
-found_holds P test [] x all has = absurd (cc)
-found_holds P test (y ∷ xs) x all has = go (test y) has (found_holds P test xs x all.1)
-  where
-    go : (b : Bool) → cond b (Some y) (find test xs) ≡ Some x → (find test xs ≡ Some x → P x) → P x
-    go true is more = let same : y ≡ x = cc in subst P same all.0
-    go false is more = more is
 
 module _ (t : Tables) where
   pub are_stocks : are_apart (entries t.stock) ≡ true → AllByRecursion (IsLawfulStock t.waybills) (entries t.stock) → AreStocks t

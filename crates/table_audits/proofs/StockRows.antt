@@ -57,9 +57,7 @@ between (pos a) (pos b) (pos c) n f g k s =
       from = subst (λ z. int_le z (pos n) ≡ true) (sym (number_is a b)) (le_int _ _ (below_in a b n prefix (le_nat _ _ ends.0)));
       to = subst (λ z. int_le (pos n) z ≡ true) (sym (number_is a c)) (le_int _ _ (above_in a c n prefix (le_nat _ _ ends.1)));
     }
-between (negsuc a) low high n f g k s = absurd (let no' : ⊥ = grind (arith, ints) in no')
-between (pos a) (negsuc b) high n f g k s = absurd (let no' : ⊥ = grind (arith, ints) in no')
-between (pos a) (pos b) (negsuc c) n f g k s = absurd (let no' : ⊥ = grind (arith, ints) in no')
+between _ _ _ n f g k s = absurd (let no' : ⊥ = grind (arith, ints) in no')
 
 -- and the other way round
 pub stands : (p low high n : ℤ) → is_within 0 999 p ≡ true → is_within 0 9_999_999 low ≡ true → int_le low high ≡ true → int_le high (pos 9_999_999) ≡ true → int_le (number_at p low) n ≡ true → int_le n (number_at p high) ≡ true → (k : ℕ) × (n ≡ pos k) × (serials p low high k ≡ true)
@@ -67,9 +65,7 @@ stands (pos a) (pos b) (pos c) (pos n) f g k l from to =
     let parts = parts_of a b c n (le_nat _ _ l) (le_nat _ _ (subst (λ z. int_le z (pos n) ≡ true) (number_is a b) from)) (le_nat _ _ (subst (λ z. int_le (pos n) z ≡ true) (number_is a c) to)) in
     (n, refl, and_from _ _ ((Decides-int_eq _ _).1 (ap pos parts.0)) (and_from _ _ (le_int _ _ parts.1) (le_int _ _ parts.2)))
 stands (pos a) (pos b) (pos c) (negsuc n) f g k l from to = absurd (true≢false (sym (subst (λ z. int_le z (negsuc n) ≡ true) (number_is a b) from)))
-stands (negsuc a) low high n f g k l from to = absurd (let no' : ⊥ = grind (arith, ints) in no')
-stands (pos a) (negsuc b) high n f g k l from to = absurd (let no' : ⊥ = grind (arith, ints) in no')
-stands (pos a) (pos b) (negsuc c) n f g k l from to = absurd (let no' : ⊥ = grind (arith, ints) in no')
+stands _ _ _ n f g k l from to = absurd (let no' : ⊥ = grind (arith, ints) in no')
 
 -- ---- rows that are apart
 
@@ -122,8 +118,7 @@ module _ {X : Type 0} (f : X → StockKey × Stock) where
   apart_from (x ∷ y ∷ xs) h = and_from _ _ (sym (h 0 x (omega arith))) (apart_from (y ∷ xs) (λ k d low. subst (λ j. true ≡ is_behind (f (slice_index_or (y ∷ xs) k d)) (f (slice_index_or (x ∷ y ∷ xs) j d))) (after k) (h (suc k) d (omega arith))))
 
   and_no : (a b : Bool) → b ≡ false → (a && b) ≡ false
-  and_no true b h = h
-  and_no false b h = refl
+  and_no a b h = grind arith
 
   not_apart : (xs : List X) (k : ℕ) → k + 1 < length xs → ((d : X) → false ≡ is_behind (f (slice_index_or xs k d)) (f (slice_index_or xs (k + 1) d))) → are_apart (map f xs) ≡ false
   not_apart [] k low h = absurd (omega arith)

@@ -1,5 +1,5 @@
 -- What a sum at a place says of the place.
-use Rattle.table_audits.proofs.Common.{BookSums, Bool, Built, FlightDate, Hand, IsCovered, IsStocked, List, Move, None, Option, Place, Some, Tally, amount, and_from, and_parts, ap, ap₂, arith, built, cond, drawn, drawn_at, drawn_by, false, int_eq, int_le, ints, is_covered, is_int, is_left, is_nothing, moved_in, moved_out, nat_le, nat_lt, nat_tests, natural, neg_ℤ, negsuc, option_map, pieces_of, pos, refl, rows_again, running, same_place, some_is, suc, sym, tenths_of, true, true≢false, unless_nothing, zero, ℕ, ℤ, ◌&&◌, ◌+◌, ◌-ℤ◌, ◌-◌, ◌<◌, ◌==◌, ◌∙◌, ◌≡◌, ◌≢◌, ◌≤◌}
+use Rattle.table_audits.proofs.Common.{BookSums, Bool, Built, FlightDate, Hand, IsCovered, IsStocked, List, Move, None, Option, Place, Some, Tally, amount, ap, ap₂, arith, built, cond, drawn, drawn_at, drawn_by, false, int_eq, int_le, ints, is_covered, is_left, is_nothing, moved_in, moved_out, nat_le, nat_lt, nat_tests, natural, neg_ℤ, negsuc, option_map, pieces_of, pos, refl, rows_again, running, same_place, some_is, suc, sym, tenths_of, true, unless_nothing, zero, ℕ, ℤ, ◌&&◌, ◌+◌, ◌-ℤ◌, ◌-◌, ◌<◌, ◌∙◌, ◌≡◌, ◌≤◌}
 use Rattle.table_audits.specs.Balances.{is_within}
 
 -- ---- rows and what they mean
@@ -10,20 +10,15 @@ row_tally row read same o u h = sym (rows_again row read same o) ∙ ap (option_
 -- ---- numbers
 
 -- what came in is a, of weight c; what went out is b, of weight d
-more_in : (a b c d : ℕ) → int_le (pos 1) (pos a -ℤ pos b) ≡ true → int_le (pos a -ℤ pos b) (pos c -ℤ pos d) ≡ true → (b < a) × (d ≤ c) × (a - b ≤ c - d)
-more_in a b c d h k = (grind (arith, ints), grind (arith, ints), grind (arith, ints))
+more_in : (a b c d : ℕ) → (int_le (pos 1) (pos a -ℤ pos b) && int_le (pos a -ℤ pos b) (pos c -ℤ pos d)) ≡ true → (b < a) × (d ≤ c) × (a - b ≤ c - d)
+more_in a b c d h = (grind (arith, ints), grind (arith, ints), grind (arith, ints))
 
-some_left : (a b : ℕ) → b < a → int_le (pos 1) (pos a -ℤ pos b) ≡ true
-some_left a b h = grind (arith, ints)
+in_more : (a b c d : ℕ) → b ≤ a → d ≤ c → a - b ≤ c - d → (a - b ≡ 0 → c - d ≡ 0) → (int_eq (pos a -ℤ pos b) (pos 0) && int_eq (pos c -ℤ pos d) (pos 0)) ≡ false
+    → (int_le (pos 1) (pos a -ℤ pos b) && int_le (pos a -ℤ pos b) (pos c -ℤ pos d)) ≡ true
+in_more a b c d low light heavy none h = grind (arith, ints, none)
 
-heavy_left : (a b c d : ℕ) → b ≤ a → d ≤ c → a - b ≤ c - d → int_le (pos a -ℤ pos b) (pos c -ℤ pos d) ≡ true
-heavy_left a b c d h k l = grind (arith, ints)
-
-all_gone : (a b : ℕ) → pos a -ℤ pos b ≡ pos 0 → a ≡ b
-all_gone a b h = omega (arith, ints, h)
-
-none_left : (a b : ℕ) → a ≡ b → int_eq (pos a -ℤ pos b) (pos 0) ≡ true
-none_left a b h = grind (arith, ints)
+all_gone : (a b c d : ℕ) → (int_eq (pos a -ℤ pos b) (pos 0) && int_eq (pos c -ℤ pos d) (pos 0)) ≡ true → (a ≡ b) × (c ≡ d)
+all_gone a b c d h = (grind (arith, ints), grind (arith, ints))
 
 pub over_is : (z : ℤ) (a b : ℕ) → z ≡ pos a -ℤ pos b → natural (neg_ℤ z) ≡ b - a
 over_is (pos zero) a b h = let x : 0 ≡ b - a = omega (arith, ints, h) in x
@@ -47,46 +42,16 @@ module _ (book : List Move) (w : ℕ) (p : Place) where
 
   pub stocked_even : is_nothing (running book w p) ≡ true → IsStocked book w p
   stocked_even h =
-      let two = and_parts _ _ h in
-      let a = all_gone came went (is_int (pos came -ℤ pos went) (pos 0) two.0) in
-      let b = all_gone came_weight went_weight (is_int (pos came_weight -ℤ pos went_weight) (pos 0) two.1) in
-      let low : went ≤ came = omega (arith, a) in
-      let low_weight : went_weight ≤ came_weight = omega (arith, b) in
-      let heavy : came - went ≤ came_weight - went_weight = omega (arith, a, b) in
-      let nothing : came_weight - went_weight ≡ 0 = omega (arith, b) in
-      record { pieces = low; tenths = low_weight; tenth_a_piece = heavy; no_weight_alone = λ e. nothing }
+      let even = all_gone came went came_weight went_weight h in
+      record { pieces = omega (arith, even.0); tenths = omega (arith, even.1); tenth_a_piece = omega (arith, even.0, even.1); no_weight_alone = λ e. omega (arith, even.1) }
 
-  pub stocked_left : is_left (running book w p) ≡ true → IsStocked book w p
+  stocked_left : is_left (running book w p) ≡ true → IsStocked book w p
   stocked_left h =
-      let two = and_parts _ _ h in
-      let three = more_in came went came_weight went_weight two.0 two.1 in
-      let a : went < came = three.0 in
-      let b : went_weight ≤ came_weight = three.1 in
-      let c : came - went ≤ came_weight - went_weight = three.2 in
-      let low : went ≤ came = omega (arith, a) in
-      record { pieces = low; tenths = b; tenth_a_piece = c; no_weight_alone = λ e. absurd (some_there a e) }
-    where
-      some_there : went < came → came - went ≡ 0 → ⊥
-      some_there a e = omega (arith, a, e)
+      let three = more_in came went came_weight went_weight h in
+      record { pieces = omega (arith, three.0); tenths = three.1; tenth_a_piece = three.2; no_weight_alone = λ e. omega (arith, three.0, e) }
 
-  pub left_stocked : IsStocked book w p → is_nothing (running book w p) ≡ false → is_left (running book w p) ≡ true
-  left_stocked is h =
-      let a : went ≤ came = is.pieces in
-      let b : went_weight ≤ came_weight = is.tenths in
-      let c : came - went ≤ came_weight - went_weight = is.tenth_a_piece in
-      go a b c (came == went) refl
-    where
-      go : went ≤ came → went_weight ≤ came_weight → came - went ≤ came_weight - went_weight → (e : Bool) → (came == went) ≡ e → is_left (running book w p) ≡ true
-      go a b c true e =
-          let even : came ≡ went = grind (arith, nat_tests) in
-          let none : came - went ≡ 0 = omega (arith, even) in
-          let light : came_weight - went_weight ≡ 0 = is.no_weight_alone none in
-          let same : came_weight ≡ went_weight = omega (arith, light, b) in
-          absurd (true≢false (sym (and_from _ _ (none_left came went even) (none_left came_weight went_weight same)) ∙ h))
-      go a b c false e =
-          let apart : came ≢ went = grind (arith, nat_tests) in
-          let more : went < came = omega (arith, a, apart) in
-          and_from _ _ (some_left came went more) (heavy_left came went came_weight went_weight a b c)
+  left_stocked : IsStocked book w p → is_nothing (running book w p) ≡ false → is_left (running book w p) ≡ true
+  left_stocked is h = in_more came went came_weight went_weight is.pieces is.tenths is.tenth_a_piece is.no_weight_alone h
 
   -- a sum and the place
   even_where : (b : Bool) (r : Tally) → ◌≡◌ {A = Option Tally} None (cond b None (Some r)) → b ≡ true
@@ -113,40 +78,33 @@ module _ (book : List Move) (w : ℕ) (p : Place) where
   -- what came from a place outside
   pub told_drawn : (o : Option Tally) → o ≡ unless_nothing (running book w p) → drawn_by o ≡ drawn book w (same_place p)
   told_drawn None h =
-      let two = and_parts _ _ (told_even h) in
-      let a = all_gone came went (is_int (pos came -ℤ pos went) (pos 0) two.0) in
-      let b = all_gone came_weight went_weight (is_int (pos came_weight -ℤ pos went_weight) (pos 0) two.1) in
-      let c : 0 ≡ went - came = omega (arith, a) in
-      let d : 0 ≡ went_weight - came_weight = omega (arith, b) in
-      ap₂ amount c d
+      let even = all_gone came went came_weight went_weight (told_even h) in
+      let pieces : 0 ≡ went - came = omega (arith, even.0) in
+      let tenths : 0 ≡ went_weight - came_weight = omega (arith, even.1) in
+      ap₂ amount pieces tenths
   told_drawn (Some t) h =
       let same = (told_left t h).1 in
       ap₂ amount (over_is t.pieces came went (ap (λ (r : Tally). r.pieces) same)) (over_is t.tenths came_weight went_weight (ap (λ (r : Tally). r.tenths) same))
 
 -- ---- what went back to who brought it
 
-no_more : (a b : ℕ) → int_le (pos a -ℤ pos b) (pos 0) ≡ true → a ≤ b
-no_more a b h = grind (arith, ints)
+no_more : (a b c d : ℕ) → (int_le (pos a -ℤ pos b) (pos 0) && int_le (pos c -ℤ pos d) (pos 0)) ≡ true → (a ≤ b) × (c ≤ d)
+no_more a b c d h = (grind (arith, ints), grind (arith, ints))
 
-none_more : (a b : ℕ) → a ≤ b → int_le (pos a -ℤ pos b) (pos 0) ≡ true
-none_more a b h = grind (arith, ints)
+none_more : (a b c d : ℕ) → a ≤ b → c ≤ d → (int_le (pos a -ℤ pos b) (pos 0) && int_le (pos c -ℤ pos d) (pos 0)) ≡ true
+none_more a b c d h k = grind (arith, ints)
 
 module _ (book : List Move) (w : ℕ) where
-  covered_back : is_covered (running book w Hand) ≡ true → IsCovered book w
-  covered_back h =
-      let two = and_parts _ _ h in
-      record { pieces = no_more (came book w Hand) (went book w Hand) two.0; tenths = no_more (came_weight book w Hand) (went_weight book w Hand) two.1 }
-
   pub told_covered : (o : Option Tally) → o ≡ unless_nothing (running book w Hand) → ((t : Tally) → o ≡ Some t → is_covered t ≡ true) → IsCovered book w
   told_covered None h lawful =
-      let two = and_parts _ _ (told_even book w Hand h) in
-      let a = all_gone (came book w Hand) (went book w Hand) (is_int _ (pos 0) two.0) in
-      let b = all_gone (came_weight book w Hand) (went_weight book w Hand) (is_int _ (pos 0) two.1) in
-      record { pieces = omega (arith, a); tenths = omega (arith, b) }
-  told_covered (Some t) h lawful = covered_back (ap is_covered (sym (told_left book w Hand t h).1) ∙ lawful t refl)
+      let even = all_gone (came book w Hand) (went book w Hand) (came_weight book w Hand) (went_weight book w Hand) (told_even book w Hand h) in
+      record { pieces = omega (arith, even.0); tenths = omega (arith, even.1) }
+  told_covered (Some t) h lawful =
+      let two = no_more (came book w Hand) (went book w Hand) (came_weight book w Hand) (went_weight book w Hand) (ap is_covered (sym (told_left book w Hand t h).1) ∙ lawful t refl) in
+      record { pieces = two.0; tenths = two.1 }
 
   pub covered_told : (t : Tally) → Some t ≡ unless_nothing (running book w Hand) → IsCovered book w → is_covered t ≡ true
-  covered_told t h is = ap is_covered (told_left book w Hand t h).1 ∙ and_from _ _ (none_more _ _ is.pieces) (none_more _ _ is.tenths)
+  covered_told t h is = ap is_covered (told_left book w Hand t h).1 ∙ none_more (came book w Hand) (went book w Hand) (came_weight book w Hand) (went_weight book w Hand) is.pieces is.tenths
 
 -- ---- both places outside
 
@@ -166,16 +124,13 @@ module _ (sums : BookSums) (z awb : ℤ) (same : z ≡ awb) (a b c d : ℕ) (han
 module _ (book : List Move) (w : ℕ) (f : FlightDate) where
   pub built_none : None ≡ unless_nothing (running book w (Built f)) → (built book w f).pieces ≡ 0
   built_none h =
-      let two = and_parts _ _ (told_even book w (Built f) h) in
-      let a = all_gone (came book w (Built f)) (went book w (Built f)) (is_int _ (pos 0) two.0) in
-      omega (arith, a)
+      let even = all_gone (came book w (Built f)) (went book w (Built f)) (came_weight book w (Built f)) (went_weight book w (Built f)) (told_even book w (Built f) h) in
+      omega (arith, even.0)
 
   pub built_some : (t : Tally) → Some t ≡ unless_nothing (running book w (Built f)) → is_left t ≡ true → nat_lt 0 (built book w f).pieces ≡ true
   built_some t h left =
-      let same = (told_left book w (Built f) t h).1 in
-      let two = and_parts _ _ (ap is_left (sym same) ∙ left) in
-      let three = more_in (came book w (Built f)) (went book w (Built f)) (came_weight book w (Built f)) (went_weight book w (Built f)) two.0 two.1 in
+      let three = more_in (came book w (Built f)) (went book w (Built f)) (came_weight book w (Built f)) (went_weight book w (Built f)) (ap is_left (sym (told_left book w (Built f) t h).1) ∙ left) in
       positive (came book w (Built f)) (went book w (Built f)) three.0
     where
       positive : (a b : ℕ) → b < a → nat_lt 0 (a - b) ≡ true
-      positive a b h = let more : 0 < a - b = omega (arith, h) in grind (arith, nat_tests)
+      positive a b h = grind (arith, nat_tests)

@@ -156,93 +156,82 @@ waybills_rise First db waybills h = subst RisesByNumber (sym h.2) (ascending-map
 waybills_rise Second db waybills h = h.are.rising
 
 module _ (db : Reading) where
+  -- a table whose rows are put in place of those that some tables have
+  module _ {E : Type 0} (name : TableName) (Holds : List E → Type 0) (of : Tables → List E) (with : List E → Tables → Tables) where
+    table_of : ((t : Tables) → IsHeld name db t → Holds (of t)) → ((xs ys : List E) → Holds xs → Holds ys → xs ≡ ys)
+        → ((t : Tables) (es : List E) → AllByRecursion (λ n. with_own n t (with es t) ≡ with es t) (before name))
+        → ((t : Tables) (es : List E) → Holds es → IsHeld name db (with es t)) → Table db name Holds of
+    table_of is once same held = record { is = is; once = once; put = λ t good es h. (with es t, good_again db t (with es t) (before name) (same t es) good, held t es h) }
+
   pub old_waybill_table : Table db table.Waybill (HoldsOldWaybills db.version db.database) (λ t. t.old_waybills)
-  old_waybill_table = record {
-    is = λ t h. h;
-    once = old_waybills_once db.version db.database;
-    put = λ t good es h. let u = record t { old_waybills = es } in (u, good_again db t u (before table.Waybill) (refl, tt) good, h);
-  }
+  old_waybill_table = table_of table.Waybill (HoldsOldWaybills db.version db.database) (λ t. t.old_waybills) (λ es t. record t { old_waybills = es }) (λ t h. h)
+      (old_waybills_once db.version db.database)
+      (λ t es. (refl, tt)) (λ t es h. h)
 
   pub waybill_table : Table db table.Waybill2 (HoldsWaybills db.version db.database) (λ t. t.waybills)
-  waybill_table = record {
-    is = λ t h. h;
-    once = waybills_once db.version db.database;
-    put = λ t good es h. let u = record t { waybills = es } in (u, good_again db t u (before table.Waybill2) (refl, (refl, tt)) good, h);
-  }
+  waybill_table = table_of table.Waybill2 (HoldsWaybills db.version db.database) (λ t. t.waybills) (λ es t. record t { waybills = es }) (λ t h. h)
+      (waybills_once db.version db.database)
+      (λ t es. (refl, (refl, tt))) (λ t es h. h)
 
   pub stock_table : Table db table.Stock (HoldsStock db.database) (λ t. entries t.stock)
-  stock_table = record {
-    is = λ t h. h;
-    once = held_once {E = StockKey × Stock} 2 stock_row (by_key stock_cmp) stock_agrees HasStockTexts stock_read (λ _. refl) db.database stock_name stock_columns;
-    put = λ t good es h. let u = record t { stock = from_entries {R = stock_cmp} es } in (u, good_again db t u (before table.Stock) (refl, (refl, (refl, tt))) good, map_held stock_cmp stock_total (HoldsStock db.database) es h.are.rising h);
-  }
+  stock_table = table_of table.Stock (HoldsStock db.database) (λ t. entries t.stock) (λ es t. record t { stock = from_entries {R = stock_cmp} es }) (λ t h. h)
+      (held_once {E = StockKey × Stock} 2 stock_row (by_key stock_cmp) stock_agrees HasStockTexts stock_read (λ _. refl) db.database stock_name stock_columns)
+      (λ t es. (refl, (refl, (refl, tt))))
+      (λ t es h. map_held stock_cmp stock_total (HoldsStock db.database) es h.are.rising h)
 
   pub flight_table : Table db table.Flight (HoldsFlight db.database) (λ t. entries t.flights)
-  flight_table = record {
-    is = λ t h. h;
-    once = held_once {E = FlightKey × Flight} 2 flight_row (by_key flight_cmp) flight_agrees HasFlightTexts flight_back (λ _. refl) db.database flight_name flight_columns;
-    put = λ t good es h. let u = record t { flights = from_entries {R = flight_cmp} es } in (u, good_again db t u (before table.Flight) (refl, (refl, (refl, (refl, tt)))) good, map_held flight_cmp flight_total (HoldsFlight db.database) es h.are.rising h);
-  }
+  flight_table = table_of table.Flight (HoldsFlight db.database) (λ t. entries t.flights) (λ es t. record t { flights = from_entries {R = flight_cmp} es }) (λ t h. h)
+      (held_once {E = FlightKey × Flight} 2 flight_row (by_key flight_cmp) flight_agrees HasFlightTexts flight_back (λ _. refl) db.database flight_name flight_columns)
+      (λ t es. (refl, (refl, (refl, (refl, tt)))))
+      (λ t es h. map_held flight_cmp flight_total (HoldsFlight db.database) es h.are.rising h)
 
   pub moves_table : Table db table.Moves (HoldsMoves db.database) (λ t. t.moves)
-  moves_table = record {
-    is = λ t h. h;
-    once = held_once {E = Move} 1 move_shown (by_number move_id) moves_agrees HasMovesTexts move_read (λ _. refl) db.database moves_name moves_columns;
-    put = λ t good es h. let u = record t { moves = es } in (u, good_again db t u (before table.Moves) (refl, (refl, (refl, (refl, (refl, tt))))) good, h);
-  }
+  moves_table = table_of table.Moves (HoldsMoves db.database) (λ t. t.moves) (λ es t. record t { moves = es }) (λ t h. h)
+      (held_once {E = Move} 1 move_shown (by_number move_id) moves_agrees HasMovesTexts move_read (λ _. refl) db.database moves_name moves_columns)
+      (λ t es. (refl, (refl, (refl, (refl, (refl, tt)))))) (λ t es h. h)
 
   pub expected_table : Table db table.Expected (HoldsExpected db.database) (λ t. entries t.expected)
-  expected_table = record {
-    is = λ t h. h;
-    once = held_once {E = ExpectedKey × Expected} 3 expected_row (by_key expected_cmp) expected_agrees HasExpectedTexts expected_back (λ _. refl) db.database expected_name expected_columns;
-    put = λ t good es h. let u = record t { expected = from_entries {R = expected_cmp} es } in (u, good_again db t u (before table.Expected) (refl, (refl, (refl, (refl, (refl, (refl, tt)))))) good, map_held expected_cmp expected_total (HoldsExpected db.database) es h.are.rising h);
-  }
+  expected_table = table_of table.Expected (HoldsExpected db.database) (λ t. entries t.expected) (λ es t. record t { expected = from_entries {R = expected_cmp} es }) (λ t h. h)
+      (held_once {E = ExpectedKey × Expected} 3 expected_row (by_key expected_cmp) expected_agrees HasExpectedTexts expected_back (λ _. refl) db.database expected_name expected_columns)
+      (λ t es. (refl, (refl, (refl, (refl, (refl, (refl, tt)))))))
+      (λ t es h. map_held expected_cmp expected_total (HoldsExpected db.database) es h.are.rising h)
 
   pub part_table : Table db table.Part (HoldsPart db.database) (λ t. entries t.parts)
-  part_table = record {
-    is = λ t h. h;
-    once = held_once {E = PartKey × List ℕ} 4 part_row (by_key part_cmp) part_agrees HasPartTexts part_back (λ _. refl) db.database part_name part_columns;
-    put = λ t good es h. let u = record t { parts = from_entries {R = part_cmp} es } in (u, good_again db t u (before table.Part) (refl, (refl, (refl, (refl, (refl, (refl, (refl, tt))))))) good, map_held part_cmp part_total (HoldsPart db.database) es h.are.rising h);
-  }
+  part_table = table_of table.Part (HoldsPart db.database) (λ t. entries t.parts) (λ es t. record t { parts = from_entries {R = part_cmp} es }) (λ t h. h)
+      (held_once {E = PartKey × List ℕ} 4 part_row (by_key part_cmp) part_agrees HasPartTexts part_back (λ _. refl) db.database part_name part_columns)
+      (λ t es. (refl, (refl, (refl, (refl, (refl, (refl, (refl, tt))))))))
+      (λ t es h. map_held part_cmp part_total (HoldsPart db.database) es h.are.rising h)
 
   pub trail_table : Table db table.Trail (HoldsTrail db.database) (λ t. t.trail)
-  trail_table = record {
-    is = λ t h. h;
-    once = held_once {E = TrailLine} 1 trail_shown (by_number trail_id) trail_agrees HasTrailTexts trail_read (λ _. refl) db.database trail_name trail_columns;
-    put = λ t good es h. let u = record t { trail = es } in (u, good_again db t u (before table.Trail) (refl, (refl, (refl, (refl, (refl, (refl, (refl, (refl, tt)))))))) good, h);
-  }
+  trail_table = table_of table.Trail (HoldsTrail db.database) (λ t. t.trail) (λ es t. record t { trail = es }) (λ t h. h)
+      (held_once {E = TrailLine} 1 trail_shown (by_number trail_id) trail_agrees HasTrailTexts trail_read (λ _. refl) db.database trail_name trail_columns)
+      (λ t es. (refl, (refl, (refl, (refl, (refl, (refl, (refl, (refl, tt))))))))) (λ t es h. h)
 
   pub outbox_table : Table db table.Outbox (HoldsOutbox db.database) (λ t. t.outbox)
-  outbox_table = record {
-    is = λ t h. h;
-    once = held_once {E = Message} 1 message_shown (by_number message_id) outbox_agrees HasOutboxTexts message_read (λ _. refl) db.database outbox_name outbox_columns;
-    put = λ t good es h. let u = record t { outbox = es } in (u, good_again db t u (before table.Outbox) (refl, (refl, (refl, (refl, (refl, (refl, (refl, (refl, (refl, tt))))))))) good, h);
-  }
+  outbox_table = table_of table.Outbox (HoldsOutbox db.database) (λ t. t.outbox) (λ es t. record t { outbox = es }) (λ t h. h)
+      (held_once {E = Message} 1 message_shown (by_number message_id) outbox_agrees HasOutboxTexts message_read (λ _. refl) db.database outbox_name outbox_columns)
+      (λ t es. (refl, (refl, (refl, (refl, (refl, (refl, (refl, (refl, (refl, tt)))))))))) (λ t es h. h)
 
   pub kept_key_table : Table db table.KeptKey (HoldsKeptKey db.database) (λ t. entries t.kept)
-  kept_key_table = record {
-    is = λ t h. h;
-    once = held_once {E = List ℕ × Kept} 1 kept_row (by_key kept_cmp) kept_key_agrees HasKeptKeyTexts kept_key_back (λ _. refl) db.database kept_key_name kept_key_columns;
-    put = λ t good es h. let u = record t { kept = from_entries {R = kept_cmp} es } in (u, good_again db t u (before table.KeptKey) (refl, (refl, (refl, (refl, (refl, (refl, (refl, (refl, (refl, (refl, tt)))))))))) good, map_held kept_cmp kept_total (HoldsKeptKey db.database) es h.are.rising h);
-  }
+  kept_key_table = table_of table.KeptKey (HoldsKeptKey db.database) (λ t. entries t.kept) (λ es t. record t { kept = from_entries {R = kept_cmp} es }) (λ t h. h)
+      (held_once {E = List ℕ × Kept} 1 kept_row (by_key kept_cmp) kept_key_agrees HasKeptKeyTexts kept_key_back (λ _. refl) db.database kept_key_name kept_key_columns)
+      (λ t es. (refl, (refl, (refl, (refl, (refl, (refl, (refl, (refl, (refl, (refl, tt)))))))))))
+      (λ t es h. map_held kept_cmp kept_total (HoldsKeptKey db.database) es h.are.rising h)
 
   pub kept_text_table : Table db table.KeptText (HoldsKeptText db.database) (λ t. entries t.kept_texts)
-  kept_text_table = record {
-    is = λ t h. h;
-    once = held_once {E = List ℕ × ℤ} 1 kept_text_row (by_key kept_text_cmp) kept_text_agrees HasKeptTextTexts kept_text_back (λ _. refl) db.database kept_text_name kept_text_columns;
-    put = λ t good es h. let u = record t { kept_texts = from_entries {R = kept_text_cmp} es } in (u, good_again db t u (before table.KeptText) (refl, (refl, (refl, (refl, (refl, (refl, (refl, (refl, (refl, (refl, (refl, tt))))))))))) good, map_held kept_text_cmp kept_text_total (HoldsKeptText db.database) es h.are.rising h);
-  }
+  kept_text_table = table_of table.KeptText (HoldsKeptText db.database) (λ t. entries t.kept_texts) (λ es t. record t { kept_texts = from_entries {R = kept_text_cmp} es }) (λ t h. h)
+      (held_once {E = List ℕ × ℤ} 1 kept_text_row (by_key kept_text_cmp) kept_text_agrees HasKeptTextTexts kept_text_back (λ _. refl) db.database kept_text_name kept_text_columns)
+      (λ t es. (refl, (refl, (refl, (refl, (refl, (refl, (refl, (refl, (refl, (refl, (refl, tt))))))))))))
+      (λ t es h. map_held kept_text_cmp kept_text_total (HoldsKeptText db.database) es h.are.rising h)
 
   pub counts_table : Table db table.Counts (HoldsCounts db.database) (λ t. entries t.counts)
-  counts_table = record {
-    is = λ t h. h;
-    once = held_once {E = CountKey × Count} 2 count_row (by_key count_cmp) counts_agrees HasCountsTexts count_read (λ _. refl) db.database counts_name counts_columns;
-    put = λ t good es h. let u = record t { counts = from_entries {R = count_cmp} es } in (u, good_again db t u (before table.Counts) (refl, (refl, (refl, (refl, (refl, (refl, (refl, (refl, (refl, (refl, (refl, (refl, tt)))))))))))) good, map_held count_cmp count_total (HoldsCounts db.database) es h.are.rising h);
-  }
+  counts_table = table_of table.Counts (HoldsCounts db.database) (λ t. entries t.counts) (λ es t. record t { counts = from_entries {R = count_cmp} es }) (λ t h. h)
+      (held_once {E = CountKey × Count} 2 count_row (by_key count_cmp) counts_agrees HasCountsTexts count_read (λ _. refl) db.database counts_name counts_columns)
+      (λ t es. (refl, (refl, (refl, (refl, (refl, (refl, (refl, (refl, (refl, (refl, (refl, (refl, tt)))))))))))))
+      (λ t es h. map_held count_cmp count_total (HoldsCounts db.database) es h.are.rising h)
 
   pub build_table : Table db table.Build (HoldsBuild db.database) (λ t. entries t.builds)
-  build_table = record {
-    is = λ t h. h;
-    once = held_once {E = BuildKey × Build} 3 build_row (by_key build_cmp) build_agrees HasBuildTexts build_read (λ _. refl) db.database build_name build_columns;
-    put = λ t good es h. let u = record t { builds = from_entries {R = build_cmp} es } in (u, good_again db t u (before table.Build) (refl, (refl, (refl, (refl, (refl, (refl, (refl, (refl, (refl, (refl, (refl, (refl, (refl, tt))))))))))))) good, map_held build_cmp build_total (HoldsBuild db.database) es h.are.rising h);
-  }
+  build_table = table_of table.Build (HoldsBuild db.database) (λ t. entries t.builds) (λ es t. record t { builds = from_entries {R = build_cmp} es }) (λ t h. h)
+      (held_once {E = BuildKey × Build} 3 build_row (by_key build_cmp) build_agrees HasBuildTexts build_read (λ _. refl) db.database build_name build_columns)
+      (λ t es. (refl, (refl, (refl, (refl, (refl, (refl, (refl, (refl, (refl, (refl, (refl, (refl, (refl, tt))))))))))))))
+      (λ t es h. map_held build_cmp build_total (HoldsBuild db.database) es h.are.rising h)

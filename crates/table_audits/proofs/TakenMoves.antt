@@ -4,7 +4,8 @@ use Rattle.shipment_machine.specs.declared.moves.Move as cargo
 use Rattle.station_schema.specs.Tables.{Move}
 use Rattle.table_audits.specs.declared.book.BookBeside.{BookBeside}
 use Rattle.table_audits.proofs.DepartedLaws.{broken, marked_then, may_build, may_not_build, no_marks, stays_pop, stays_push}
-use Rattle.table_audits.proofs.Lists.{all_pop, all_push}
+use Rattle.sqlite_keyed.proofs.ListLemmas.{all-append}
+use Rattle.table_audits.proofs.Lists.{all_pop}
 use Rattle.table_audits.proofs.NumberLaws.{numbered_pop, numbered_push}
 use Rattle.table_audits.proofs.RowsLaws.{good_rows, rows_good}
 
@@ -46,7 +47,7 @@ module _ (t : Tables) where
     pub good_more : AreGoodMoves t moves → move_id row ≡ pos (length moves + 1) → is_marked (marks_of (listed_in t) past) p.to ≡ false → AreGoodMoves t (moves ++ row ∷ [])
     good_more good number free = record {
       numbers = numbered_push move_id moves row good.numbers number;
-      each = all_push (IsGoodRow t) moves row good.each posted.good;
+      each = all-append (IsGoodRow t) moves (row ∷ []) good.each (posted.good, tt);
       stays = λ f. subst (StaysDeparted f) (sym (one_more_move moves row)) (stays_push f past (move_by row) (good.stays f) (may_build (listed_in t) distinct past (move_by row) p posted.posted free f));
     }
 
@@ -79,9 +80,6 @@ module _ (t : Tables) where
 
   pub bad_before : (rows : List MoveRow) (row : MoveRow) (audit : BookAudit) (b : Bool) → b ≡ false → IsBookAs t (map move_meant rows) audit b → IsBookAs t (map move_meant (rows ++ row ∷ [])) audit b
   bad_before rows row audit b e was = subst (λ ms. IsBookAs t ms audit b) (sym (one_more_row rows row)) (still_bad (map move_meant rows) (move_meant row) audit b e was)
-
-  pub bad_now : (rows : List MoveRow) (row : MoveRow) → (AreGoodMoves t (map move_meant rows ++ move_meant row ∷ []) → ⊥) → AreGoodMoves t (map move_meant (rows ++ row ∷ [])) → ⊥
-  bad_now rows row never good = never (subst (AreGoodMoves t) (one_more_row rows row) good)
 
   good_now : (rows : List MoveRow) (row : MoveRow) (audit : BookAudit) (b : Bool) → b ≡ true → IsBookOf t (map move_meant rows ++ move_meant row ∷ []) audit → IsBookAs t (map move_meant (rows ++ row ∷ [])) audit b
   good_now rows row audit true e book = subst (λ ms. IsBookOf t ms audit) (sym (one_more_row rows row)) book
@@ -120,9 +118,6 @@ module _ (t : Tables) where
     each = rows_good t (record { rows = all.rows; numbers = all.numbers; moves = all.moves });
     stays = all.departed;
   }
-
-  pub departures_in : AreMoves t → AreDepartures t
-  departures_in all = record { closed = all.closed; departed = all.departed }
 
   pub balances_in : AreMoves t → AreBalances t
   balances_in all = record { stocked = all.stocked; covered = all.covered; within = all.within; empty = all.empty; room = all.room }

@@ -1,7 +1,6 @@
 -- In a database with the tables that a station declares, typed tables that are lawful are held.
-use Rattle.table_audits.proofs.Common.{AllByRecursion, Bool, Database, HasCountsTexts, HasOldWaybillTexts, HoldsStation, IsAscii-airport, IsGood, IsHeld, IsLawfulTable, IsStation, IsStationOf, IsUtf8-from_ascii, List, Second, Station, TableName, [], and_parts, book_in, build_typed, counts_typed, expected_typed, flight_typed, is_airport, is_station, is_utf8-from_IsUtf8, kept_key_typed, kept_text_typed, list_all, moves_typed, new_row, old_waybill_typed, outbox_typed, part_typed, pos, read_as, station_typed, stock_typed, subst, sym, tables_of, trail_typed, true, waybill_typed, ℕ, ℤ, ◌∷◌, ◌≡◌}
+use Rattle.table_audits.proofs.Common.{AllByRecursion, Bool, Database, HasCountsTexts, HasOldWaybillTexts, HoldsStation, IsAscii-airport, IsGood, IsHeld, IsLawfulTable, IsStation, IsStationOf, IsUtf8-from_ascii, List, Second, Station, TableName, [], and_parts, book_in, build_typed, counts_typed, expected_typed, flight_typed, is_airport, is_station, is_utf8-from_IsUtf8, kept_key_typed, kept_text_typed, list_all, moves_typed, new_row, old_waybill_typed, outbox_typed, part_typed, pos, read_as, station_typed, stock_typed, subst, sym, tables_of, trail_typed, true, waybill_typed, ℕ, ℤ, ◌∷◌, ◌≡◌, is_int}
 use Rattle.table_audits.specs.declared.name.TableName.TheVariants as table
-use Rattle.table_audits.proofs.Declared.{is_it}
 use Rattle.table_audits.proofs.RowTexts.{waybill_texts, stock_texts, flight_texts, moves_texts, expected_texts, part_texts, trail_texts, outbox_texts, kept_key_texts, kept_text_texts, build_texts}
 
 each : {X : Type 0} (test : X → Bool) (P : X → Type 0) → ((x : X) → test x ≡ true → P x) → (xs : List X) → list_all test xs ≡ true → AllByRecursion P xs
@@ -23,8 +22,8 @@ only_row (x ∷ []) h =
     let a = and_parts _ _ h in
     let b = and_parts _ _ a.0 in
     let c = and_parts _ _ b.0 in
-    let id = is_it x.id (pos 1) c.0 in
-    let version = is_it x.version (pos 2) b.1 in
+    let id = is_int x.id (pos 1) c.0 in
+    let version = is_int x.version (pos 2) b.1 in
     (x.airport, x.confirmed, (λ k. record { id = id k; airport = x.airport; version = version k; confirmed = x.confirmed } ∷ []), c.1)
 only_row (x ∷ y ∷ rows) h = absurd (cc)
 

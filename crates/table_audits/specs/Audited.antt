@@ -1,15 +1,8 @@
 -- Lawfulness of the rows of `moves` with the waybills and the flights, apart from balances.
 use Rattle.std.specs.Prelude.{pos, Bool, ◌&&◌, ◌↔◌, None, IsTrue, List, [], map}
-use Rattle.std.specs.Option.{unwrap_or}
-use Rattle.std.specs.List.{AllByRecursion, list_all, list_any}
-use Rattle.shipment_machine.specs.declared.flight.FlightDate.{FlightDate}
+use Rattle.table_audits.specs.Common.{unwrap_or, AllByRecursion, list_all, list_any, FlightDate, is_closed, IsLawfulMove, departs_with, StaysDeparted, Tables, Flight, FlightKey, Waybill, move_id, AreNumbered, flight_date_of, is_move_row}
 use Rattle.shipment_machine.specs.declared.moves.Move as cargo
-use Rattle.shipment_machine.specs.Effect.{is_closed}
-use Rattle.shipment_machine.specs.Lawful.{is_pair, IsLawfulMove, departs_with, StaysDeparted}
-use Rattle.station_schema.specs.Tables.{Tables, Flight, FlightKey, Waybill, move_id}
-use Rattle.row_codec.specs.Numbers.{AreNumbered}
-use Rattle.row_codec.specs.Flights.{flight_date_of}
-use Rattle.row_codec.specs.Moves.{is_move_row}
+use Rattle.shipment_machine.specs.Lawful.{is_pair}
 use Rattle.table_audits.specs.Lawful.{cargo_in}
 use Rattle.table_audits.specs.Rows.{has_waybill}
 

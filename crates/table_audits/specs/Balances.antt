@@ -1,24 +1,11 @@
 -- Lawful balances of a station, and the tests of a book's sums for them.
 use Rattle.std.specs.Prelude.{◌≡◌, ◌≤◌, ℕ, ℤ, pos, neg_ℤ, int_lt, int_le, ◌==◌, Bool, false, not, ◌&&◌, ◌||◌, if◌then◌else◌, IsTrue, Option, Some, None, List, length, slice_get}
-use Rattle.std.specs.List.{filter}
-use Rattle.std.specs.Ordering.{int_eq}
-use Rattle.std.specs.BTreeMap.{get}
-use Rattle.shipment_machine.specs.declared.amount.Amount.{Amount}
-use Rattle.shipment_machine.specs.declared.flight.FlightDate.{FlightDate}
-use Rattle.shipment_machine.specs.declared.moves.Place.{Place}
-use Rattle.shipment_machine.specs.Amount.{amount, plus, fits}
-use Rattle.shipment_machine.specs.Book.{built, taken_and_found, waybills_on}
-use Rattle.shipment_machine.specs.Effect.{is_closed}
-use Rattle.shipment_machine.specs.Lawful.{is_outside, IsStocked, IsCovered}
-use Rattle.station_schema.specs.Tables.{Tables, Flight, FlightKey}
-use Rattle.row_codec.specs.Numbers.{natural, is_set}
+use Rattle.table_audits.specs.Common.{filter, int_eq, get, Amount, FlightDate, Place, amount, plus, fits, built, taken_and_found, waybills_on, is_closed, is_outside, IsStocked, IsCovered, Tables, Flight, FlightKey, natural, is_set, Tally, most_waybills}
 use Rattle.table_audits.specs.Lawful.{cargo_in}
 use Rattle.table_audits.specs.Sums.{count_place_cmp}
-use Rattle.row_codec.specs.declared.tally.Tally.{Tally}
 use Rattle.table_audits.specs.declared.sums.CountPlace.{CountPlace}
 use Rattle.table_audits.specs.declared.sums.BuildPlace.{BuildPlace}
 use Rattle.table_audits.specs.declared.sums.BookSums.{BookSums}
-use Rattle.imp_fields.specs.Flight.{most_waybills}
 
 -- no place of the station gave more than it got, no more was returned than received, what came is
 -- within bounds, closed flights are empty, and each flight has at most 500 waybills

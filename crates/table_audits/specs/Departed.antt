@@ -1,11 +1,6 @@
 -- Departed flights, by their index in a list of flights.
 use Rattle.std.specs.Prelude.{◌≡◌, pos, Bool, true, false, if◌then◌else◌, List, map, slice_get, slice_set}
-use Rattle.std.specs.Option.{unwrap_or}
-use Rattle.std.specs.Ordering.{int_eq}
-use Rattle.std.specs.List.{list_any}
-use Rattle.shipment_machine.specs.declared.flight.FlightDate.{FlightDate}
-use Rattle.shipment_machine.specs.declared.moves.Move.{Move}
-use Rattle.shipment_machine.specs.Lawful.{departs_with, StaysDeparted}
+use Rattle.table_audits.specs.Common.{unwrap_or, int_eq, list_any, FlightDate, Move, departs_with, StaysDeparted}
 use Rattle.table_audits.specs.declared.sums.Spot.{Spot}
 use Rattle.table_audits.specs.declared.sums.Spot.TheVariants.{Plain, OnFlight}
 

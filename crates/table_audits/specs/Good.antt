@@ -1,12 +1,7 @@
 -- A database, read as a version, that has the tables of a station, and their lawfulness, table by
 -- table.
 use Rattle.std.specs.Prelude.{◌≡◌, ℕ, ℤ, List, [], ◌∷◌}
-use Rattle.std.specs.List.{AllByRecursion}
-use Rattle.std.specs.FinMap.{entries}
-use Rattle.table_load.specs.Reading.{Reading, station_read, HoldsOldWaybills, HoldsWaybills}
-use Rattle.station_schema.specs.Tables.{Tables}
-use Rattle.table_load.specs.Held.{HoldsStock, HoldsFlight, HoldsMoves, HoldsExpected, HoldsPart, HoldsTrail, HoldsOutbox, HoldsKeptKey, HoldsKeptText, HoldsCounts, HoldsBuild}
-use Rattle.table_load.specs.Verdict.{one_row, new_row}
+use Rattle.table_audits.specs.Common.{AllByRecursion, entries, Reading, station_read, HoldsOldWaybills, HoldsWaybills, Tables, HoldsStock, HoldsFlight, HoldsMoves, HoldsExpected, HoldsPart, HoldsTrail, HoldsOutbox, HoldsKeptKey, HoldsKeptText, HoldsCounts, HoldsBuild, one_row, new_row}
 use Rattle.table_audits.specs.declared.name.TableName.{TableName}
 use Rattle.table_audits.specs.declared.name.TableName.TheVariants.{Station, Waybill, Waybill2, Stock, Flight, Moves, Expected, Part, Trail, Outbox, KeptKey, KeptText, Counts, Build}
 use Rattle.table_audits.specs.Lawful.{IsLawfulTable}

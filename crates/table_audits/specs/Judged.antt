@@ -1,18 +1,6 @@
 -- The audit of one table after another, and what is kept of each.
 use Rattle.std.specs.Prelude.{◌≡◌, List, [], ◌∷◌, Bool, true, false, IsTrue, length, map, Result, Ok, Err}
-use Rattle.std.specs.FinMap.{entries}
-use Rattle.sqlite.specs.declared.error.Error.{Error}
-use Rattle.sqlite.specs.State.{HasCleanDisk}
-use Rattle.sqlite.specs.Held.{Held, state}
-use Rattle.sqlite_trees.specs.declared.store.Store.{Ghosts}
-use Rattle.station_schema.specs.Effects.{Reads}
-use Rattle.station_schema.specs.Tables.{Tables}
-use Rattle.station_rows.specs.Meant.{waybill_meant}
-use Rattle.row_codec.specs.Counts.{running}
-use Rattle.row_codec.specs.Meaning.{airport_in, confirmed_in}
-use Rattle.row_codec.specs.Moves.{book_in}
-use Rattle.table_load.specs.Held.{flight_entry, part_entry}
-use Rattle.table_load.specs.Reading.{Reading, read_as}
+use Rattle.table_audits.specs.Common.{entries, Error, HasCleanDisk, Held, state, Ghosts, Reads, Tables, waybill_meant, running, airport_in, confirmed_in, book_in, flight_entry, part_entry, Reading, read_as}
 use Rattle.table_audits.specs.declared.known.Known.{Known}
 use Rattle.table_audits.specs.declared.name.TableName.{TableName}
 use Rattle.table_audits.specs.declared.name.TableName.TheVariants as table

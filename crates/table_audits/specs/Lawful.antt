@@ -1,32 +1,8 @@
 -- Lawfulness of each table of a station: of its own values, and with the tables before it.
 use Rattle.std.specs.Prelude.{◌≡◌, ◌≤◌, ℕ, [], false, ◌↔◌, IsTrue, IsSome, IfSome, Some, length}
-use Rattle.std.specs.List.{AllByRecursion, list_all, list_any}
-use Rattle.std.specs.Str.{bytes_eq}
-use Rattle.std.specs.FinMap.{entries}
-use Rattle.imp_fields.specs.Characters.{is_line}
-use Rattle.agent_stock.specs.declared.stock.Holder.TheVariants.{Used}
-use Rattle.shipment_machine.specs.declared.flight.FlightDate.{FlightDate}
-use Rattle.shipment_machine.specs.declared.moves.Part.{Part}
-use Rattle.shipment_machine.specs.declared.moves.Place.{Place}
-use Rattle.shipment_machine.specs.Amount.{fits}
-use Rattle.shipment_machine.specs.Book.{built, taken_and_found, waybills_on}
-use Rattle.shipment_machine.specs.Cargo.{Cargo}
-use Rattle.shipment_machine.specs.Effect.{is_closed}
-use Rattle.shipment_machine.specs.Lawful.{is_outside, IsStocked, IsCovered, IsLawfulMove, IsLawfulAmount, departs_with, StaysDeparted}
-use Rattle.station_schema.specs.Tables.{Tables, move_id, trail_id, message_id}
-use Rattle.row_codec.specs.Numbers.{AreNumbered}
-use Rattle.row_codec.specs.Waybills.{is_waybill_row}
-use Rattle.row_codec.specs.Stock.{AreStockRows}
-use Rattle.row_codec.specs.Flights.{is_flight_row}
-use Rattle.row_codec.specs.Moves.{book_in, is_move_row}
-use Rattle.row_codec.specs.Counts.{AreCounts, AreBuilds}
-use Rattle.row_codec.specs.Manifests.{is_expected_row, is_part_row}
-use Rattle.row_codec.specs.Logs.{is_trail_row, is_message_row}
-use Rattle.row_codec.specs.Replies.{is_kept_row, AreRequests, is_kept_text_row}
-use Rattle.row_codec.specs.Meaning.{is_station, meaning_of}
+use Rattle.table_audits.specs.Common.{AllByRecursion, list_all, list_any, bytes_eq, entries, is_line, Used, FlightDate, Part, Place, fits, built, taken_and_found, waybills_on, Cargo, is_closed, is_outside, IsStocked, IsCovered, IsLawfulMove, IsLawfulAmount, departs_with, StaysDeparted, Tables, move_id, trail_id, message_id, AreNumbered, is_waybill_row, AreStockRows, is_flight_row, book_in, is_move_row, AreCounts, AreBuilds, is_expected_row, is_part_row, is_trail_row, is_message_row, is_kept_row, AreRequests, is_kept_text_row, is_station, meaning_of, most_waybills}
 use Rattle.table_audits.specs.declared.name.TableName.{TableName}
 use Rattle.table_audits.specs.declared.name.TableName.TheVariants as table
-use Rattle.imp_fields.specs.Flight.{most_waybills}
 
 abbrev pub cargo_in : Tables → Cargo
 cargo_in t = (meaning_of t).cargo

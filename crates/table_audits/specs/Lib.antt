@@ -1,3 +1,4 @@
+pub mod Common
 pub mod Audited
 pub mod Balances
 pub mod Departed

@@ -1,14 +1,7 @@
 -- The posting of a row of `moves`.
 use Rattle.std.specs.Prelude.{◌≡◌, pos, true, Option, Some, None, List}
-use Rattle.std.specs.List.{list_all}
-use Rattle.std.specs.FinMap.{entries}
-use Rattle.shipment_machine.specs.declared.flight.FlightDate.{FlightDate}
-use Rattle.shipment_machine.specs.declared.moves.Move.{Move}
-use Rattle.shipment_machine.specs.declared.moves.Place.{Place}
-use Rattle.shipment_machine.specs.Lawful.{IsNoted, IsLawfulMove}
+use Rattle.table_audits.specs.Common.{list_all, entries, FlightDate, Move, Place, IsNoted, IsLawfulMove, is_flight_row, move_by, is_move_row}
 use Rattle.station_schema.specs.Tables as table
-use Rattle.row_codec.specs.Flights.{is_flight_row}
-use Rattle.row_codec.specs.Moves.{move_by, is_move_row}
 use Rattle.table_audits.specs.Lawful.{cargo_in}
 use Rattle.table_audits.specs.Order.{RisesByNumber}
 use Rattle.table_audits.specs.declared.sums.Spot.{Spot}

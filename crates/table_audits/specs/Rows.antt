@@ -1,16 +1,6 @@
 -- Rows that are lawful by themselves and with the rows of the tables before.
 use Rattle.std.specs.Prelude.{ℕ, ℤ, pos, int_le, ◌+ℤ◌, ◌*ℤ◌, Bool, IsTrue, ◌&&◌, not, List}
-use Rattle.std.specs.Ordering.{int_eq}
-use Rattle.std.specs.Str.{bytes_eq}
-use Rattle.std.specs.FinMap.{FinMap, contains_key}
-use Rattle.sqlite_keyed.specs.Keyed.{has_key}
-use Rattle.station_schema.specs.Tables.{Waybill, waybill_id, Stock, StockKey, Flight, FlightKey, Expected, ExpectedKey, PartKey, TrailLine, kept_text_cmp}
-use Rattle.row_codec.specs.Waybills.{is_waybill_row}
-use Rattle.row_codec.specs.Stock.{is_stock_row}
-use Rattle.row_codec.specs.Flights.{is_flight_row}
-use Rattle.row_codec.specs.Manifests.{is_expected_row}
-use Rattle.row_codec.specs.Logs.{is_trail_row}
-use Rattle.awb_number.specs.Number.{serials}
+use Rattle.table_audits.specs.Common.{int_eq, bytes_eq, FinMap, contains_key, has_key, Waybill, waybill_id, Stock, StockKey, Flight, FlightKey, Expected, ExpectedKey, PartKey, TrailLine, kept_text_cmp, is_waybill_row, is_stock_row, is_flight_row, is_expected_row, is_trail_row, serials}
 
 -- in range, and at least a tenth a piece
 abbrev pub is_lawful_waybill : Waybill → Bool

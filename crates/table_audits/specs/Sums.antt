@@ -1,22 +1,6 @@
 -- The sums of a book's moves, for each waybill at each place.
 use Rattle.std.specs.Prelude.{◌≡◌, ◌≢◌, ℕ, ℤ, pos, true, false, map, Option, Some, None, List, slice_get}
-use Rattle.std.specs.Option.{option_map}
-use Rattle.std.specs.Ordering.{int_cmp, nat_cmp, ordering_then}
-use Rattle.std.specs.declared.cmp.Ordering.{Ordering}
-use Rattle.std.specs.declared.cmp.Ordering.TheVariants.{Less}
-use Rattle.sqlite.specs.Tree.{IsAscending}
-use Rattle.std.specs.List.{AllByRecursion}
-use Rattle.std.specs.BTreeMap.{get}
-use Rattle.shipment_machine.specs.declared.flight.FlightDate.{FlightDate}
-use Rattle.shipment_machine.specs.declared.moves.Move.{Move}
-use Rattle.shipment_machine.specs.declared.moves.Place.{Place}
-use Rattle.shipment_machine.specs.declared.moves.Place.TheVariants.{Built}
-use Rattle.station_schema.specs.Tables.{Count, CountKey, Build, BuildKey, Flight, FlightKey, flight_cmp}
-use Rattle.row_codec.specs.Counts.{Sums, build_row, count_in, count_row, unless_nothing}
-use Rattle.row_codec.specs.Flights.{is_designator, flight_key}
-use Rattle.row_codec.specs.Moves.{place_code}
-use Rattle.row_codec.specs.Sums.{is_built}
-use Rattle.row_codec.specs.declared.tally.Tally.{Tally}
+use Rattle.table_audits.specs.Common.{option_map, int_cmp, nat_cmp, ordering_then, Ordering, Less, IsAscending, AllByRecursion, get, FlightDate, Move, Place, Built, Count, CountKey, Build, BuildKey, Flight, FlightKey, flight_cmp, Sums, build_row, count_in, count_row, unless_nothing, is_designator, flight_key, place_code, is_built, Tally}
 use Rattle.table_audits.specs.declared.sums.CountPlace.{CountPlace}
 use Rattle.table_audits.specs.declared.sums.BuildPlace.{BuildPlace}
 use Rattle.table_audits.specs.declared.sums.BookSums.{BookSums}

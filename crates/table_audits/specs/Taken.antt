@@ -1,20 +1,7 @@
 -- The audit of a table whose rows are added one after another.
 use Rattle.std.specs.Prelude.{◌≡◌, ◌↔◌, ◌++◌, ◌∷◌, [], ℕ, ℤ, Bool, true, false, nat_le, if◌then◌else◌, IsTrue, Option, Some, None, List, length, map}
-use Rattle.std.specs.List.{AllByRecursion, list_all}
-use Rattle.shipment_machine.specs.declared.flight.FlightDate.{FlightDate}
-use Rattle.shipment_machine.specs.Lawful.{StaysDeparted}
-use Rattle.station_rows.specs.Meant.{move_meant, waybill_meant, trail_meant, message_meant}
-use Rattle.station_rows.specs.declared.moves.MoveRow.{MoveRow}
-use Rattle.station_rows.specs.declared.outbox.MessageRow.{MessageRow}
-use Rattle.station_rows.specs.declared.trail.TrailRow.{TrailRow}
-use Rattle.station_schema.specs.Tables.{Tables, Kept, Move, Waybill, move_id, trail_id, message_id}
-use Rattle.row_codec.specs.Counts.{running}
-use Rattle.row_codec.specs.Moves.{move_by}
-use Rattle.row_codec.specs.Numbers.{AreNumbered}
-use Rattle.row_codec.specs.Replies.{is_kept_row}
-use Rattle.station_core.specs.Told.{IsRequest}
-use Rattle.table_load.specs.Held.{flight_entry, kept_key_entry}
-use Rattle.table_load.specs.declared.kept_key.KeptKeyEntry.{KeptKeyEntry}
+use Rattle.table_audits.specs.Common.{AllByRecursion, list_all, FlightDate, StaysDeparted, move_meant, waybill_meant, trail_meant, message_meant, MoveRow, MessageRow, TrailRow, Tables, Kept, Waybill, move_id, trail_id, message_id, running, move_by, AreNumbered, is_kept_row, IsRequest, flight_entry, kept_key_entry, KeptKeyEntry}
+use Rattle.station_schema.specs.Tables.{Move}
 use Rattle.table_audits.specs.Departed.{marks_of}
 use Rattle.table_audits.specs.Order.{RisesByNumber}
 use Rattle.table_audits.specs.Posted.{AreBeside, IsGoodRow, listed_in}

@@ -1,9 +1,6 @@
 -- The result of the audit of a database.
 use Rattle.std.specs.Prelude.{◌≡◌, Bool, true, false, IsTrue, length, Result, Ok, Err}
-use Rattle.table_load.specs.Reading.{Reading, station_read}
-use Rattle.station_schema.specs.Tables.{Tables}
-use Rattle.row_codec.specs.Meaning.{airport_in, confirmed_in}
-use Rattle.table_load.specs.Verdict.{Verdict, no_station, damaged, other_version, one_row}
+use Rattle.table_audits.specs.Common.{Reading, station_read, Tables, airport_in, confirmed_in, Verdict, no_station, damaged, other_version, one_row}
 use Rattle.table_audits.specs.declared.unfit.Unfit.{Unfit}
 use Rattle.table_audits.specs.declared.unfit.Unfit.TheVariants.{NoStation, OtherVersion, Unlawful}
 use Rattle.table_audits.specs.declared.state.FoundState.{FoundState}

@@ -1,16 +1,7 @@
 ghost use Rattle.std.specs.Prelude.{◌≡◌, ◌≤◌, ◌+◌, ◌&&◌, ◌↔◌, ℕ, nat_le, IsTrue, List, length, map, slice_get};
-ghost use Rattle.std.specs.BTreeMap.{IsOrdered, get};
-ghost use Rattle.std.specs.FinMap.{entries};
-ghost use Rattle.std.specs.List.{list_all};
-ghost use Rattle.shipment_machine.specs.declared.flight.FlightDate.{FlightDate};
-ghost use Rattle.table_load.specs.Held.{flight_entry};
-ghost use Rattle.station_schema.specs.Tables.{Tables};
-ghost use Rattle.row_codec.specs.Counts.{running};
-ghost use Rattle.row_codec.specs.Flights.{is_flight_row};
-ghost use Rattle.row_codec.specs.Moves.{book_in};
+ghost use Rattle.table_audits.specs.Common.{IsOrdered, get, entries, list_all, FlightDate, flight_entry, Tables, running, is_flight_row, book_in, most_waybills};
 ghost use Rattle.table_audits.specs.Sums.{AreSums, AreFlightsOf, count_place_cmp, build_place_cmp};
 ghost use Rattle.table_audits.specs.Balances.{AreBalances, overdrawn, drawn_by, is_covered, is_left, is_within, is_lawful_count, is_open, is_lawful_build, on_flight};
-ghost use Rattle.imp_fields.specs.Flight.{most_waybills};
 
 use crate::sums::{BookSums, BuildPlace, CountPlace};
 use imp_fields::{MOST_PIECES, MOST_TENTHS};

@@ -1,18 +1,10 @@
 ghost use Rattle.std.specs.Prelude.{◌≡◌, ◌↔◌, ◌++◌, ◌∷◌, [], length, map, List, IfOk, IfSome, IsSome, IsTrue, OnOk};
-ghost use Rattle.std.specs.List.{list_all};
-ghost use Rattle.std.specs.FinMap.{entries};
-ghost use Rattle.station_rows.specs.Meant.{move_meant};
-ghost use Rattle.station_schema.specs.Tables.{Tables, Move as Row};
-ghost use Rattle.row_codec.specs.Counts.{running};
-ghost use Rattle.row_codec.specs.Flights.{is_flight_row};
-ghost use Rattle.row_codec.specs.Moves.{book_in, move_by};
-ghost use Rattle.table_load.specs.Held.{flight_entry};
+ghost use Rattle.table_audits.specs.Common.{list_all, entries, move_meant, Tables, running, is_flight_row, book_in, move_by, flight_entry, Survives, state};
+ghost use Rattle.station_schema.specs.Tables.{Move as Row};
 ghost use Rattle.table_audits.specs.Lawful.{AreMoves};
 ghost use Rattle.table_audits.specs.Posted.{listed_in};
 ghost use Rattle.table_audits.specs.Sums.{AreSums, IsPosting};
 ghost use Rattle.table_audits.specs.Taken.{AreGoodMoves, IsBookOf, IsBookAs, IsNextOr, AreRead, AreMovesTaken};
-ghost use Rattle.sqlite.specs.State.{Survives};
-ghost use Rattle.sqlite.specs.Held.{state};
 ghost use Rattle.table_audits.specs.Judged.{Audits};
 ghost use Rattle.table_audits.specs.declared.name.TableName.TheVariants as table;
 

@@ -1,10 +1,6 @@
 ghost use Rattle.std.specs.Prelude.{◌≡◌, ◌↔◌, IsTrue, Some, map};
-ghost use Rattle.std.specs.BTreeMap.{IsOrdered};
-ghost use Rattle.station_rows.specs.Meant.{build_meant};
-ghost use Rattle.table_load.specs.Held.{flight_entry};
+ghost use Rattle.table_audits.specs.Common.{IsOrdered, build_meant, flight_entry, Survives, state};
 ghost use Rattle.table_audits.specs.Sums.{build_at, build_entry, build_place_cmp};
-ghost use Rattle.sqlite.specs.State.{Survives};
-ghost use Rattle.sqlite.specs.Held.{state};
 ghost use Rattle.table_audits.specs.Judged.{Audits};
 ghost use Rattle.table_audits.specs.declared.name.TableName.TheVariants as table;
 

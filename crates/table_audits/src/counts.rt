@@ -1,9 +1,6 @@
 ghost use Rattle.std.specs.Prelude.{◌≡◌, ◌↔◌, IsTrue, map};
-ghost use Rattle.std.specs.BTreeMap.{IsOrdered};
-ghost use Rattle.station_rows.specs.Meant.{count_meant};
+ghost use Rattle.table_audits.specs.Common.{IsOrdered, count_meant, Survives, state};
 ghost use Rattle.table_audits.specs.Sums.{count_entry, count_place_cmp};
-ghost use Rattle.sqlite.specs.State.{Survives};
-ghost use Rattle.sqlite.specs.Held.{state};
 ghost use Rattle.table_audits.specs.Judged.{Audits};
 ghost use Rattle.table_audits.specs.declared.name.TableName.TheVariants as table;
 

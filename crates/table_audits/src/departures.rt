@@ -1,12 +1,5 @@
 ghost use Rattle.std.specs.Prelude.{◌≡◌, ◌↔◌, map, false, replicate, IsTrue, IfOk};
-ghost use Rattle.std.specs.List.{list_all, AllByRecursion};
-ghost use Rattle.std.specs.FinMap.{entries};
-ghost use Rattle.shipment_machine.specs.Lawful.{IsLawfulMove};
-ghost use Rattle.table_load.specs.Held.{flight_entry};
-ghost use Rattle.station_schema.specs.Tables.{Tables};
-ghost use Rattle.row_codec.specs.Numbers.{is_set};
-ghost use Rattle.row_codec.specs.Flights.{is_flight_row};
-ghost use Rattle.row_codec.specs.Moves.{book_in};
+ghost use Rattle.table_audits.specs.Common.{list_all, AllByRecursion, entries, IsLawfulMove, flight_entry, Tables, is_set, is_flight_row, book_in};
 ghost use Rattle.table_audits.specs.Audited.{AreDepartures};
 ghost use Rattle.table_audits.specs.Departed.{is_marked, marked, IsDeparted};
 ghost use Rattle.table_audits.specs.Lawful.{cargo_in};

@@ -1,12 +1,8 @@
 ghost use Rattle.std.specs.Prelude.{◌≡◌, map, nat_le, is_some, IfSome, Some};
-ghost use Rattle.station_rows.specs.Meant.{waybill_meant};
-ghost use Rattle.table_load.specs.Held.{expected_entry};
+ghost use Rattle.table_audits.specs.Common.{waybill_meant, expected_entry, is_expected_row, expectation_by, Survives, state};
 ghost use Rattle.table_audits.specs.Order.{RisesByNumber};
 ghost use Rattle.table_audits.specs.declared.name.TableName.TheVariants as table;
-ghost use Rattle.row_codec.specs.Manifests.{is_expected_row, expectation_by};
 ghost use Rattle.table_audits.specs.Rows.{is_lawful_expected};
-ghost use Rattle.sqlite.specs.State.{Survives};
-ghost use Rattle.sqlite.specs.Held.{state};
 ghost use Rattle.table_audits.specs.Judged.{Audits};
 
 use crate::known::Known;

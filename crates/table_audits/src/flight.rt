@@ -1,11 +1,7 @@
 ghost use Rattle.std.specs.Prelude.{◌≡◌, not, is_some, IfSome, Some};
-ghost use Rattle.std.specs.Str.{bytes_eq};
-ghost use Rattle.table_load.specs.Held.{flight_entry};
+ghost use Rattle.table_audits.specs.Common.{bytes_eq, flight_entry, is_flight_row, noted_by, Survives, state};
 ghost use Rattle.table_audits.specs.declared.name.TableName.TheVariants as table;
-ghost use Rattle.row_codec.specs.Flights.{is_flight_row, noted_by};
 ghost use Rattle.table_audits.specs.Rows.{is_lawful_flight};
-ghost use Rattle.sqlite.specs.State.{Survives};
-ghost use Rattle.sqlite.specs.Held.{state};
 ghost use Rattle.table_audits.specs.Judged.{Audits};
 
 use crate::known::Known;

@@ -1,5 +1,4 @@
-ghost use Rattle.sqlite.specs.State.{Survives};
-ghost use Rattle.sqlite.specs.Held.{state};
+ghost use Rattle.table_audits.specs.Common.{Survives, state};
 ghost use Rattle.table_audits.specs.declared.name.TableName.TheVariants as table;
 ghost use Rattle.table_audits.specs.Judged.{AreJudged, Audits, JudgesOn};
 

@@ -1,11 +1,7 @@
 ghost use Rattle.std.specs.Prelude.{◌≡◌, ◌↔◌, ◌&&◌, [], IsTrue};
-ghost use Rattle.table_load.specs.Held.{kept_key_entry};
+ghost use Rattle.table_audits.specs.Common.{kept_key_entry, IsRequest, is_kept_row, Survives, state};
 ghost use Rattle.table_audits.specs.declared.name.TableName.TheVariants as table;
-ghost use Rattle.station_core.specs.Told.{IsRequest};
-ghost use Rattle.row_codec.specs.Replies.{is_kept_row};
 ghost use Rattle.table_audits.specs.Taken.{IsLawfulKept, AreKeysTaken};
-ghost use Rattle.sqlite.specs.State.{Survives};
-ghost use Rattle.sqlite.specs.Held.{state};
 ghost use Rattle.table_audits.specs.Judged.{Audits};
 
 use crate::known::Known;

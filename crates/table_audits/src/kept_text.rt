@@ -1,14 +1,8 @@
 ghost use Rattle.std.specs.Prelude.{◌≡◌, ◌↔◌, map, IsTrue, ℤ};
-ghost use Rattle.std.specs.List.{list_all};
-ghost use Rattle.std.specs.FinMap.{FinMap, entries};
-ghost use Rattle.station_schema.specs.Tables.{Tables, kept_text_cmp};
-ghost use Rattle.table_load.specs.Held.{kept_text_entry, part_entry};
+ghost use Rattle.table_audits.specs.Common.{list_all, FinMap, entries, Tables, kept_text_cmp, kept_text_entry, part_entry, is_kept_text_row, Survives, state};
 ghost use Rattle.table_audits.specs.Lawful.{IsLawfulTable};
 ghost use Rattle.table_audits.specs.declared.name.TableName.TheVariants as table;
-ghost use Rattle.row_codec.specs.Replies.{is_kept_text_row};
 ghost use Rattle.table_audits.specs.Rows.{has_text};
-ghost use Rattle.sqlite.specs.State.{Survives};
-ghost use Rattle.sqlite.specs.Held.{state};
 ghost use Rattle.table_audits.specs.Judged.{Audits};
 
 use crate::known::Known;

@@ -1,19 +1,10 @@
 ghost use Rattle.std.specs.Prelude.{◌↔◌, ◌≡◌, IsTrue, List};
-ghost use Rattle.station_core.specs.Step.{IsLawfulState};
-ghost use Rattle.station_schema.specs.Tables.{Tables, IsStation, IsOldStation, tables_of, old_tables_of, upgraded, Flight, FlightKey, flight_cmp};
-ghost use Rattle.row_codec.specs.Meaning.{meaning_of, IsReadable};
+ghost use Rattle.table_audits.specs.Common.{IsLawfulState, Tables, IsStation, IsOldStation, tables_of, old_tables_of, upgraded, Flight, FlightKey, flight_cmp, meaning_of, IsReadable, Database, First, Second, Reading, read_as, list_all, FinMap, entries, FlightDate, is_flight_row};
 ghost use Rattle.table_audits.specs.declared.name.TableName.{TableName};
 ghost use Rattle.table_audits.specs.Lawful.{IsLawfulTable};
-ghost use Rattle.sqlite.specs.Effect.{Database};
-ghost use Rattle.table_load.specs.declared.station.FileVersion.TheVariants.{First, Second};
-ghost use Rattle.table_load.specs.Reading.{Reading, read_as};
 ghost use Rattle.table_audits.specs.declared.unfit.Unfit.{Unfit};
 ghost use Rattle.table_audits.specs.Good.{IsStationOf};
 ghost use Rattle.table_audits.specs.Verdict.{IsUnfit};
-ghost use Rattle.std.specs.List.{list_all};
-ghost use Rattle.std.specs.FinMap.{FinMap, entries};
-ghost use Rattle.shipment_machine.specs.declared.flight.FlightDate.{FlightDate};
-ghost use Rattle.row_codec.specs.Flights.{is_flight_row};
 ghost use Rattle.table_audits.specs.Sums.{AreDistinct, AreFlightsOf};
 ghost use Rattle.table_audits.specs.Audited.{flights_of};
 

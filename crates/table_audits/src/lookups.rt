@@ -1,12 +1,5 @@
 ghost use Rattle.std.specs.Prelude.{◌≡◌, ◌↔◌, map, length, pos, ℕ, ℤ, IsTrue, IsSome};
-ghost use Rattle.std.specs.Result.{is_ok};
-ghost use Rattle.std.specs.List.Sorted.{IsBinarySearchResult, IsSearchInRange};
-ghost use Rattle.std.specs.FinMap.{FinMap, entries, contains_key};
-ghost use Rattle.sqlite_keyed.specs.Keyed.{has_key};
-ghost use Rattle.station_schema.specs.Tables.{waybill_id, flight_cmp, kept_text_cmp};
-ghost use Rattle.station_rows.specs.Meant.{waybill_meant};
-ghost use Rattle.row_codec.specs.Waybills.{declared_in};
-ghost use Rattle.table_load.specs.Held.{flight_entry, kept_text_entry};
+ghost use Rattle.table_audits.specs.Common.{is_ok, IsBinarySearchResult, IsSearchInRange, FinMap, entries, contains_key, has_key, waybill_id, flight_cmp, kept_text_cmp, waybill_meant, declared_in, flight_entry, kept_text_entry};
 ghost use Rattle.table_audits.specs.Order.{RisesByNumber};
 
 use station_rows::WaybillRow;

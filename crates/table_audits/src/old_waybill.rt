@@ -1,12 +1,7 @@
 ghost use Rattle.std.specs.Prelude.{◌≡◌, ◌↔◌, map, IsTrue};
-ghost use Rattle.table_load.specs.Whole.{FindsTable};
-ghost use Rattle.table_load.specs.Reading.{HoldsOldWaybills};
-ghost use Rattle.station_schema.specs.Tables.{Tables};
-ghost use Rattle.table_load.specs.Held.{old_waybill_entry};
+ghost use Rattle.table_audits.specs.Common.{FindsTable, HoldsOldWaybills, Tables, old_waybill_entry, Survives, state};
 ghost use Rattle.table_audits.specs.Lawful.{IsLawfulTable};
 ghost use Rattle.table_audits.specs.declared.name.TableName.TheVariants as table;
-ghost use Rattle.sqlite.specs.State.{Survives};
-ghost use Rattle.sqlite.specs.Held.{state};
 ghost use Rattle.table_audits.specs.Judged.{Audits};
 
 use crate::known::Known;

@@ -1,8 +1,7 @@
 ghost use Rattle.std.specs.Prelude.{◌≡◌};
 ghost use Rattle.table_audits.specs.declared.name.TableName.TheVariants as table;
 ghost use Rattle.table_audits.specs.Taken.{if_confirmed, AreMessagesTaken};
-ghost use Rattle.sqlite.specs.State.{Survives};
-ghost use Rattle.sqlite.specs.Held.{state};
+ghost use Rattle.table_audits.specs.Common.{Survives, state};
 ghost use Rattle.table_audits.specs.Judged.{Audits};
 
 use crate::known::Known;

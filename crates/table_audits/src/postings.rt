@@ -1,7 +1,5 @@
 ghost use Rattle.std.specs.Prelude.{◌≡◌, map};
-ghost use Rattle.station_rows.specs.Meant.{move_meant, waybill_meant};
-ghost use Rattle.table_load.specs.Held.{flight_entry};
-ghost use Rattle.station_schema.specs.Tables.{Tables};
+ghost use Rattle.table_audits.specs.Common.{move_meant, waybill_meant, flight_entry, Tables};
 ghost use Rattle.table_audits.specs.Posted.{AreBeside, posting_in, IsPostedOr};
 
 use crate::rows::is_fit;

@@ -1,8 +1,5 @@
 ghost use Rattle.std.specs.Prelude.{◌≡◌, OnOk, IfOk, cond};
-ghost use Rattle.std.specs.Ordering.{eq_by_cmp};
-ghost use Rattle.std.specs.BTreeMap.{get};
-ghost use Rattle.row_codec.specs.Counts.{unless_nothing};
-ghost use Rattle.row_codec.specs.Stored.{come_to};
+ghost use Rattle.table_audits.specs.Common.{eq_by_cmp, get, unless_nothing, come_to};
 
 use row_codec::Tally;
 use std::alloc::Global;

@@ -1,6 +1,5 @@
 ghost use Rattle.std.specs.Prelude.{◌≡◌, map};
-ghost use Rattle.station_rows.specs.Meant.{waybill_meant};
-ghost use Rattle.shipment_machine.specs.Places.{is_pair};
+ghost use Rattle.table_audits.specs.Common.{waybill_meant, is_pair};
 ghost use Rattle.table_audits.specs.Order.{RisesByNumber};
 ghost use Rattle.table_audits.specs.Audited.{is_fit_move};
 

@@ -1,12 +1,5 @@
 ghost use Rattle.std.specs.Prelude.{◌≡◌, map, true, List};
-ghost use Rattle.station_rows.specs.Meant.{move_meant};
-ghost use Rattle.shipment_machine.specs.Lawful.{NamesFlight};
-ghost use Rattle.shipment_machine.specs.declared.moves.Place.{Place};
-ghost use Rattle.table_load.specs.Held.{flight_entry};
-ghost use Rattle.station_schema.specs.Tables.{Tables, Waybill};
-ghost use Rattle.row_codec.specs.Flights.{flight_date_of};
-ghost use Rattle.row_codec.specs.Moves.{are_flight_columns};
-ghost use Rattle.row_codec.specs.Sums.{is_built};
+ghost use Rattle.table_audits.specs.Common.{move_meant, NamesFlight, Place, flight_entry, Tables, Waybill, flight_date_of, are_flight_columns, is_built};
 ghost use Rattle.table_audits.specs.Posted.{AreBeside, IsSpotFound};
 
 use crate::lookups::flight_place;

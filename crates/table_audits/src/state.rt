@@ -1,9 +1,5 @@
 ghost use Rattle.std.specs.Prelude.{◌≡◌, IsTrue};
-ghost use Rattle.table_load.specs.Reading.{station_read, read_as};
-ghost use Rattle.sqlite.specs.State.{HasCleanDisk, Survives};
-ghost use Rattle.sqlite.specs.Held.{state};
-ghost use Rattle.station_schema.specs.Effects.{Reads};
-ghost use Rattle.table_load.specs.Verdict.{one_row};
+ghost use Rattle.table_audits.specs.Common.{station_read, read_as, HasCleanDisk, Survives, state, Reads, one_row};
 ghost use Rattle.table_audits.specs.Verdict.{Judges};
 
 use crate::TableName;

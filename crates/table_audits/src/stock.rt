@@ -1,16 +1,9 @@
 ghost use Rattle.std.specs.Prelude.{◌≡◌, ◌↔◌, ◌≤◌, ◌+◌, ◌-◌, map, IsTrue, pos};
-ghost use Rattle.std.specs.List.{AllByRecursion};
-ghost use Rattle.std.specs.FinMap.{entries};
-ghost use Rattle.agent_stock.specs.declared.stock.Holder.TheVariants.{Used};
-ghost use Rattle.station_schema.specs.Tables.{Tables};
+ghost use Rattle.table_audits.specs.Common.{AllByRecursion, entries, Used, Tables, waybill_meant, stock_meant, is_behind, are_apart, Survives, state};
 ghost use Rattle.table_audits.specs.Lawful.{IsLawfulTable};
 ghost use Rattle.table_audits.specs.declared.name.TableName.TheVariants as table;
-ghost use Rattle.station_rows.specs.Meant.{waybill_meant, stock_meant};
 ghost use Rattle.table_audits.specs.Order.{RisesByNumber};
-ghost use Rattle.row_codec.specs.Stock.{is_behind, are_apart};
 ghost use Rattle.table_audits.specs.Rows.{AreDeclared, IsLawfulStock};
-ghost use Rattle.sqlite.specs.State.{Survives};
-ghost use Rattle.sqlite.specs.Held.{state};
 ghost use Rattle.table_audits.specs.Judged.{Audits};
 
 use crate::known::Known;

@@ -1,11 +1,5 @@
 ghost use Rattle.std.specs.Prelude.{◌≡◌, ◌∷◌, [], ◌++◌, ℕ, pos, false, List, Some, OnOk, slice_get};
-ghost use Rattle.shipment_machine.specs.declared.flight.FlightDate.{FlightDate};
-ghost use Rattle.shipment_machine.specs.declared.moves.Move.{Move};
-ghost use Rattle.shipment_machine.specs.declared.moves.Place.{Place};
-ghost use Rattle.shipment_machine.specs.declared.moves.Place.TheVariants.{Built};
-ghost use Rattle.row_codec.specs.Counts.{running, Sums};
-ghost use Rattle.row_codec.specs.Moves.{place_code};
-ghost use Rattle.row_codec.specs.Sums.{posting, is_built};
+ghost use Rattle.table_audits.specs.Common.{FlightDate, Move, Place, Built, running, Sums, place_code, posting, is_built};
 ghost use Rattle.table_audits.specs.Sums.{AreDistinct, AreSums, IsSpot, IsPosting};
 
 use crate::posts::{NoRoom, post};

@@ -1,11 +1,9 @@
 ghost use Rattle.std.specs.Prelude.{◌≡◌, map};
-ghost use Rattle.station_rows.specs.Meant.{waybill_meant, trail_meant};
+ghost use Rattle.table_audits.specs.Common.{waybill_meant, trail_meant, Survives, state};
 ghost use Rattle.table_audits.specs.declared.name.TableName.TheVariants as table;
 ghost use Rattle.table_audits.specs.Order.{RisesByNumber};
 ghost use Rattle.table_audits.specs.Rows.{is_lawful_line};
 ghost use Rattle.table_audits.specs.Taken.{AreLinesTaken};
-ghost use Rattle.sqlite.specs.State.{Survives};
-ghost use Rattle.sqlite.specs.Held.{state};
 ghost use Rattle.table_audits.specs.Judged.{Audits};
 
 use crate::known::Known;

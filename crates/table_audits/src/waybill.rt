@@ -1,11 +1,7 @@
 ghost use Rattle.std.specs.Prelude.{◌≡◌, map, IfOk};
-ghost use Rattle.table_load.specs.Whole.{FindsTable};
-ghost use Rattle.table_load.specs.Reading.{undated_row, HoldsWaybills};
-ghost use Rattle.station_rows.specs.Meant.{waybill_meant};
+ghost use Rattle.table_audits.specs.Common.{FindsTable, undated_row, HoldsWaybills, waybill_meant, Survives, state};
 ghost use Rattle.table_audits.specs.declared.name.TableName.TheVariants as table;
 ghost use Rattle.table_audits.specs.Rows.{is_lawful_waybill};
-ghost use Rattle.sqlite.specs.State.{Survives};
-ghost use Rattle.sqlite.specs.Held.{state};
 ghost use Rattle.table_audits.specs.Judged.{Audits};
 
 use crate::known::Known;

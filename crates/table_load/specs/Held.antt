@@ -1,15 +1,7 @@
 -- A table of a station in a database of any schema, and its entries.
 use Rattle.std.specs.Prelude.{◌≡◌, ℕ, ℤ, List, [], ◌∷◌, codes, true, string_bytes}
-use Rattle.std.specs.Ordering.{int_cmp}
-use Rattle.std.specs.declared.cmp.Ordering.{Ordering}
-use Rattle.std.specs.Str.{is_utf8}
-use Rattle.sqlite.specs.declared.types.Value.TheVariants.{Int, Text}
-use Rattle.sqlite.specs.Order.{Row, column}
-use Rattle.sqlite.specs.Effect.{Database}
-use Rattle.sqlite_typed.specs.Columns.{int_of, bytes_of}
+use Rattle.table_load.specs.Common.{int_cmp, Ordering, is_utf8, Int, Text, Row, column, Database, int_of, bytes_of, OldWaybill, old_waybill_id, Waybill, waybill_id, Stock, StockKey, stock_cmp, stock_row, Flight, FlightKey, flight_cmp, flight_row, Move, move_id, Expected, ExpectedKey, expected_cmp, expected_row, PartKey, part_cmp, part_row, TrailLine, trail_id, Message, message_id, Kept, kept_cmp, kept_row, kept_text_cmp, kept_text_row, Count, CountKey, count_cmp, count_row, Build, BuildKey, build_cmp, build_row, waybill_shown, move_shown, trail_shown, message_shown}
 use Rattle.table_load.specs.Whole.{AreLawful, HoldsTable}
-use Rattle.station_schema.specs.Tables.{OldWaybill, old_waybill_id, Waybill, waybill_id, Stock, StockKey, stock_cmp, stock_row, Flight, FlightKey, flight_cmp, flight_row, Move, move_id, Expected, ExpectedKey, expected_cmp, expected_row, PartKey, part_cmp, part_row, TrailLine, trail_id, Message, message_id, Kept, kept_cmp, kept_row, kept_text_cmp, kept_text_row, Count, CountKey, count_cmp, count_row, Build, BuildKey, build_cmp, build_row}
-use Rattle.station_rows.specs.Shown.{waybill_shown, move_shown, trail_shown, message_shown}
 use Rattle.table_load.specs.declared.old_waybill.OldWaybillEntry.{OldWaybillEntry}
 use Rattle.table_load.specs.declared.flight.FlightEntry.{FlightEntry}
 use Rattle.table_load.specs.declared.expected.ExpectedEntry.{ExpectedEntry}

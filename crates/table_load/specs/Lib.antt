@@ -1,3 +1,4 @@
+pub mod Common
 pub mod Held
 pub mod Raw
 pub mod Reading

@@ -1,18 +1,7 @@
 -- The rows of a table of any database, found by the names of the table and of its columns, like SQL
 -- does.
 use Rattle.std.specs.Prelude.{◌==◌, ℕ, zero, suc, List, [], ◌∷◌, map, take, slice_get, Option, Some, None, option_map, option_and_then, if◌then◌else◌, false}
-use Rattle.std.specs.List.Sorted.{IsSorted}
-use Rattle.std.specs.declared.cmp.Ordering.{Ordering}
-use Rattle.sqlite.specs.Collation.TheVariants.{Binary}
-use Rattle.sqlite_value.specs.Keys.{collation_code}
-use Rattle.sqlite_value.specs.declared.keys.Key.{Key}
-use Rattle.sqlite.specs.Order.{Row, column}
-use Rattle.sqlite_sql.specs.Query.{key_cmp}
-use Rattle.sqlite.specs.Tree.{Trees}
-use Rattle.sqlite.specs.Table.{Table}
-use Rattle.sqlite.specs.Schema.{Schema}
-use Rattle.sqlite.specs.Effect.{Database}
-use Rattle.sqlite_schema.specs.Names.{table_named, column_named, place_of}
+use Rattle.table_load.specs.Common.{IsSorted, Ordering, Binary, collation_code, Key, Row, column, key_cmp, Trees, Table, Schema, Database, table_named, column_named, place_of}
 
 abbrev pub table_by_name : Schema → List ℕ → Option Table
 table_by_name schema name = option_and_then (slice_get schema.tables) (table_named schema name)

@@ -1,8 +1,6 @@
 -- A database, the version as which it is read, and the content of its station tables.
 use Rattle.std.specs.Prelude.{◌≡◌, pos, List, [], map}
-use Rattle.sqlite.specs.Effect.{Database}
-use Rattle.station_schema.specs.Tables.{OldWaybill, Waybill, undated}
-use Rattle.station_rows.specs.declared.waybills.WaybillRow.{WaybillRow}
+use Rattle.table_load.specs.Common.{Database, OldWaybill, Waybill, undated, WaybillRow}
 use Rattle.table_load.specs.declared.old_waybill.OldWaybillEntry.{OldWaybillEntry}
 use Rattle.table_load.specs.declared.station.FileVersion.{FileVersion}
 use Rattle.table_load.specs.declared.station.FileVersion.TheVariants.{First, Second}

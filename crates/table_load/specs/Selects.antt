@@ -1,16 +1,8 @@
 -- SQL texts that select columns of one table, ordered by the first of them.
 use Rattle.std.specs.Prelude.{◌≡◌, ◌<◌, ◌≤◌, ℕ, List, [], ◌∷◌, map, take, length, false, None, Ok}
-use Rattle.sqlite_ast.specs.declared.Expr.{Expr, out-Expr}
-use Rattle.sqlite_ast.specs.declared.Expr.TheOpen.{Expr-F, Shown-F}
-use Rattle.sqlite_ast.specs.declared.Shown.{Shown, out-Shown}
-use Rattle.sqlite_ast.specs.declared.Sort.{Sort, out-Sort}
-use Rattle.sqlite_ast.specs.declared.Source.{Source, out-Source}
-use Rattle.sqlite_ast.specs.declared.Core.{Core, out-Core}
-use Rattle.sqlite_ast.specs.declared.Select.{Select, out-Select}
+use Rattle.table_load.specs.Common.{Expr, out-Expr, Expr-F, Shown-F, Shown, out-Shown, Sort, out-Sort, Source, out-Source, Core, out-Core, Select, out-Select, Parsed, first}
 use Rattle.sqlite_ast.specs.declared.Origin.TheVariants as origin
 use Rattle.sqlite_ast.specs.declared.Statement.TheVariants as written
-use Rattle.sqlite_syntax.specs.declared.statement.Parsed.{Parsed}
-use Rattle.sqlite_resolve.specs.Compile.{first}
 use Rattle.table_load.specs.declared.query.TableQuery.{TableQuery}
 
 -- exactly these columns are shown, without AS

@@ -1,8 +1,6 @@
 -- The entries of a database whose tables a station declares.
 use Rattle.std.specs.Prelude.{◌≡◌, List}
-use Rattle.std.specs.List.{AllByRecursion}
-use Rattle.sqlite.specs.Effect.{Database}
-use Rattle.station_schema.specs.Tables.{Tables, IsStation, IsOldStation, tables_of, old_tables_of}
+use Rattle.table_load.specs.Common.{AllByRecursion, Database, Tables, IsStation, IsOldStation, tables_of, old_tables_of}
 
 -- this list is the only one that can be held, and it is held if its texts are texts
 abbrev pub IsHeldBy : {E : Type 0} → (Database → List E → Type 0) → (E → Type 0) → Database → List E

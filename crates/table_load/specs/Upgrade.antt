@@ -1,11 +1,6 @@
 -- The effect of an upgrade on the tables of a file of version 1.
 use Rattle.std.specs.Prelude.{◌≡◌, [], map, fold, true, false, IsTrue, Result, Ok, Err}
-use Rattle.sqlite.specs.Tree.{Trees}
-use Rattle.sqlite.specs.declared.error.Error.{Error}
-use Rattle.sqlite.specs.State.{State, Shows, KeepsCommit}
-use Rattle.sqlite_keyed.specs.Keyed.{insert_by}
-use Rattle.station_schema.specs.Tables.{Tables, undated, raised, upgraded, waybill_id, tables_of, old_tables_of, IsStation, IsOldStation}
-use Rattle.station_schema.specs.Own.{IsOwn}
+use Rattle.table_load.specs.Common.{Trees, Error, State, Shows, KeepsCommit, insert_by, Tables, undated, raised, upgraded, waybill_id, tables_of, old_tables_of, IsStation, IsOldStation, IsOwn}
 
 -- the three writes, whether `waybill2` has rows already or not
 abbrev pub copying : Tables → Tables

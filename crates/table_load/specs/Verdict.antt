@@ -1,13 +1,6 @@
 -- The content of the table `station` in a database of any schema.
 use Rattle.std.specs.Prelude.{ℕ, ℤ, pos, List, [], ◌∷◌, codes, Bool, is_some, if◌then◌else◌, ◌&&◌, string_bytes}
-use Rattle.std.specs.Ordering.{int_eq}
-use Rattle.std.specs.Str.{is_utf8}
-use Rattle.sqlite.specs.declared.types.Value.{Value}
-use Rattle.sqlite.specs.declared.types.Value.TheVariants.{Int, Text}
-use Rattle.sqlite.specs.Order.{Row}
-use Rattle.sqlite.specs.Effect.{Database}
-use Rattle.sqlite.specs.Schema.{Schema}
-use Rattle.station_schema.specs.Tables.{Station}
+use Rattle.table_load.specs.Common.{int_eq, is_utf8, Value, Int, Text, Row, Database, Schema, Station}
 use Rattle.table_load.specs.Raw.{Found, found, no_table, no_column, rows_of, table_by_name}
 use Rattle.table_load.specs.declared.station.FileVersion.{FileVersion}
 use Rattle.table_load.specs.declared.station.FileVersion.TheVariants.{First, Second}

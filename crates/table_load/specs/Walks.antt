@@ -1,18 +1,7 @@
 -- Folds over the rows of a table.
 use Rattle.std.specs.Prelude.{◌≡◌, ◌≢◌, IsTrue, Bool, true, false, List, [], ◌∷◌, ◌++◌, map, Option, Some, None, Result, Ok, Err, ℕ}
-use Rattle.std.specs.declared.cmp.Ordering.{Ordering}
-use Rattle.std.specs.Ordering.{is_lt}
-use Rattle.sqlite.specs.Effect.{Database}
-use Rattle.sqlite.specs.Given.{IsPlain}
-use Rattle.sqlite.specs.Held.{Held, state}
-use Rattle.sqlite.specs.Listing.{understood}
-use Rattle.sqlite.specs.Order.{Row}
-use Rattle.sqlite.specs.Schema.{Schema}
-use Rattle.sqlite.specs.State.{State, HasCleanDisk, IsUnchanged, Shown}
-use Rattle.sqlite.specs.declared.error.Error.{Error}
-use Rattle.sqlite_resolve.specs.declared.compiled.Compiled.{Compiled}
-use Rattle.sqlite_trees.specs.declared.store.Store.{Ghosts}
-use Rattle.station_schema.specs.Effects.{Reads, Stops}
+use Rattle.table_load.specs.Common.{Ordering, is_lt, Database, IsPlain, Held, state, understood, Row, Schema, State, HasCleanDisk, IsUnchanged, Error, Compiled, Ghosts, Reads, Stops}
+use Rattle.sqlite.specs.State.{Shown}
 use Rattle.table_load.specs.Whole.{AreRowsOf}
 use Rattle.table_load.specs.declared.walk.Walk.{Walk}
 

@@ -1,20 +1,6 @@
 -- A table of any database as entries in the order of their keys, and the results of calls.
 use Rattle.std.specs.Prelude.{◌≡◌, ◌≢◌, ℕ, List, map, Bool, false, is_some, IsTrue, Option, Some, None, Vec, Result}
-use Rattle.std.specs.List.{AllByRecursion}
-use Rattle.std.specs.List.Sorted.{IsPermutation}
-use Rattle.std.specs.declared.cmp.Ordering.{Ordering}
-use Rattle.std.specs.declared.cmp.Ordering.TheVariants.{Less}
-use Rattle.std.specs.declared.alloc.Global.{Global}
-use Rattle.sqlite.specs.Order.{Row}
-use Rattle.sqlite.specs.Tree.{IsAscending}
-use Rattle.sqlite.specs.Effect.{Database}
-use Rattle.sqlite.specs.Table.{Table}
-use Rattle.sqlite.specs.Schema.{Schema}
-use Rattle.sqlite.specs.declared.error.Error.{Error}
-use Rattle.sqlite.specs.State.{HasCleanDisk}
-use Rattle.sqlite.specs.Held.{Held, state}
-use Rattle.sqlite_trees.specs.declared.store.Store.{Ghosts}
-use Rattle.station_schema.specs.Effects.{Reads}
+use Rattle.table_load.specs.Common.{AllByRecursion, IsPermutation, Ordering, Less, Global, Row, IsAscending, Database, Table, Schema, Error, HasCleanDisk, Held, state, Ghosts, Reads}
 use Rattle.table_load.specs.Raw.{Found, found, rows_of, table_by_name, places_by_name, key_order, AreInOrder}
 
 -- ---- the schema

@@ -1,6 +1,5 @@
 ghost use Rattle.std.specs.Prelude.{◌≡◌, ◌≢◌, ◌∷◌, ◌<◌, [], true, ℕ, ℤ, List, length, IfOk, Err, string_bytes};
-ghost use Rattle.std.specs.Str.{is_utf8};
-ghost use Rattle.sqlite.specs.declared.types.Value.TheVariants.{Int, Text};
+ghost use Rattle.table_load.specs.Common.{is_utf8, Int, Text};
 ghost use Rattle.sqlite.specs.Order.{Row as Values};
 ghost use Rattle.table_load.specs.declared.cells.RowError.TheVariants.{Mismatch};
 

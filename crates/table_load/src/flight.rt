@@ -1,5 +1,4 @@
-ghost use Rattle.sqlite.specs.State.{Survives};
-ghost use Rattle.sqlite.specs.Held.{state};
+ghost use Rattle.table_load.specs.Common.{Survives, state};
 ghost use Rattle.table_load.specs.Whole.{FindsTable};
 ghost use Rattle.table_load.specs.Held.{HoldsFlight, flight_entry};
 

@@ -1,6 +1,5 @@
 ghost use Rattle.std.specs.Prelude.{[]};
-ghost use Rattle.sqlite.specs.State.{Survives};
-ghost use Rattle.sqlite.specs.Held.{state};
+ghost use Rattle.table_load.specs.Common.{Survives, state};
 ghost use Rattle.table_load.specs.Walks.{FoldsTable};
 ghost use Rattle.table_load.specs.Held.{HoldsKeptKey, kept_key_entry};
 

@@ -1,7 +1,5 @@
-ghost use Rattle.sqlite.specs.State.{Survives};
-ghost use Rattle.sqlite.specs.Held.{state};
+ghost use Rattle.table_load.specs.Common.{Survives, state, move_meant};
 ghost use Rattle.table_load.specs.Walks.{FoldsTable};
-ghost use Rattle.station_rows.specs.Meant.{move_meant};
 ghost use Rattle.table_load.specs.Held.{HoldsMoves};
 ghost use Rattle.std.specs.Prelude.{[]};
 

@@ -1,7 +1,5 @@
 ghost use Rattle.std.specs.Prelude.{◌≡◌, pos, ℕ, ℤ, List, [], ◌∷◌};
-ghost use Rattle.std.specs.FinMap.{entries};
-ghost use Rattle.sqlite.specs.Effect.{Database};
-ghost use Rattle.station_schema.specs.Tables.{Station, IsStation, IsOldStation, tables_of, old_tables_of};
+ghost use Rattle.table_load.specs.Common.{entries, Database, Station, IsStation, IsOldStation, tables_of, old_tables_of};
 ghost use Rattle.table_load.specs.Held.{IsText, HoldsOldWaybill, HasOldWaybillTexts, HoldsWaybill, HasWaybillTexts, HoldsStock, HasStockTexts, HoldsFlight, HasFlightTexts, HoldsMoves, HasMovesTexts, HoldsExpected, HasExpectedTexts, HoldsPart, HasPartTexts, HoldsTrail, HasTrailTexts, HoldsOutbox, HasOutboxTexts, HoldsKeptKey, HasKeptKeyTexts, HoldsKeptText, HasKeptTextTexts, HoldsCounts, HasCountsTexts, HoldsBuild, HasBuildTexts};
 ghost use Rattle.table_load.specs.Typed.{HoldsTyped, HoldsOld};
 ghost use Rattle.table_load.specs.Verdict.{station_of, row_of_version, one_row};

@@ -1,7 +1,5 @@
 ghost use Rattle.std.specs.Prelude.{◌≡◌, IsTrue, map, is_some};
-ghost use Rattle.sqlite.specs.State.{HasCleanDisk, Survives};
-ghost use Rattle.sqlite.specs.Held.{state};
-ghost use Rattle.station_schema.specs.Effects.{Reads};
+ghost use Rattle.table_load.specs.Common.{HasCleanDisk, Survives, state, Reads};
 ghost use Rattle.table_load.specs.Raw.{found, place_by_name, places_by_name};
 ghost use Rattle.table_load.specs.Selects.{IsQuery, column_names};
 ghost use Rattle.table_load.specs.Whole.{is_whole, ShowsWhole};

@@ -1,8 +1,5 @@
 ghost use Rattle.std.specs.Prelude.{◌≡◌, IfOk, IsTrue};
-ghost use Rattle.std.specs.Ordering.{int_eq};
-ghost use Rattle.sqlite.specs.State.{HasCleanDisk, Survives};
-ghost use Rattle.sqlite.specs.Held.{state};
-ghost use Rattle.station_schema.specs.Effects.{Reads};
+ghost use Rattle.table_load.specs.Common.{int_eq, HasCleanDisk, Survives, state, Reads};
 ghost use Rattle.table_load.specs.Verdict.{station_name, has_table, version_number, found_in_row, found_in_rows, station_of, found_meant};
 
 use crate::{TableQuery, number, table_rows, words};

@@ -1,7 +1,5 @@
-ghost use Rattle.sqlite.specs.State.{Survives};
-ghost use Rattle.sqlite.specs.Held.{state};
+ghost use Rattle.table_load.specs.Common.{Survives, state, stock_meant};
 ghost use Rattle.table_load.specs.Whole.{FindsTable};
-ghost use Rattle.station_rows.specs.Meant.{stock_meant};
 ghost use Rattle.table_load.specs.Held.{HoldsStock};
 
 use crate::{Cells, KeyedRow, RowError, TableQuery, found_rows};

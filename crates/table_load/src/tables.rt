@@ -1,10 +1,6 @@
 ghost use Rattle.std.specs.Prelude.{◌≡◌, ◌≢◌, [], ℕ, List, IfOk, Err};
-ghost use Rattle.std.specs.Ordering.{is_lt};
-ghost use Rattle.std.specs.declared.cmp.Ordering.{Ordering};
+ghost use Rattle.table_load.specs.Common.{is_lt, Ordering, Survives, Database, state};
 ghost use Rattle.sqlite.specs.Order.{Row as Values};
-ghost use Rattle.sqlite.specs.State.{Survives};
-ghost use Rattle.sqlite.specs.Effect.{Database};
-ghost use Rattle.sqlite.specs.Held.{state};
 ghost use Rattle.table_load.specs.Selects.{IsQuery, column_names};
 ghost use Rattle.table_load.specs.Whole.{AreLawful, HoldsTable, Agrees, FindsTable};
 ghost use Rattle.table_load.specs.Walks.{FoldsTable};

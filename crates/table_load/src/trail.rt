@@ -1,8 +1,6 @@
 ghost use Rattle.std.specs.Prelude.{[]};
-ghost use Rattle.sqlite.specs.State.{Survives};
-ghost use Rattle.sqlite.specs.Held.{state};
+ghost use Rattle.table_load.specs.Common.{Survives, state, trail_meant};
 ghost use Rattle.table_load.specs.Walks.{FoldsTable};
-ghost use Rattle.station_rows.specs.Meant.{trail_meant};
 ghost use Rattle.table_load.specs.Held.{HoldsTrail};
 
 use crate::{Cells, KeyedRow, RowError, RowFold, TableQuery, fold_rows};

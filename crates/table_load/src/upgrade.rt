@@ -1,10 +1,5 @@
 ghost use Rattle.std.specs.Prelude.{OnOk, OnErr};
-ghost use Rattle.sqlite.specs.State.{HasCleanDisk, Survives};
-ghost use Rattle.sqlite.specs.Held.{state};
-ghost use Rattle.station_schema.specs.Effects.{IsSettled, IsUndone};
-ghost use Rattle.station_schema.specs.Calls.{Alters, CommitsNothing};
-ghost use Rattle.station_schema.specs.Tables.{IsOldStation};
-ghost use Rattle.station_schema.specs.Own.{IsOwn};
+ghost use Rattle.table_load.specs.Common.{HasCleanDisk, Survives, state, IsSettled, IsUndone, Alters, CommitsNothing, IsOldStation, IsOwn};
 ghost use Rattle.table_load.specs.Upgrade.{Adds, IsInsideOld, IsUpgraded, Upgrades, Moves, MeansUpgraded, clearing, copying, filling, raising};
 
 use sqlite::{Alter, Connection, Error};

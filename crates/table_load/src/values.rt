@@ -1,7 +1,5 @@
 ghost use Rattle.std.specs.Prelude.{◌≡◌, ◌≢◌, ◌<◌, true, ℕ, ℤ, List, length, IfOk, IfSome, string_bytes, Ok, None};
-ghost use Rattle.std.specs.Str.{is_utf8};
-ghost use Rattle.sqlite.specs.declared.types.Value.TheVariants.{Int, Text};
-ghost use Rattle.sqlite.specs.Order.{column};
+ghost use Rattle.table_load.specs.Common.{is_utf8, Int, Text, column};
 
 use sqlite::{Error, Row};
 use sqlite_value::value::ValueRef;

@@ -1,9 +1,6 @@
 ghost use Rattle.std.specs.Prelude.{◌≡◌, ◌++◌, ◌∷◌, [], ℕ, List, IfOk, OnOk, IsTrue};
-ghost use Rattle.sqlite.specs.Given.{HasGiven};
-ghost use Rattle.sqlite.specs.Held.{state};
+ghost use Rattle.table_load.specs.Common.{HasGiven, state, HasCleanDisk, Survives, CommitsShowing, Moves};
 ghost use Rattle.sqlite.specs.Order.{Row as Values};
-ghost use Rattle.sqlite.specs.State.{HasCleanDisk, Survives, CommitsShowing};
-ghost use Rattle.station_schema.specs.Streams.{Moves};
 ghost use Rattle.table_load.specs.Whole.{Agrees, AreLawful};
 ghost use Rattle.table_load.specs.Walks.{follows, IsTyped, IsWalked, IsReadOnly, TellsRows, Walks};
 

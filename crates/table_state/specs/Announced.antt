@@ -1,14 +1,6 @@
 -- The waybills of which pieces have come in, and the rows that announce the others.
 use Rattle.std.specs.Prelude.{◌≡◌, ℕ, Bool, ◌||◌, nat_lt, List}
-use Rattle.std.specs.BTreeSet.{BTreeSet, contains}
-use Rattle.std.specs.Ordering.{nat_cmp}
-use Rattle.shipment_machine.specs.declared.moves.Balances.{Balances}
-use Rattle.shipment_machine.specs.declared.moves.Move.{Move}
-use Rattle.station_core.specs.Readers.{has_come}
-use Rattle.station_core.specs.declared.rows.AnnouncedRow.{AnnouncedRow}
-use Rattle.station_schema.specs.Tables.{Waybill}
-use Rattle.row_codec.specs.Numbers.{natural}
-use Rattle.row_codec.specs.Waybills.{declared_by}
+use Rattle.table_state.specs.Common.{BTreeSet, contains, nat_cmp, Balances, Move, has_come, AnnouncedRow, Waybill, natural, declared_by}
 
 -- pieces of a waybill with these balances have come in: received or found
 abbrev pub has_come_by : Balances → Bool

@@ -1,14 +1,7 @@
 -- What is known of every state that tables show.
 use Rattle.std.specs.Prelude.{◌≡◌, ◌≤◌, Bool, ◌&&◌, nat_le, true, length, Option, Some, None}
 use Rattle.std.proofs.Common.{sym, ap, ◌∙◌, refl, arith}
-use Rattle.shipment_machine.specs.Cargo.{Cargo}
-use Rattle.station_core.specs.Step.{State, has_room, most_rows}
-use Rattle.station_schema.specs.Tables.{Tables}
-use Rattle.station_schema.specs.Store.{View}
-use Rattle.row_codec.specs.Meaning.{Means}
-use Rattle.state_store.specs.Store.{at_rest}
-use Rattle.station_core.specs.Told.{sizes_of}
-use Rattle.station_core.specs.declared.stored.Sizes.{Sizes}
+use Rattle.table_state.specs.Common.{Cargo, State, has_room, most_rows, Tables, View, Means, at_rest, sizes_of, Sizes}
 use Rattle.table_state.specs.Shown.{Holds, Finds}
 
 -- two meanings of the same tables

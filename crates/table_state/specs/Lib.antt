@@ -1,3 +1,4 @@
+pub mod Common
 pub mod Announced
 pub mod File
 pub mod Handing

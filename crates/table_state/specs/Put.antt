@@ -1,8 +1,6 @@
 -- A row that is written over the one with its key, or anew.
 use Rattle.std.specs.Prelude.{Bool, true, false, Option, Some, None}
-use Rattle.sqlite_keyed.specs.Keyed.{get_by}
-use Rattle.station_schema.specs.Tables.{Tables, Waybill, waybill_id}
-use Rattle.station_rows.specs.Meant.{with_waybill, changing_waybill}
+use Rattle.table_state.specs.Common.{get_by, Tables, Waybill, waybill_id, with_waybill, changing_waybill}
 
 abbrev pub put_over : Option Waybill → Waybill → Tables → Tables
 put_over None new tables = with_waybill new tables

@@ -1,12 +1,7 @@
 -- A move that was written, with what it changes of the running counts.
 use Rattle.std.specs.Prelude.{◌≡◌, ℕ, IsTrue, List}
-use Rattle.shipment_machine.specs.declared.moves.Move.{Move}
-use Rattle.station_schema.specs.Store.{View}
+use Rattle.table_state.specs.Common.{Move, View, Tables, with_move, move_row, move_by, is_move_row, Posted}
 use Rattle.station_schema.specs.Tables as table
-use Rattle.station_schema.specs.Tables.{Tables}
-use Rattle.station_rows.specs.Meant.{with_move}
-use Rattle.row_codec.specs.Moves.{move_row, move_by, is_move_row}
-use Rattle.row_codec.specs.Posted.{Posted}
 
 -- in a transaction a store shows these tables with one move more, under this number, and the
 -- running counts of this book

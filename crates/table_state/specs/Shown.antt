@@ -1,26 +1,6 @@
 -- What a store of tables shows of a state.
 use Rattle.std.specs.Prelude.{◌≡◌, ℕ, ℤ, pos, ◌+ℤ◌, int_lt, Bool, true, false, not, ◌&&◌, ◌||◌, List, length, All, Option, Some, IfSome}
-use Rattle.std.specs.BTreeSet.{BTreeSet}
-use Rattle.shipment_machine.specs.Book.{balances_of, in_store, same_place, waybills_on}
-use Rattle.shipment_machine.specs.Numbers.{is_in}
-use Rattle.shipment_machine.specs.declared.moves.Move.{Move}
-use Rattle.shipment_machine.specs.declared.moves.Place.TheVariants.{Missing, Surplus}
-use Rattle.station_core.specs.Readers.{expected_for}
-use Rattle.station_core.specs.Step.{State}
-use Rattle.station_core.specs.declared.rows.ExpectedQuery.TheVariants.{Open}
-use Rattle.station_schema.specs.Tables.{Tables}
-use Rattle.station_schema.specs.Store.{View, IsAtRest}
-use Rattle.row_codec.specs.Counts.{running}
-use Rattle.row_codec.specs.Meaning.{Means}
-use Rattle.row_codec.specs.Known.{AreKnown}
-use Rattle.state_store.specs.ExpectedLines.{Lines, lines_in}
-use Rattle.state_store.specs.Store.{Seen, Storing}
-use Rattle.state_store.specs.Waybills.{is_asked_for}
-use Rattle.state_store.specs.declared.expected_lines.ExpectedLines.{ExpectedLines}
-use Rattle.state_store.specs.declared.query.WaybillQuery.{WaybillQuery}
-use Rattle.state_store.specs.declared.query.WaybillQuery.TheVariants.{Irregular, Stored}
-use Rattle.station_core.specs.Told.{sizes_of}
-use Rattle.station_core.specs.declared.stored.Sizes.{Sizes}
+use Rattle.table_state.specs.Common.{BTreeSet, balances_of, in_store, same_place, waybills_on, is_in, Move, Missing, Surplus, expected_for, State, Open, Tables, View, IsAtRest, running, Means, AreKnown, Lines, lines_in, Seen, Storing, is_asked_for, ExpectedLines, WaybillQuery, Irregular, Stored, sizes_of, Sizes}
 use Rattle.table_state.specs.declared.counted.Boarded.{Boarded}
 use Rattle.table_state.specs.declared.counted.Boardings.{Boardings}
 use Rattle.table_state.specs.declared.counted.KnownCounts.{KnownCounts}

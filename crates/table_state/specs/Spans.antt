@@ -1,11 +1,6 @@
 -- The part of the book in which the moves of a day's flights lie.
 use Rattle.std.specs.Prelude.{◌≡◌, ◌≤◌, ◌<◌, ℕ, true, List, All, Option, Some, IfSome}
-use Rattle.std.specs.BTreeMap.{BTreeMap, get}
-use Rattle.std.specs.Ordering.{nat_cmp}
-use Rattle.shipment_machine.specs.declared.flight.FlightDate.{FlightDate}
-use Rattle.shipment_machine.specs.declared.moves.Move.{Move}
-use Rattle.station_core.specs.Readers.{numbered, book_row, is_of_flight}
-use Rattle.station_core.specs.declared.rows.BookRow.{BookRow}
+use Rattle.table_state.specs.Common.{BTreeMap, get, nat_cmp, FlightDate, Move, numbered, book_row, is_of_flight, BookRow}
 use Rattle.table_state.specs.declared.flight_spans.Span.{Span}
 
 -- a number lies in a span

@@ -2,14 +2,8 @@
 #![tactic(auto, using(crate::proofs::Lifting::rests_on, crate::proofs::Lifting::survives_so))]
 
 ghost use Rattle.std.specs.Prelude.{◌≡◌, not, map, List, IfOk};
-ghost use Rattle.std.specs.BTreeSet.{contains};
-ghost use Rattle.std.specs.List.{filter};
-ghost use Rattle.std.specs.Ordering.{nat_cmp};
+ghost use Rattle.table_state.specs.Common.{contains, filter, nat_cmp, AreAnnounced, AreAllBalances, ReadsAtRest, waybill_meant};
 ghost use Rattle.shipment_machine.specs.declared.moves.Move as cargo;
-ghost use Rattle.station_core.specs.Readers.{AreAnnounced};
-ghost use Rattle.station_core.specs.Told.{AreAllBalances};
-ghost use Rattle.state_store.specs.Store.{ReadsAtRest};
-ghost use Rattle.station_rows.specs.Meant.{waybill_meant};
 ghost use Rattle.table_state.specs.Announced.{HaveCome, announced_by, has_come_by};
 ghost use Rattle.table_state.specs.Shown.{in_tables};
 

@@ -1,9 +1,7 @@
 //! The number of waybills on a flight, and how a move changes it.
 ghost use Rattle.std.specs.Prelude.{◌≡◌, ◌∷◌, [], ◌++◌, length, List, Some, IfSome};
-ghost use Rattle.shipment_machine.specs.Book.{same_place, waybills_on};
+ghost use Rattle.table_state.specs.Common.{same_place, waybills_on, Built, WereThere};
 ghost use Rattle.shipment_machine.specs.declared.moves.Move as cargo;
-ghost use Rattle.shipment_machine.specs.declared.moves.Place.TheVariants.{Built};
-ghost use Rattle.row_codec.specs.Posted.{WereThere};
 ghost use Rattle.table_state.specs.Shown.{IsBoarded, AreBoarded, joins};
 
 use crate::counted::{Boarded, Boardings, MOST_FLIGHTS};

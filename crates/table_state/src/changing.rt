@@ -2,10 +2,7 @@
 #![tactic(auto, using(crate::proofs::Lifting::survives_so))]
 
 ghost use Rattle.std.specs.Prelude.{[]};
-ghost use Rattle.shipment_machine.specs.Cargo.{written};
-ghost use Rattle.shipment_machine.specs.declared.plans.Change.TheVariants.{Confirm, Declare, Expect, NoteFlight, NotePart, Trail, UseUp};
-ghost use Rattle.state_store.specs.Store.{Changes};
-ghost use Rattle.station_core.specs.Told.{on_cargo};
+ghost use Rattle.table_state.specs.Common.{written, Confirm, Declare, Expect, NoteFlight, NotePart, Trail, UseUp, Changes, on_cargo};
 ghost use Rattle.table_state.specs.Shown.{in_tables};
 
 use crate::state::TableState;

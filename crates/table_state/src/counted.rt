@@ -1,6 +1,6 @@
 //! Counts of the state that is shown.
 ghost use Rattle.std.specs.Prelude.{◌≤◌};
-ghost use Rattle.station_core.specs.Step.{most_rows};
+ghost use Rattle.table_state.specs.Common.{most_rows};
 
 use crate::flight_spans::FlightSpans;
 use crate::open_lines::OpenLines;

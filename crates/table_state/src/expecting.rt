@@ -1,9 +1,7 @@
 //! Expectations of flights.
 #![tactic(auto, using(crate::proofs::Lifting::rests_on, crate::proofs::Lifting::survives_so))]
 
-ghost use Rattle.station_core.specs.Readers.{AreExpectations, expected_for};
-ghost use Rattle.station_core.specs.declared.rows.ExpectedQuery.TheVariants.{Open};
-ghost use Rattle.state_store.specs.Store.{ReadsAtRest};
+ghost use Rattle.table_state.specs.Common.{AreExpectations, expected_for, Open, ReadsAtRest};
 ghost use Rattle.table_state.specs.Shown.{in_tables};
 
 use crate::noted::waybills_expected;

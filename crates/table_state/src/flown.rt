@@ -1,7 +1,6 @@
 //! Movements for readers; those of a flight are read from the part of the book in which they lie.
-ghost use Rattle.station_core.specs.Readers.{book_by};
-ghost use Rattle.station_core.specs.declared.rows.BookQuery.TheVariants.{On};
-ghost use Rattle.state_store.specs.Store.{HandsOut, StaysAtRest, Survives};
+ghost use Rattle.table_state.specs.Common.{book_by, On, HandsOut, StaysAtRest};
+ghost use Rattle.state_store.specs.Store.{Survives};
 ghost use Rattle.table_state.specs.Shown.{in_tables};
 
 use crate::flight_spans::Filling;

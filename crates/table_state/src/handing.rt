@@ -1,10 +1,6 @@
 //! Rows of tables, handed on as readers are given them.
 ghost use Rattle.std.specs.Prelude.{◌≡◌, false, IsOk, OnOk};
-ghost use Rattle.station_rows.specs.Meant.{move_meant, message_meant, trail_meant};
-ghost use Rattle.station_core.specs.Readers.{message};
-ghost use Rattle.row_codec.specs.Logs.{trail_row_by};
-ghost use Rattle.row_codec.specs.Moves.{book_row_by};
-ghost use Rattle.row_codec.specs.Numbers.{natural};
+ghost use Rattle.table_state.specs.Common.{move_meant, message_meant, trail_meant, message, trail_row_by, book_row_by, natural};
 
 use row_codec::{book_row_by, line_by, message_by};
 use state_store::StoreFault;

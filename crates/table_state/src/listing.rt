@@ -2,8 +2,7 @@
 #![tactic(auto, using(crate::proofs::Lifting::rests_on, crate::proofs::Lifting::survives_so))]
 
 ghost use Rattle.std.specs.Prelude.{◌≡◌, ◌++◌, Some};
-ghost use Rattle.state_store.specs.Store.{ReadsAtRest};
-ghost use Rattle.state_store.specs.Waybills.{asked, waybills_for};
+ghost use Rattle.table_state.specs.Common.{ReadsAtRest, asked, waybills_for};
 ghost use Rattle.table_state.specs.Shown.{HasAsked, in_tables};
 
 use crate::state::TableState;

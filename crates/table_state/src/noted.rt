@@ -1,8 +1,6 @@
 //! Flights and expectations, by rows.
 ghost use Rattle.std.specs.Prelude.{◌≡◌, map, Some, IfOk};
-ghost use Rattle.station_rows.specs.Meant.{listed_waybill_meant, noted_flight_meant};
-ghost use Rattle.row_codec.specs.Flights.{noted_by};
-ghost use Rattle.row_codec.specs.Manifests.{expectation_by};
+ghost use Rattle.table_state.specs.Common.{listed_waybill_meant, noted_flight_meant, noted_by, expectation_by};
 
 use row_codec::{expectation_by, noted_by};
 use state_store::StoreFault;

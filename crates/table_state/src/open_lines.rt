@@ -1,8 +1,6 @@
 //! The open lines of flights, as far as they are known.
 ghost use Rattle.std.specs.Prelude.{Some};
-ghost use Rattle.state_store.specs.ExpectedLines.{Lines, with_line};
-ghost use Rattle.station_core.specs.Readers.{AreExpectations, expected_for};
-ghost use Rattle.station_core.specs.declared.rows.ExpectedQuery.TheVariants.{Open};
+ghost use Rattle.table_state.specs.Common.{Lines, with_line, AreExpectations, expected_for, Open};
 ghost use Rattle.table_state.specs.Shown.{HasOpen};
 
 use awb_number::Awb;

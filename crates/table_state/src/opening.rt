@@ -1,17 +1,6 @@
 ghost use Rattle.std.specs.Prelude.{◌≡◌, ◌⊎◌, ◌↔◌, true, false, IsTrue, Some, Option, IfOk, IfErr, OnOk};
-ghost use Rattle.sqlite.specs.Held.{state};
-ghost use Rattle.sqlite.specs.State.{HasCleanDisk};
+ghost use Rattle.table_state.specs.Common.{state, HasCleanDisk, Trees, State, opening, IsOneStep, connection_view, IsVacant, takes_name, IsUnchanged, IsOwn, LiesInOrder, rows_view, are_declared, Seen, at_rest};
 ghost use Rattle.sqlite.specs.State as connection;
-ghost use Rattle.sqlite.specs.Tree.{Trees};
-ghost use Rattle.station_core.specs.Step.{State, opening};
-ghost use Rattle.station_schema.specs.Beside.{IsOneStep};
-ghost use Rattle.station_schema.specs.Connection.{connection_view, IsVacant};
-ghost use Rattle.station_schema.specs.Names.{takes_name};
-ghost use Rattle.station_schema.specs.Store.{IsUnchanged};
-ghost use Rattle.station_schema.specs.Own.{IsOwn, LiesInOrder};
-ghost use Rattle.station_rows.specs.View.{rows_view};
-ghost use Rattle.station_rows.specs.Own.{are_declared};
-ghost use Rattle.state_store.specs.Store.{Seen, at_rest};
 ghost use Rattle.table_state.specs.File.{IsFileOf};
 ghost use Rattle.table_state.specs.Shown.{Finds, IfGivenBack};
 

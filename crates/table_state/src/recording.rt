@@ -1,11 +1,7 @@
 //! A move is written with what it changes of the running counts.
 ghost use Rattle.std.specs.Prelude.{List, ◌++◌, ◌∷◌, [], IfOk, OnOk};
 ghost use Rattle.shipment_machine.specs.declared.moves.Move as cargo;
-ghost use Rattle.station_schema.specs.Store.{IsShowing, Survives, inside};
-ghost use Rattle.station_schema.specs.Tables.{Tables};
-ghost use Rattle.row_codec.specs.Counts.{AreCounts, AreBuilds, running};
-ghost use Rattle.row_codec.specs.Known.{AreKnown};
-ghost use Rattle.row_codec.specs.Posted.{WereThere};
+ghost use Rattle.table_state.specs.Common.{IsShowing, Survives, inside, Tables, AreCounts, AreBuilds, running, AreKnown, WereThere};
 ghost use Rattle.table_state.specs.Recorded.{Recorded};
 
 use row_codec::{KnownSums, move_row, post_move};

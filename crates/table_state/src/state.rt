@@ -1,11 +1,7 @@
 #![tactic(auto, using(crate::proofs::Lifting::rests_on, crate::proofs::Lifting::survives_so))]
 
 ghost use Rattle.std.specs.Prelude.{◌≡◌, Some};
-ghost use Rattle.station_core.specs.Step.{State, opening};
-ghost use Rattle.station_schema.specs.Tables.{Tables};
-ghost use Rattle.row_codec.specs.Meaning.{Means};
-ghost use Rattle.station_schema.specs.Connection.{IsOpening};
-ghost use Rattle.state_store.specs.Store.{at_rest};
+ghost use Rattle.table_state.specs.Common.{State, opening, Tables, Means, IsOpening, at_rest};
 ghost use Rattle.table_state.specs.Laws.{finds_what_it_shows, all_numbered};
 ghost use Rattle.table_state.specs.Shown.{HasThese, Knows, in_tables};
 

@@ -1,9 +1,7 @@
 //! The waybills that may have pieces in store, and those that may have pieces missing or found.
 ghost use Rattle.std.specs.Prelude.{◌≡◌, ◌∷◌, [], ◌++◌, true, map, ℕ, List, Some, IfOk};
-ghost use Rattle.std.specs.List.{filter};
-ghost use Rattle.shipment_machine.specs.Numbers.{is_in};
+ghost use Rattle.table_state.specs.Common.{filter, is_in, is_asked_for};
 ghost use Rattle.shipment_machine.specs.declared.moves.Move as cargo;
-ghost use Rattle.state_store.specs.Waybills.{is_asked_for};
 ghost use Rattle.table_state.specs.Shown.{HasAsked, HaveAsked, opens};
 
 use shipment_machine::{Move, Place};

@@ -1,7 +1,5 @@
 //! Rows that are written over the one with their key, or anew, in a transaction.
-ghost use Rattle.station_schema.specs.Store.{Survives};
-ghost use Rattle.station_rows.specs.Meant.{waybill_meant, flight_meant, with_flight, expected_meant, with_expected};
-ghost use Rattle.station_rows.specs.Clauses.{ShowsChange};
+ghost use Rattle.table_state.specs.Common.{Survives, waybill_meant, flight_meant, with_flight, expected_meant, with_expected, ShowsChange};
 ghost use Rattle.table_state.specs.Put.{putting_waybill};
 
 use station_rows::{

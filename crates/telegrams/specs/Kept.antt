@@ -1,9 +1,6 @@
 -- Ranges that the types of telegrams guarantee.
 use Rattle.std.specs.Prelude.{ℕ, Bool, ◌||◌, ◌==◌}
-use Rattle.std.specs.List.{list_all}
-use Rattle.imp_fields.specs.Characters.{is_printable}
-use Rattle.imp_fields.specs.declared.line.Consignment.{Consignment}
-use Rattle.ffm_text.specs.declared.FfmLine.{FfmLine}
+use Rattle.telegrams.specs.Common.{list_all, is_printable, Consignment, FfmLine}
 
 -- a byte of a normal text: printable, or a newline between lines
 abbrev pub is_text_byte : ℕ → Bool

@@ -1,23 +1,8 @@
 -- The meaning of a telegram: from its bytes to its normal text, and to its content.
 use Rattle.std.specs.Prelude.{◌≡◌, ℕ, ◌≤◌, List, length, map, Option, Some, None, Result, Ok, Err, IsTrue}
-use Rattle.std.specs.List.{list_all}
-use Rattle.std.specs.Option.{unwrap_or}
-use Rattle.imp_fields.specs.Characters.{is_line}
-use Rattle.imp_fields.specs.Name.{kept_goods}
-use Rattle.imp_fields.specs.Consignment.{Shipment}
-use Rattle.imp_fields.specs.NormalText.{normal_lines, normal_text, first_kind, fault_at}
-use Rattle.imp_fields.specs.TextSize.{most_lines}
-use Rattle.imp_fields.specs.declared.fault.Why.{Why}
+use Rattle.telegrams.specs.Common.{list_all, unwrap_or, is_line, kept_goods, Shipment, normal_lines, normal_text, first_kind, fault_at, most_lines, Why, TextFault, MessageKind, IsFwb, fwb_fault, Unloaded, Manifest, IsFfm, ffm_fault, StatusUpdate, IsFsu, fsu_fault, CargoLine, InboundLine, Refusal}
 use Rattle.imp_fields.specs.declared.fault.Why.TheVariants as why
-use Rattle.imp_fields.specs.declared.fault.TextFault.{TextFault}
-use Rattle.imp_fields.specs.declared.line.MessageKind.{MessageKind}
 use Rattle.imp_fields.specs.declared.line.MessageKind.TheVariants as kinds
-use Rattle.fwb_text.specs.Fwb.{IsFwb, fwb_fault}
-use Rattle.ffm_text.specs.Ffm.{Unloaded, Manifest, IsFfm, ffm_fault}
-use Rattle.fsu_text.specs.Fsu.{StatusUpdate, IsFsu, fsu_fault}
-use Rattle.shipment_machine.specs.declared.command.CargoLine.{CargoLine}
-use Rattle.shipment_machine.specs.declared.command.InboundLine.{InboundLine}
-use Rattle.shipment_machine.specs.declared.plans.Refusal.{Refusal}
 use Rattle.shipment_machine.specs.declared.plans.Detail.TheVariants as detail
 use Rattle.telegrams.specs.declared.telegram.PartContent.{PartContent}
 use Rattle.telegrams.specs.declared.telegram.StatusContent.{StatusContent}

@@ -1,23 +1,10 @@
 -- The text of a notice, a status or a manifest.
 use Rattle.std.specs.Prelude.{◌≡◌, ℕ, List, map, Some, Ok}
-use Rattle.station_days.specs.Date.{date_on, when_at}
-use Rattle.imp_fields.specs.Message.{sent_text}
-use Rattle.imp_fields.specs.NormalText.{normal_lines}
-use Rattle.imp_fields.specs.declared.waybill_summary.WaybillSummary.{WaybillSummary}
-use Rattle.ffm_text.specs.Ffm.{IsFfm, ffm_lines, manifest_written}
-use Rattle.ffm_text.specs.declared.Load.{Load}
-use Rattle.fsu_text.specs.Fsu.{IsFsu, fsu_lines, update_written, sent_status_text, sent_status_reading}
-use Rattle.fsu_text.specs.Status.{status_of}
+use Rattle.telegrams.specs.Common.{date_on, when_at, sent_text, normal_lines, WaybillSummary, IsFfm, ffm_lines, manifest_written, Load, IsFsu, fsu_lines, update_written, sent_status_text, sent_status_reading, status_of, SentStatus, SentUpdate, FlightDate, Event, ManifestLine, Notice}
 use Rattle.fsu_text.specs.declared.status.Handling.TheVariants as handling
 use Rattle.fsu_text.specs.declared.sent.SentCarriage.TheVariants as leaving
-use Rattle.fsu_text.specs.declared.sent.SentStatus.{SentStatus}
 use Rattle.fsu_text.specs.declared.sent.SentStatus.TheVariants as sent
-use Rattle.fsu_text.specs.declared.sent.SentUpdate.{SentUpdate}
-use Rattle.shipment_machine.specs.declared.flight.FlightDate.{FlightDate}
-use Rattle.shipment_machine.specs.declared.notice.Event.{Event}
 use Rattle.shipment_machine.specs.declared.notice.Event.TheVariants as event
-use Rattle.shipment_machine.specs.declared.notice.ManifestLine.{ManifestLine}
-use Rattle.shipment_machine.specs.declared.notice.Notice.{Notice}
 use Rattle.shipment_machine.specs.declared.notice.Notice.TheVariants as notice
 
 -- An event as a sent status: with the flight's date without the year if a flight leaves, otherwise

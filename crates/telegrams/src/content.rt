@@ -1,17 +1,8 @@
 //! The content of a normal text.
 
 ghost use Rattle.std.specs.Prelude.{◌≡◌, ◌≤◌, ◌++◌, ◌∷◌, [], Option, Some, IsTrue, IfOk, IfErr, OnOk, length, map};
-ghost use Rattle.std.specs.Option.{unwrap_or};
-ghost use Rattle.std.specs.List.{list_all};
-ghost use Rattle.imp_fields.specs.declared.fault.TextFault.{TextFault};
+ghost use Rattle.telegrams.specs.Common.{unwrap_or, list_all, TextFault, shipment_of, line_texts, IsFaultOf, most_lines, fwb_fault, ffm_fault, unloaded_of, fsu_fault, is_plain};
 ghost use Rattle.imp_fields.specs.declared.line.MessageKind.TheVariants as kinds;
-ghost use Rattle.imp_fields.specs.Consignment.{shipment_of};
-ghost use Rattle.imp_fields.specs.NormalText.{line_texts, IsFaultOf};
-ghost use Rattle.imp_fields.specs.TextSize.{most_lines};
-ghost use Rattle.fwb_text.specs.Fwb.{fwb_fault};
-ghost use Rattle.ffm_text.specs.Ffm.{ffm_fault, unloaded_of};
-ghost use Rattle.fsu_text.specs.Fsu.{fsu_fault};
-ghost use Rattle.fsu_text.specs.Trail.{is_plain};
 ghost use Rattle.telegrams.specs.Kept.{has_plain_goods, has_plain_cargo};
 ghost use Rattle.telegrams.specs.Meaning.{cargo_line, inbound_line, message_fault, SaysAs, RefusesAs};
 

@@ -2,10 +2,8 @@
 //! do nothing.
 
 ghost use Rattle.std.specs.Prelude.{◌≤◌, All, length, map};
-ghost use Rattle.station_days.specs.Date.{date_on};
-ghost use Rattle.ffm_text.specs.Written.{IsLoad, AreWritten};
+ghost use Rattle.telegrams.specs.Common.{date_on, IsLoad, AreWritten, most_waybills};
 ghost use Rattle.telegrams.specs.NoticeText.{sent_load, IsNormalManifest, IsManifestAgain};
-ghost use Rattle.imp_fields.specs.Flight.{most_waybills};
 
 use crate::notice::load_of;
 use imp_fields::Airport;

@@ -1,10 +1,7 @@
 //! The texts of notices.
 
 ghost use Rattle.std.specs.Prelude.{◌≡◌, Ok, IfOk, map};
-ghost use Rattle.station_days.specs.Date.{date_on, when_at};
-ghost use Rattle.imp_fields.specs.Message.{sent_text};
-ghost use Rattle.imp_fields.specs.NormalText.{normal_lines};
-ghost use Rattle.fsu_text.specs.Fsu.{fsu_lines};
+ghost use Rattle.telegrams.specs.Common.{date_on, when_at, sent_text, normal_lines, fsu_lines};
 ghost use Rattle.fsu_text.specs.declared.sent.SentStatus.TheVariants as sent;
 ghost use Rattle.telegrams.specs.NoticeText.{status_of_event, sent_update, sent_load, manifest_lines, notice_lines, notice_text, IsUpdateAgain, IsReadAgain};
 

@@ -1,8 +1,7 @@
 //! Telegrams that arrive.
 
 ghost use Rattle.std.specs.Prelude.{◌≡◌, ◌++◌, ◌∷◌, IsTrue, IfOk, IfErr, OnOk, map};
-ghost use Rattle.std.specs.List.{list_all};
-ghost use Rattle.imp_fields.specs.NormalText.{normal_text, line_texts};
+ghost use Rattle.telegrams.specs.Common.{list_all, normal_text, line_texts};
 ghost use Rattle.telegrams.specs.Kept.{is_text_byte};
 ghost use Rattle.telegrams.specs.Meaning.{IsTelegram, RefusesText};
 

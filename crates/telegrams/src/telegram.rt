@@ -1,8 +1,6 @@
 ghost use Rattle.std.specs.Prelude.{◌≡◌, ◌≤◌, ◌↔◌, IsTrue, length};
-ghost use Rattle.std.specs.List.{list_all};
-ghost use Rattle.imp_fields.specs.Characters.{is_line};
+ghost use Rattle.telegrams.specs.Common.{list_all, is_line, most_lines};
 ghost use Rattle.telegrams.specs.Kept.{is_text_byte};
-ghost use Rattle.imp_fields.specs.TextSize.{most_lines};
 
 use awb_number::Awb;
 use imp_fields::{Airport, Flight, PartNumber};

@@ -1,9 +1,9 @@
 //! Queries of the book, the outbox and the trail.
 ghost use Rattle.std.specs.Prelude.{◌≡◌, ◌+◌, ◌≤◌, ◌++◌, ◌∷◌, [], drop, length, IfOk, OnOk};
-ghost use Rattle.station_core.specs.Readers.{book_row, is_of_flight, lines_for, message, movements_for, numbered, trail_row};
+ghost use Rattle.state_store.specs.Common.{book_row, is_of_flight, message, movements_for, numbered, trail_row, texts_in};
+ghost use Rattle.station_core.specs.Readers.{lines_for};
 ghost use Rattle.state_store.specs.Asked.{first_line, first_movement, if_line, if_movement, is_line_of, is_movement_of};
 ghost use Rattle.state_store.specs.Maps.{trail_in, trail_line};
-ghost use Rattle.station_core.specs.Texts.{texts_in};
 
 use crate::StoreFault;
 use crate::maps::state::TrailEntry;

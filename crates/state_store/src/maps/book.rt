@@ -1,9 +1,5 @@
 ghost use Rattle.std.specs.Prelude.{◌≡◌, ◌&&◌, ◌==◌, ◌++◌, ◌∷◌, [], ℕ, false, if◌then◌else◌, IfOk, OnOk};
-ghost use Rattle.std.specs.Ordering.{nat_cmp};
-ghost use Rattle.std.specs.BTreeMap.{get, is_at};
-ghost use Rattle.std.specs.Option.{unwrap_or};
-ghost use Rattle.shipment_machine.specs.Book.{balances_of, built, has_moves, same_place};
-ghost use Rattle.shipment_machine.specs.declared.moves.Place.TheVariants.{Built};
+ghost use Rattle.state_store.specs.Common.{nat_cmp, get, is_at, unwrap_or, balances_of, built, has_moves, same_place, Built};
 ghost use Rattle.state_store.specs.FlightKey.{by_key};
 ghost use Rattle.state_store.specs.Flow.{flow_with};
 ghost use Rattle.state_store.specs.Summed.{IsSummed, IsWaybillSummed, flow_at, flow_in};

@@ -1,6 +1,6 @@
 //! Flows into a place and out of it.
 ghost use Rattle.std.specs.Prelude.{◌≡◌, ◌+◌, ◌-◌, IfOk};
-ghost use Rattle.shipment_machine.specs.Amount.{amount};
+ghost use Rattle.state_store.specs.Common.{amount};
 ghost use Rattle.state_store.specs.Flow.{drawn_of, flow_with, held_of, more};
 
 use crate::StoreFault;

@@ -1,7 +1,6 @@
 //! Storing accepted inputs for repeats.
 ghost use Rattle.std.specs.Prelude.{OnOk};
-ghost use Rattle.station_core.specs.Step.{State};
-ghost use Rattle.station_core.specs.Told.{with_key, with_text};
+ghost use Rattle.state_store.specs.Common.{State, with_key, with_text};
 ghost use Rattle.state_store.specs.Shown.{Shows};
 
 use crate::StoreFault;

@@ -1,6 +1,6 @@
 //! The noted flights and the announced waybills, in order.
 ghost use Rattle.std.specs.Prelude.{◌≡◌, ◌++◌, IfOk, OnOk};
-ghost use Rattle.station_core.specs.Readers.{AreAnnounced, AreNoted};
+ghost use Rattle.state_store.specs.Common.{AreAnnounced, AreNoted};
 ghost use Rattle.state_store.specs.Listed.{announced_by};
 ghost use Rattle.state_store.specs.Maps.{cargo_of, flights_in};
 ghost use Rattle.state_store.specs.Summed.{IsSummed};

@@ -1,5 +1,5 @@
 //! A new station in memory.
-ghost use Rattle.station_core.specs.Step.{opening};
+ghost use Rattle.state_store.specs.Common.{opening};
 ghost use Rattle.state_store.specs.Store.{at_rest};
 
 use crate::maps::book::MovementBook;

@@ -1,7 +1,5 @@
 ghost use Rattle.std.specs.Prelude.{◌≡◌, ℕ, ◌≤◌, ◌<◌, true, None, Some, cond, ◌&&◌, nat_lt, nat_eq, IsSome, IfSome, OnOk, OnErr, IfOk};
-ghost use Rattle.std.specs.Ordering.{nat_cmp};
-ghost use Rattle.std.specs.BTreeMap.{get, IsOrdered};
-ghost use Rattle.agent_stock.specs.Stock.{Holders, is_run, assigned, lowest_failing};
+ghost use Rattle.state_store.specs.Common.{nat_cmp, get, IsOrdered, Holders, is_run, assigned, lowest_failing};
 ghost use Rattle.state_store.specs.Stock.{holders_of, nobody};
 
 use agent_stock::{Holder, Run, Test};

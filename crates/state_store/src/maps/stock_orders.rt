@@ -1,5 +1,5 @@
 ghost use Rattle.std.specs.Prelude.{◌≡◌, None, OnOk, OnErr, IfErr};
-ghost use Rattle.agent_stock.specs.Stock.{run_refusal, order_refusal, assigned, after_order, RefusesOrder};
+ghost use Rattle.state_store.specs.Common.{run_refusal, order_refusal, assigned, after_order, RefusesOrder};
 ghost use Rattle.state_store.specs.Stock.{holders_of};
 
 use crate::maps::stock::MapStock;

@@ -1,7 +1,6 @@
 //! The stock as its maximal runs.
 ghost use Rattle.std.specs.Prelude.{IfOk, OnOk};
-ghost use Rattle.agent_stock.specs.Runs.{AreStockRuns, IsNoneFrom};
-ghost use Rattle.agent_stock.specs.Stock.{Holders};
+ghost use Rattle.state_store.specs.Common.{AreStockRuns, IsNoneFrom, Holders};
 ghost use Rattle.state_store.specs.Runs.{with_numbers};
 ghost use Rattle.state_store.specs.Stock.{holders_of};
 

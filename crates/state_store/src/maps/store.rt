@@ -3,7 +3,7 @@
 
 ghost use Rattle.std.specs.Prelude.{◌≡◌, ◌≤◌};
 ghost use Rattle.state_store.specs.Shown.{in_memory};
-ghost use Rattle.station_core.specs.Step.{most_rows};
+ghost use Rattle.state_store.specs.Common.{most_rows};
 
 use crate::maps::asked::{lines, messages, movements};
 use crate::maps::state::MapState;

@@ -1,9 +1,6 @@
 //! Writing rows.
 ghost use Rattle.std.specs.Prelude.{◌∷◌, [], OnOk};
-ghost use Rattle.shipment_machine.specs.Cargo.{written};
-ghost use Rattle.shipment_machine.specs.declared.plans.Change.TheVariants.{Confirm, Declare, Expect, NoteFlight, NotePart, Trail, UseUp};
-ghost use Rattle.station_core.specs.Step.{State};
-ghost use Rattle.station_core.specs.Told.{on_cargo, with_messages, with_moves};
+ghost use Rattle.state_store.specs.Common.{written, Confirm, Declare, Expect, NoteFlight, NotePart, Trail, UseUp, State, on_cargo, with_messages, with_moves};
 ghost use Rattle.state_store.specs.Shown.{Shows};
 
 use crate::maps::state::{MapState, TrailEntry};

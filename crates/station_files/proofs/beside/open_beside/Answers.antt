@@ -31,12 +31,12 @@ returns-in-Err-clause-spared g c late db may =
     let made = c.args.made in
     let clean = no_doubt _ late in
     let it = c.in_ok-store.ensures.read (sure (shown store).is_clean (omega (arith, clean, c.in-Err.ensures.clean_left))) in
-    let whole = λ (back : _) (may : _). settled_at store g.met.D.Disk.seen_may_stay back it.is_open may ∙ sym it.fresh.clean in (
-      it.size,
+    let whole = λ (back : _) (may : _). settled_at store g.met.D.Disk.seen_may_stay back it.by.is_open may ∙ sym it.fresh.clean in (
+      it.by.size,
       (store_state store).committed,
-      it.found,
+      it.by.found,
       elim (c.in-Err.ensures.left clean db may) [
-        | inl was ↦ inl (it.wanted, it.ours, whole db was ∙ it.reads)
+        | inl was ↦ inl (it.wanted, it.by.ours, whole db was ∙ it.by.reads)
         | inr own ↦ inr (
           own.0,
           own.3 ∙ ap (own_trees c.in_ok-store.numbers.items) (whole own.1 own.2)

@@ -1,6 +1,6 @@
-use Rattle.station_files.proofs.Common.{IsOurs, Recovers, ap, ap₂, arith, bytes_of, cond-true, false, file_trees, is_summed, kept_schema, no_doubt, no_trees, refl, state, state_of, subst₂, summed_used, ∥∥₁_map, ◌∙◌, ◌≡◌}
+use Rattle.station_files.proofs.Common.{ap, false, is_summed, kept_schema, no_doubt, refl, state_of, summed_used, ◌∙◌}
 use Rattle.station_files.proofs.ByList.{in_any_order}
-use Rattle.station_files.proofs.Opened.{kept_files}
+use Rattle.station_files.proofs.Opened.{kept_files, read_by_store}
 use Rattle.station_files.proofs.beside.store_beside.Goals as goal
 
 pub returns-in-Ok-open_all-clause-read : goal.returns-in-Ok-open_all-clause-read
@@ -8,21 +8,10 @@ returns-in-Ok-open_all-clause-read g c now =
     let it = c.in-Ok-open_all.found.0 in
     let e = c.in-Ok-open_all.ensures in
     let u = c.in-Ok.ensures.unopened in
-    let sized : (state it).page_size ≡ bytes_of u.size = (e.kept now).size ∙ u.sized in
-    let listing : kept_schema it.saved it.schema.items ≡ it.schema.items = ap (λ o. kept_schema o it.schema.items) e.ready.unaltered in
     record {
-      honest = u.honest (e.honest now);
       fresh = record { sound = e.ready.sound (no_doubt _ now); numbered = refl; clean = e.ready.clean; unmarked = e.ready.unmarked };
-      is_open = e.ready.is_open (no_doubt _ now);
-      size = bytes_of u.size;
-      plain = λ h. omega (arith, u.size.aligned, h);
-      found = subst₂ (λ n i. Recovers n i (state it).committed) u.sized u.seen (e.found now);
       wanted = it.schema.items;
-      ours = ∥∥₁_map (it.stored (e.ready.is_open (no_doubt _ now))) (λ s. subst₂ (λ n x. IsOurs n false x (state it).committed) sized listing (in_any_order s.ours));
-      reads = e.ready.clean
-          ∙ cond-true _ (file_trees (state it).page_size (kept_schema it.saved it.schema.items) (state it).committed) no_trees now
-          ∙ ap₂ (λ n s. file_trees n s (state it).committed) sized listing;
-      sized = u.only (e.honest now);
+      by = read_by_store c.args.files _ c.in-Ok.unopened u it e.ready (e.kept now) (e.found now) (e.honest now) now false it.schema.items (ap (λ o. kept_schema o it.schema.items) e.ready.unaltered) in_any_order;
     }
 
 pub returns-in-Ok-open_all-clause-plain : goal.returns-in-Ok-open_all-clause-plain

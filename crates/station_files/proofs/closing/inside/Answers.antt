@@ -8,11 +8,13 @@ returns g c =
     let gave = c.into_store.ensures in
     let falls : doubt (v c.args.conn.store.store).is_clean ≤ doubt (v named.store).is_clean = gave.quiet.clean in
     rw c.into_inner.ensures (record {
-      numbers = named.numbers.items;
-      few = named.inside.apart.few;
-      low = named.inside.apart.low;
-      clean = λ none. omega (arith, falls, none);
-      outcomes = gave.quiet.outcomes;
-      sound = gave.sound;
+      closed = record {
+        numbers = named.numbers.items;
+        few = named.inside.apart.few;
+        low = named.inside.apart.low;
+        clean = λ none. omega (arith, falls, none);
+        outcomes = gave.quiet.outcomes;
+        sound = gave.sound;
+      };
       committed = λ none on. let k = gave.undone.kept none in (k.was_open on, k.committed on);
     })

@@ -12,6 +12,3 @@ returns-in-Ok-clause-over g c =
       sums = e.sums;
       fresh = e.fresh;
     }
-
-pub returns-in-Err-clause-left : goal.returns-in-Err-clause-left
-returns-in-Err-clause-left g c = record { clean = c.in-Err.ensures.unharmed.clean; outcomes = c.in-Err.ensures.unharmed.outcomes }

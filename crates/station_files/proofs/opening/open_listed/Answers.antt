@@ -1,8 +1,8 @@
-use Rattle.station_files.proofs.Common.{AreFound, IsSound, adopts_of, arith, file_state, image_of, inl, no_doubt, settled_at, subst, sym, ∥∥₁_map, ◌∙◌}
+use Rattle.station_files.proofs.Common.{AreFound, IsSound, adopts_of, arith, file_state, image_of, inl, no_doubt, refl, settled_at, subst, sym, ∥∥₁_map, ◌∙◌}
 use Rattle.sqlite_trees.proofs.Doubt.{clean_of as sure}
 use Rattle.sqlite_store.specs.FileStore.{state as store_state, view as shown}
 use Rattle.station_files.proofs.ByList.{in_any_order}
-use Rattle.station_files.proofs.OwnFiles.{held_by_list, held_own}
+use Rattle.station_files.proofs.OwnFiles.{finds_by}
 use Rattle.station_files.proofs.Once.{held_by_list as held_once}
 use Rattle.station_files.proofs.opening.open_listed.Goals as goal
 
@@ -17,28 +17,19 @@ returns-in-Ok-clause-found g c now =
     let trees = c.in-Ok.ensures.over.trees now in
     let sound = subst (IsSound (file_state c.in-Ok.conn).committed.schema) trees (opens.1 opens.0.is_open).1 in
     record {
-      honest = it.honest;
+      honest = it.by.honest;
       holds = λ db held. trees ∙ held_once c.args.files c.args.objects.now store _ it sound db held;
-      reads = subst (AreFound g.D.Disk c.args.files) (sym trees) (inl (it.size, _, _, adopts_of it.size _ _ it.found, it.ours, it.reads));
+      reads = subst (AreFound g.D.Disk c.args.files) (sym trees) (inl (it.by.size, _, _, adopts_of it.by.size _ _ it.by.found, it.by.ours, it.by.reads));
     }
 
 pub returns-in-Ok-clause-by_list : goal.returns-in-Ok-clause-by_list
 returns-in-Ok-clause-by_list g c now =
     let store = c.in_ok-store.store in
-    let image = image_of g.D.Disk c.args.files in
-    let objects = c.args.objects.now in
     let it = c.in_ok-store.ensures.listed (sure (shown store).is_clean (omega (arith, c.in-Ok.ensures.over.clean))) in
-    let opens = c.in-Ok.ensures.over.opens now in
-    let trees = c.in-Ok.ensures.over.trees now in
     record {
-      honest = it.honest;
-      size = it.size;
-      pages = _;
-      found = it.found;
-      ours = ∥∥₁_map it.ours (λ ours. in_any_order ours);
-      reads = trees ∙ it.reads;
-      holds = λ db held listed. trees ∙ it.reads ∙ held_by_list image objects it.size (store_state store).committed it.plain it.found it.sized db held listed;
-      holds_own = λ db held listed. trees ∙ it.reads ∙ held_own image objects it.size (store_state store).committed it.plain it.found it.sized db held listed;
+      by = finds_by (image_of g.D.Disk c.args.files) c.args.objects.now it.by.size (store_state store).committed it.by.plain it.by.found it.by.sized
+          g.D.Disk c.args.files (file_state c.in-Ok.conn) refl it.by.honest (c.in-Ok.ensures.over.trees now ∙ it.by.reads);
+      ours = ∥∥₁_map it.by.ours (λ ours. in_any_order ours);
     }
 
 pub returns-in-Ok-clause-plain : goal.returns-in-Ok-clause-plain
@@ -53,4 +44,4 @@ pub returns-in-Err-clause-spared : goal.returns-in-Err-clause-spared
 returns-in-Err-clause-spared g c late db may =
     let store = c.in_ok-store.store in
     let it = c.in_ok-store.ensures.listed (sure (shown store).is_clean (omega (arith, no_doubt _ late, c.in-Err.ensures.left.clean))) in
-    (it.size, _, it.found, settled_at store g.met.D.Disk.seen_may_stay db it.is_open (c.in-Err.ensures.left.outcomes db may) ∙ sym it.fresh.clean ∙ it.reads)
+    (it.by.size, _, it.by.found, settled_at store g.met.D.Disk.seen_may_stay db it.by.is_open (c.in-Err.ensures.left.outcomes db may) ∙ sym it.fresh.clean ∙ it.by.reads)

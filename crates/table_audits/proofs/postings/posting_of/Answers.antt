@@ -13,34 +13,26 @@ returns-then-not-is_fit c = λ t by good.
 
 pub returns-in_err-from : goal.returns-in_err-from
 returns-in_err-from c = λ t by.
-    let ws = map waybill_meant c.args.waybills.now in
-    let fs = map flight_entry c.args.flights.now in
     let row = move_meant c.args.row.now in
-    let m = c.in_ok-movement.movement in
     let is = c.in_ok-movement.ensures.value in
     let within : is_move_row row ≡ true = sym c.in_ok-movement.ensures.exact in
     subst (IsPostedOr t row) (sym c.from_residual-in_err-from.ensures)
-    (nowhere_from t ws fs by row m is (c.in_err-from.ensures t ws by (read_columns t ws fs by row m is within) (names_from t ws fs by row m is within)))
+    (nowhere_from t _ _ by row _ is (c.in_err-from.ensures t _ by (read_columns t _ _ by row _ is within) (names_from t _ _ by row _ is within)))
 
 pub returns-in_err-to : goal.returns-in_err-to
 returns-in_err-to c = λ t by.
-    let ws = map waybill_meant c.args.waybills.now in
-    let fs = map flight_entry c.args.flights.now in
     let row = move_meant c.args.row.now in
-    let m = c.in_ok-movement.movement in
     let is = c.in_ok-movement.ensures.value in
     let within : is_move_row row ≡ true = sym c.in_ok-movement.ensures.exact in
     subst (IsPostedOr t row) (sym c.from_residual-in_err-to.ensures)
-    (nowhere_to t ws fs by row m is (c.in_err-to.ensures t ws by (read_columns t ws fs by row m is within) (names_to t ws fs by row m is within)))
+    (nowhere_to t _ _ by row _ is (c.in_err-to.ensures t _ by (read_columns t _ _ by row _ is within) (names_to t _ _ by row _ is within)))
 
 pub returns : goal.returns
 returns c = λ t by.
-    let ws = map waybill_meant c.args.waybills.now in
-    let fs = map flight_entry c.args.flights.now in
     let row = move_meant c.args.row.now in
-    let m = c.in_ok-movement.movement in
     let is = c.in_ok-movement.ensures.value in
     let within : is_move_row row ≡ true = sym c.in_ok-movement.ensures.exact in
     subst (IsPosted t row) (sym c.posted.ensures)
-    (posted_row t ws fs by row m is within (sym (c.is_fit.ensures by.up) ∙ c.if-not-is_fit.false) c.in_ok-from.from c.in_ok-to.to
-    (c.in_ok-from.ensures t ws by (read_columns t ws fs by row m is within) (names_from t ws fs by row m is within)) (c.in_ok-to.ensures t ws by (read_columns t ws fs by row m is within) (names_to t ws fs by row m is within)))
+    (posted_row t _ _ by row _ is within (sym (c.is_fit.ensures by.up) ∙ c.if-not-is_fit.false) c.in_ok-from.from c.in_ok-to.to
+    (c.in_ok-from.ensures t _ by (read_columns t _ _ by row _ is within) (names_from t _ _ by row _ is within))
+    (c.in_ok-to.ensures t _ by (read_columns t _ _ by row _ is within) (names_to t _ _ by row _ is within)))

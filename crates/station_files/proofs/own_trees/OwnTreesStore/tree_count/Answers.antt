@@ -1,5 +1,5 @@
 use Rattle.station_files.proofs.Common.{Absent, Layout, ap, arith, cases_eq, inl, inr, length, map, rules, slice_index_or, subst, sym, ◌-◌, ◌<◌, ◌∙◌, ◌≡◌}
-use Rattle.station_files.proofs.Owning.{get_mapped}
+use Rattle.std.proofs.lemmas.List.{get_or-map}
 use Rattle.station_files.proofs.own_trees.OwnTreesStore.tree_count.Goals as goal
 
 pub loop-count-preserved : goal.loop-count-preserved
@@ -9,7 +9,7 @@ loop-count-preserved g c =
     let low : last < length items = omega (arith, c.loop-count.invariant.low, c.loop-count-test.true) in
     let none : c.index.result.now.shape ≡ Absent = search rules in
     let here : slice_index_or (map (λ (x : Layout). x.shape) items) last Absent ≡ Absent =
-    get_mapped (λ (x : Layout). x.shape) items last Absent c.index.result.now low ∙ ap (λ (x : Layout). x.shape) (sym c.index.ensures) ∙ none in
+    get_or-map (λ (x : Layout). x.shape) items last c.index.result.now Absent low ∙ ap (λ (x : Layout). x.shape) (sym c.index.ensures) ∙ none in
     record {
       low = omega (arith, low);
       absent = λ s high within. elim (cases_eq s last) [

@@ -1,15 +1,12 @@
-use Rattle.station_rows.proofs.Common.{build_meant}
+use Rattle.station_rows.proofs.Common.{refl, build_meant}
 use Rattle.station_rows.proofs.Texts.{insert_build_is}
-use Rattle.station_rows.proofs.WriteLemmas.{made_by, insert_survives}
+use Rattle.station_rows.proofs.WriteLemmas.{wrote}
 use Rattle.station_rows.proofs.KeyedLemmas.{inserts}
 use Rattle.station_rows.proofs.BuildLemmas.{build_is, build_table}
 use Rattle.station_rows.proofs.builds.InsertBuildWrite.run.Goals as goal
 
 pub returns : goal.returns
 returns g c =
-    let ran = rw (c.params-to_sql.ensures, c.params-to_sql-2.ensures, c.params-to_sql-3.ensures, c.params-to_sql-4.ensures, c.params-to_sql-5.ensures) at c.execute.ensures.runs in
-    record {
-      made = made_by g.S.Store c.args.conn.now c.execute.new.self _ _ _ (inserts build_table build_is _ insert_build_is _ _ (build_meant c.args.self.row.now)) _ ran;
-      ran = ran;
-      survives = insert_survives _ _ _ _ _ _ insert_build_is c.execute.ensures.survives;
-    }
+    let it = wrote g.S.Store c.args.conn.now c.execute.new.self insert_build_is refl (inserts build_table build_is _ insert_build_is _ _ (build_meant c.args.self.row.now))
+    (rw (c.params-to_sql.ensures, c.params-to_sql-2.ensures, c.params-to_sql-3.ensures, c.params-to_sql-4.ensures, c.params-to_sql-5.ensures) at c.execute.ensures.runs) _ c.execute.ensures.survives in
+    record { made = it.made; ran = it.ran; survives = it.survives }

@@ -1,13 +1,12 @@
-use Rattle.station_rows.proofs.Common.{count_meant, count_read, count_row, query_survives, refl}
-use Rattle.station_rows.proofs.ReadLemmas.{all_told}
-use Rattle.station_rows.proofs.Texts.{all_count_text, all_count_is}
+use Rattle.station_rows.proofs.Common.{count_meant, count_read, count_row, refl}
+use Rattle.station_rows.proofs.ReadLemmas.{query_survives, all_told}
+use Rattle.station_rows.proofs.Texts.{all_count_is}
 use Rattle.station_rows.proofs.CountLemmas.{lists_all_counts}
 use Rattle.station_rows.proofs.counts.AllCountsRead.run.Goals as goal
 
 pub returns-clause-read : goal.returns-clause-read
 returns-clause-read g c =
-    all_told count_meant count_row count_read (λ _. refl) g.S.Store c.args.conn.now c.all_rows.new.conn all_count_text _ all_count_is.1 _
-    (lists_all_counts _ _) _ c.all_rows.ensures.read
+    all_told count_meant count_row count_read (λ _. refl) g.S.Store c.args.conn.now c.all_rows.new.conn lists_all_counts _ c.all_rows.ensures.read
 
 pub returns-clause-survives : goal.returns-clause-survives
-returns-clause-survives g c = query_survives all_count_text _ _ _ all_count_is.1 c.all_rows.ensures.survives
+returns-clause-survives g c = query_survives all_count_is _ _ _ c.all_rows.ensures.survives

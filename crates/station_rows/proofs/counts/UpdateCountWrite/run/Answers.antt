@@ -1,15 +1,12 @@
-use Rattle.station_rows.proofs.Common.{count_meant}
+use Rattle.station_rows.proofs.Common.{refl, count_meant}
 use Rattle.station_rows.proofs.Texts.{update_count_is}
-use Rattle.station_rows.proofs.WriteLemmas.{made_by, update_survives}
+use Rattle.station_rows.proofs.WriteLemmas.{wrote}
 use Rattle.station_rows.proofs.KeyedLemmas.{updates}
 use Rattle.station_rows.proofs.CountLemmas.{count_is, count_table}
 use Rattle.station_rows.proofs.counts.UpdateCountWrite.run.Goals as goal
 
 pub returns : goal.returns
 returns g c =
-    let ran = rw (c.params-to_sql.ensures, c.params-to_sql-2.ensures, c.params-to_sql-3.ensures, c.params-to_sql-4.ensures) at c.execute.ensures.runs in
-    record {
-      made = made_by g.S.Store c.args.conn.now c.execute.new.self _ _ _ (updates count_table count_is _ update_count_is _ _ (count_meant c.args.self.row.now)) _ ran;
-      ran = ran;
-      survives = update_survives _ _ _ _ _ _ update_count_is c.execute.ensures.survives;
-    }
+    let it = wrote g.S.Store c.args.conn.now c.execute.new.self update_count_is refl (updates count_table count_is _ update_count_is _ _ (count_meant c.args.self.row.now))
+    (rw (c.params-to_sql.ensures, c.params-to_sql-2.ensures, c.params-to_sql-3.ensures, c.params-to_sql-4.ensures) at c.execute.ensures.runs) _ c.execute.ensures.survives in
+    record { made = it.made; ran = it.ran; survives = it.survives }

@@ -1,13 +1,12 @@
-use Rattle.station_rows.proofs.Common.{expected_row, listed_waybill_meant, listed_waybill_read, query_survives, refl}
-use Rattle.station_rows.proofs.ReadLemmas.{all_told}
-use Rattle.station_rows.proofs.Texts.{all_expected_text, all_expected_is}
+use Rattle.station_rows.proofs.Common.{expected_row, listed_waybill_meant, listed_waybill_read, refl}
+use Rattle.station_rows.proofs.ReadLemmas.{query_survives, all_told}
+use Rattle.station_rows.proofs.Texts.{all_expected_is}
 use Rattle.station_rows.proofs.ExpectedLemmas.{lists_all_expected}
 use Rattle.station_rows.proofs.expected.AllExpectedRead.run.Goals as goal
 
 pub returns-clause-read : goal.returns-clause-read
 returns-clause-read g c =
-    all_told listed_waybill_meant expected_row listed_waybill_read (λ _. refl) g.S.Store c.args.conn.now c.all_rows.new.conn all_expected_text _ all_expected_is.1 _
-    (lists_all_expected _ _) _ c.all_rows.ensures.read
+    all_told listed_waybill_meant expected_row listed_waybill_read (λ _. refl) g.S.Store c.args.conn.now c.all_rows.new.conn lists_all_expected _ c.all_rows.ensures.read
 
 pub returns-clause-survives : goal.returns-clause-survives
-returns-clause-survives g c = query_survives all_expected_text _ _ _ all_expected_is.1 c.all_rows.ensures.survives
+returns-clause-survives g c = query_survives all_expected_is _ _ _ c.all_rows.ensures.survives

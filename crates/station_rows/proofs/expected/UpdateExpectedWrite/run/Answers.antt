@@ -1,15 +1,12 @@
-use Rattle.station_rows.proofs.Common.{expected_meant}
+use Rattle.station_rows.proofs.Common.{refl, expected_meant}
 use Rattle.station_rows.proofs.Texts.{update_expected_is}
-use Rattle.station_rows.proofs.WriteLemmas.{made_by, update_survives}
+use Rattle.station_rows.proofs.WriteLemmas.{wrote}
 use Rattle.station_rows.proofs.KeyedLemmas.{updates}
 use Rattle.station_rows.proofs.ExpectedLemmas.{expected_is, expected_table}
 use Rattle.station_rows.proofs.expected.UpdateExpectedWrite.run.Goals as goal
 
 pub returns : goal.returns
 returns g c =
-    let ran = rw (c.params-to_sql.ensures, c.params-to_sql-2.ensures, c.params-to_sql-3.ensures, c.params-to_sql-4.ensures, c.params-to_sql-5.ensures, c.params-to_sql-6.ensures) at c.execute.ensures.runs in
-    record {
-      made = made_by g.S.Store c.args.conn.now c.execute.new.self _ _ _ (updates expected_table expected_is _ update_expected_is _ _ ((c.args.self.flight.now, (c.args.self.day, c.args.self.awb)), (expected_meant c.args.self.row.now))) _ ran;
-      ran = ran;
-      survives = update_survives _ _ _ _ _ _ update_expected_is c.execute.ensures.survives;
-    }
+    let it = wrote g.S.Store c.args.conn.now c.execute.new.self update_expected_is refl (updates expected_table expected_is _ update_expected_is _ _ ((c.args.self.flight.now, (c.args.self.day, c.args.self.awb)), (expected_meant c.args.self.row.now)))
+    (rw (c.params-to_sql.ensures, c.params-to_sql-2.ensures, c.params-to_sql-3.ensures, c.params-to_sql-4.ensures, c.params-to_sql-5.ensures, c.params-to_sql-6.ensures) at c.execute.ensures.runs) _ c.execute.ensures.survives in
+    record { made = it.made; ran = it.ran; survives = it.survives }

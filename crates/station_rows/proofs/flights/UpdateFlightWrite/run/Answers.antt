@@ -1,15 +1,12 @@
-use Rattle.station_rows.proofs.Common.{flight_meant}
+use Rattle.station_rows.proofs.Common.{refl, flight_meant}
 use Rattle.station_rows.proofs.Texts.{update_flight_is}
-use Rattle.station_rows.proofs.WriteLemmas.{made_by, update_survives}
+use Rattle.station_rows.proofs.WriteLemmas.{wrote}
 use Rattle.station_rows.proofs.KeyedLemmas.{updates}
 use Rattle.station_rows.proofs.FlightLemmas.{flight_is, flight_table}
 use Rattle.station_rows.proofs.flights.UpdateFlightWrite.run.Goals as goal
 
 pub returns : goal.returns
 returns g c =
-    let ran = rw (c.params-to_sql.ensures, c.params-to_sql-2.ensures, c.params-to_sql-3.ensures, c.params-to_sql-4.ensures) at c.execute.ensures.runs in
-    record {
-      made = made_by g.S.Store c.args.conn.now c.execute.new.self _ _ _ (updates flight_table flight_is _ update_flight_is _ _ ((c.args.self.flight.now, c.args.self.day), (flight_meant c.args.self.row.now))) _ ran;
-      ran = ran;
-      survives = update_survives _ _ _ _ _ _ update_flight_is c.execute.ensures.survives;
-    }
+    let it = wrote g.S.Store c.args.conn.now c.execute.new.self update_flight_is refl (updates flight_table flight_is _ update_flight_is _ _ ((c.args.self.flight.now, c.args.self.day), (flight_meant c.args.self.row.now)))
+    (rw (c.params-to_sql.ensures, c.params-to_sql-2.ensures, c.params-to_sql-3.ensures, c.params-to_sql-4.ensures) at c.execute.ensures.runs) _ c.execute.ensures.survives in
+    record { made = it.made; ran = it.ran; survives = it.survives }
