@@ -8,7 +8,7 @@ use crate::line::{Line, LineCommand};
 use crate::number::{read_count, read_port, read_row};
 use crate::part::{form_of, read_listing};
 use crate::refusals::refusal_help;
-use crate::words::{ReportWords, Request, Words, sort_words};
+use crate::words::{Request, Words, sort_words};
 use awb_number::{Awb, AwbFault};
 use desk_commands::Verb;
 use imp_fields::Airport;
@@ -55,42 +55,6 @@ pub(crate) fn read_number<'a>(word: &'a str) -> Result<Awb, BadValue<'a>>
         Ok(number) => Ok(number),
         Err(AwbFault::Shape) => Err(BadValue::Number(word)),
         Err(AwbFault::Check) => Err(BadValue::CheckDigit(word)),
-    }
-}
-
-fn read_waybill<'a>(word: &'a str) -> Result<LineCommand<'a>, BadValue<'a>>
-    ensures { IfOk result (Means (Request.Waybill word.entry)) }
-{
-    match read_number(word) {
-        Ok(number) => Ok(LineCommand::Waybill(number)),
-        Err(bad) => Err(bad),
-    }
-}
-
-fn read_report<'a>(words: ReportWords<'a>) -> Result<LineCommand<'a>, BadValue<'a>>
-    ensures { IfOk result (Means (Request.Report words.entry)) }
-{
-    match read_listing(words) {
-        Ok(listing) => Ok(LineCommand::Report(listing, form_of(words.json))),
-        Err(bad) => Err(bad),
-    }
-}
-
-fn read_history<'a>(word: &'a str) -> Result<LineCommand<'a>, BadValue<'a>>
-    ensures { IfOk result (Means (Request.History word.entry)) }
-{
-    match read_number(word) {
-        Ok(number) => Ok(LineCommand::History(number)),
-        Err(bad) => Err(bad),
-    }
-}
-
-fn read_holder<'a>(word: &'a str) -> Result<LineCommand<'a>, BadValue<'a>>
-    ensures { IfOk result (Means (Request.Holder word.entry)) }
-{
-    match read_number(word) {
-        Ok(number) => Ok(LineCommand::Holder(number)),
-        Err(bad) => Err(bad),
     }
 }
 
@@ -154,15 +118,18 @@ fn read_command<'a>(
         Request::Acts => Ok(LineCommand::Acts),
         Request::Read(file) => Ok(LineCommand::Read(file)),
         Request::Outbox { after, json } => read_outbox(after, json),
-        Request::Report(words) => read_report(words),
+        Request::Report(words) => {
+            let listing = read_listing(words)?;
+            Ok(LineCommand::Report(listing, form_of(words.json)))
+        }
         Request::Station { json } => {
             let listing = Listing::All(Report::Station);
             Ok(LineCommand::Report(listing, form_of(json)))
         }
         Request::Key { key, json } => read_kept(key, json),
-        Request::History(number) => read_history(number),
-        Request::Waybill(number) => read_waybill(number),
-        Request::Holder(number) => read_holder(number),
+        Request::History(word) => Ok(LineCommand::History(read_number(word)?)),
+        Request::Waybill(word) => Ok(LineCommand::Waybill(read_number(word)?)),
+        Request::Holder(word) => Ok(LineCommand::Holder(read_number(word)?)),
         Request::Serve { port, count } => read_serve(port, count),
     }
 }

@@ -69,18 +69,19 @@ pub(crate) struct Words<'a> {
 
 /// Returns a word of a command as an argument of `clap`.
 fn arg_of<'a>(alloc: Global, word: &Word) -> Arg<'a> {
-    let arg = Arg::new(alloc, word.name).help(word.help);
-    match word.given {
+    let Word(name, given, help) = *word;
+    let arg = Arg::new(alloc, name).help(help);
+    match given {
         Given::Always => arg.action(ArgAction::Set).required(true),
         Given::Repeatedly => arg.action(ArgAction::Set).required(true).num_args(1..),
         Given::Optionally => arg.action(ArgAction::Set),
-        Given::Option(value) => arg.long(word.name).value_name(value).action(ArgAction::Set),
+        Given::Option(value) => arg.long(name).value_name(value).action(ArgAction::Set),
         Given::NeededOption(value) => arg
-            .long(word.name)
+            .long(name)
             .value_name(value)
             .action(ArgAction::Set)
             .required(true),
-        Given::Flag => arg.long(word.name).action(ArgAction::SetTrue),
+        Given::Flag => arg.long(name).action(ArgAction::SetTrue),
     }
 }
 
@@ -99,14 +100,13 @@ fn with_words<'a>(
 fn bare<'a>(
     alloc: Global,
     name: &'static str,
-    about: &'static str,
-    examples: &'static str,
+    (about, examples): (&'static str, &'static str),
 ) -> Command<'a> {
     Command::new(alloc, name).about(about).after_help(examples)
 }
 
 fn verb_command<'a>(alloc: Global, verb: Verb) -> Result<Command<'a>, AllocError> {
-    let command = bare(alloc, verb.word(), verb.about(), help::FIELDS);
+    let command = bare(alloc, verb.word(), (verb.about(), help::FIELDS));
     with_words(alloc, command, &KEY)
 }
 
@@ -125,15 +125,16 @@ fn with_verbs<'a>(alloc: Global, command: Command<'a>) -> Result<Command<'a>, Al
 
 /// Returns a command of the program as one of `clap`.
 fn command_of<'a>(alloc: Global, words: &CommandWords) -> Result<Command<'a>, AllocError> {
-    let command = bare(alloc, words.name, words.about, words.examples);
-    match words.takes {
+    let CommandWords(name, help, takes) = *words;
+    let command = bare(alloc, name, help);
+    match takes {
         Takes::Words(words) => with_words(alloc, command, words),
         Takes::Verb => with_verbs(alloc, command),
     }
 }
 
 fn desk<'a>(alloc: Global) -> Result<Command<'a>, AllocError> {
-    let desk = bare(alloc, "cargo_desk", help::DESK, help::DESK_EXAMPLES)
+    let desk = bare(alloc, "cargo_desk", help::DESK)
         .version(program_version())
         .subcommand_required(true);
     let mut desk = with_words(alloc, desk, &OPTIONS)?;

@@ -11,7 +11,7 @@ use test_kit::Job;
 
 #[derive(Clone, Copy)]
 pub enum Kind {
-    /// Lists in memory.
+    /// Maps in memory, copied for each input.
     Plain,
     /// Maps in memory.
     Maps,

@@ -1,11 +1,1 @@
-pub mod Common
-pub mod Aboard
-pub mod Bounds
-pub mod Doing
-pub mod Handing
-pub mod Kept
-pub mod Lists
-pub mod Next
-pub mod Props
-pub mod Spots
 pub mod State

@@ -1,19 +1,6 @@
-//! A station in memory: the plain program that follows the definitions.
+//! A station in memory that makes the next state beside the old one.
 #![tactic(auto)]
 
-mod asked;
-mod balances;
-mod cargo;
-mod doing;
-mod kept;
-mod listing;
-mod lists;
-mod order;
-mod planning;
-mod readers;
-mod rows;
 mod station;
-mod viewing;
-mod writing;
 
 pub use station::PlainStation;

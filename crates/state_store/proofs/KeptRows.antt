@@ -1,8 +1,8 @@
 -- What is kept under keys and of texts, with one more.
-use Rattle.std.proofs.Common.{◌≡◌, ◌∙◌, ℕ, ◌<◌, ◌≤◌, Bool, true, false, cond, List, [], ◌∷◌, length, Option, Some, None, option_map, inl, inr, refl, sym, ap, arith}
-use Rattle.state_store.proofs.Common.{KeptReply, Vec, bytes_eq, bytes_eq-true, cases_lt, keeping, keeping_text, kept_of, lookup, nat_list_eq_equiv, string_bytes, ◌^◌}
+use Rattle.std.proofs.Common.{◌≡◌, ◌∙◌, ℕ, ◌<◌, ◌≤◌, Bool, true, false, cond, List, [], ◌∷◌, length, Option, Some, None, option_map, inl, inr, refl, sym, ap, arith, String}
+use Rattle.state_store.proofs.Common.{Vec, bytes_eq, bytes_eq-true, cases_lt, keeping, keeping_text, lookup, nat_list_eq_equiv, string_bytes, ◌^◌}
 use Rattle.std.specs.HashMap.{HashMap, get, get_by}
-use Rattle.state_store.specs.Kept.{count_under, kept_under}
+use Rattle.state_store.specs.Kept.{count_under, kept_in, kept_under}
 
 -- two names are the same bytes
 abbrev pub same_bytes : {Z : Type 0} → Vec ℕ Z → Vec ℕ Z → Bool
@@ -45,14 +45,14 @@ module _ {X Z S : Type 0} (old new : HashMap (Vec ℕ Z) X S) (name : Vec ℕ Z)
         ∙ sym (ap (λ b. cond b (Some one) (at old t)) (ap (bytes_eq t) (sym is) ∙ not_these t name long))
   ]
 
-module _ {Z S : Type 0} (old new : HashMap (Vec ℕ Z) KeptReply S) (name : Vec ℕ Z) where
-  pub keyed_more : (one : KeptReply) (key request : List ℕ) → name.items ≡ key → string_bytes one.request ≡ request
+module _ {Y Z S : Type 0} (old new : HashMap (Vec ℕ Z) (String Y × ℕ) S) (name : Vec ℕ Z) where
+  pub keyed_more : (one : String Y × ℕ) (key request : List ℕ) → name.items ≡ key → string_bytes one.0 ≡ request
       → ((q : Vec ℕ Z) → get same_bytes new q ≡ cond (same_bytes name q) (Some one) (get same_bytes old q))
-      → (k : List ℕ) → kept_under new k ≡ keeping (kept_under old) key (record { request = request; count = one.count }) k
+      → (k : List ℕ) → kept_under new k ≡ keeping (kept_under old) key (record { request = request; count = one.1 }) k
   keyed_more one key request is asked put k =
-      ap (option_map kept_of) (put_at old new name key one is put k)
-      ∙ mapped kept_of (bytes_eq k key) one (get_by (λ n. bytes_eq k n.items) old)
-      ∙ (λ j. keeping (kept_under old) key (record { request = asked j; count = one.count }) k)
+      ap (option_map kept_in) (put_at old new name key one is put k)
+      ∙ mapped kept_in (bytes_eq k key) one (get_by (λ n. bytes_eq k n.items) old)
+      ∙ (λ j. keeping (kept_under old) key (record { request = asked j; count = one.1 }) k)
 
 module _ {Z S : Type 0} (old new : HashMap (Vec ℕ Z) ℕ S) (name : Vec ℕ Z) where
   pub texts_kept : (count : ℕ) (text : List ℕ) → name.items ≡ text

@@ -2,6 +2,7 @@ mod Ahead
 mod AnnouncedOrder
 mod BookLists
 mod Examples
+mod Copies
 mod Filled
 pub mod Common
 pub mod InOrder

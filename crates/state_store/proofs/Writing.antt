@@ -1,4 +1,5 @@
 -- What a row more makes of the state that is shown.
+use Rattle.state_store.specs.declared.maps.state.AirportKey.{AirportKey}
 use Rattle.state_store.proofs.Common.{BTreeMap, Bool, Cargo, Declared, FlightKey, Holders, IsSummed, List, MapState, Move, Ordering, Part, Shows, Some, State, Used, Vec, [], and_from, and_parts, ap, arith, assigned, by_key, bytes_eq-refl, bytes_eq-true, common_steps, cond, covers, declared_in, eq-eqb, eqb-true, false, get, has_room, if◌then◌else◌, is_at, length, length-append, nat_cmp, nat_cmp-IsAntisymmetric, nat_cmp_total, nat_le, nat_list_cmp_total, nat_tests, on_cargo, ordering_then, part_of, refl, same-is, same-refl, same_part, slice_cmp, slice_cmp-IsAntisymmetric, state_of, suc, sym, texts_in, tied_itself, trail_in, trail_line, true, ℕ, ◌&&◌, ◌++◌, ◌+◌, ◌<◌, ◌==◌, ◌∙◌, ◌∷◌, ◌≡◌}
 use Rattle.agent_stock.specs.declared.stock.Run.{Run}
 use Rattle.state_store.specs.declared.maps.state.TrailEntry.{TrailEntry}
@@ -76,8 +77,8 @@ module _ (k : MapState) (s : State) (h : Shows k s) where
 
 -- ---- parts of manifests
 
-abbrev pub by_part : FlightKey × List ℕ × ℕ → FlightKey × List ℕ × ℕ → Ordering
-by_part a b = ordering_then (ordering_then (by_key a.0 b.0) (slice_cmp nat_cmp a.1 b.1)) (nat_cmp a.2 b.2)
+abbrev pub by_part : FlightKey × AirportKey × ℕ → FlightKey × AirportKey × ℕ → Ordering
+by_part a b = ordering_then (ordering_then (by_key a.0 b.0) (slice_cmp nat_cmp a.1.letters b.1.letters)) (nat_cmp a.2 b.2)
 
 pub by_part_keyed : IsKeyed by_part part_of same_part
 by_part_keyed = record {
@@ -93,11 +94,11 @@ by_part_keyed = record {
       let parts = both_equal _ _ h in
       let firsts = both_equal _ _ parts.0 in
       let flights = one_flight k.0 e.0 firsts.0 in
-      let airports = slice_cmp-IsAntisymmetric nat_cmp-IsAntisymmetric k.1 e.1 firsts.1 in
+      let airports = slice_cmp-IsAntisymmetric nat_cmp-IsAntisymmetric k.1.letters e.1.letters firsts.1 in
       let numbers = nat_cmp-IsAntisymmetric k.2 e.2 parts.1 in
       λ i. record { flight = flights i; airport = airports i; number = numbers i };
   tied = λ k e one.
-      ap (λ (r : Ordering). ordering_then (ordering_then r (slice_cmp nat_cmp k.1 e.1)) (nat_cmp k.2 e.2)) (flight_tied k.0 e.0 (ap (λ (p : Part). p.flight) one))
-      ∙ ap (λ (r : Ordering). ordering_then r (nat_cmp k.2 e.2)) (ap (λ l. slice_cmp nat_cmp l e.1) (ap (λ (p : Part). p.airport) one) ∙ tied_itself nat_list_cmp_total e.1)
+      ap (λ (r : Ordering). ordering_then (ordering_then r (slice_cmp nat_cmp k.1.letters e.1.letters)) (nat_cmp k.2 e.2)) (flight_tied k.0 e.0 (ap (λ (p : Part). p.flight) one))
+      ∙ ap (λ (r : Ordering). ordering_then r (nat_cmp k.2 e.2)) (ap (λ l. slice_cmp nat_cmp l e.1.letters) (ap (λ (p : Part). p.airport) one) ∙ tied_itself nat_list_cmp_total e.1.letters)
       ∙ ap (λ n. nat_cmp n e.2) (ap (λ (p : Part). p.number) one) ∙ tied_itself nat_cmp_total e.2;
 }

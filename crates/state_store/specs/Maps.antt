@@ -4,6 +4,7 @@ use Rattle.state_store.specs.Common.{BTreeMap, get, lookup, option_map, nat_cmp,
 use Rattle.state_store.specs.ExpectedLines.{lines_in}
 use Rattle.state_store.specs.Stock.{holders_of}
 use Rattle.state_store.specs.declared.flight_key.FlightKey.{FlightKey}
+use Rattle.state_store.specs.declared.maps.state.AirportKey.{AirportKey}
 use Rattle.state_store.specs.declared.maps.state.MapState.{MapState}
 use Rattle.state_store.specs.declared.maps.state.TrailEntry.{TrailEntry}
 
@@ -13,10 +14,10 @@ declared_in rows w = get nat_cmp rows w
 abbrev pub flights_in : BTreeMap FlightKey Outbound → FlightDate → Option Outbound
 flights_in rows f = lookup (λ k. same_flight_date f k.flight) rows.entries
 
-abbrev pub part_of : FlightKey × List ℕ × ℕ → Part
-part_of k = record { flight = k.0.flight; airport = k.1; number = k.2 }
+abbrev pub part_of : FlightKey × AirportKey × ℕ → Part
+part_of k = record { flight = k.0.flight; airport = k.1.letters; number = k.2 }
 
-abbrev pub parts_in : {Z : Type 0} → BTreeMap (FlightKey × List ℕ × ℕ) (Vec ℕ Z) → Part → Option (List ℕ)
+abbrev pub parts_in : {Z : Type 0} → BTreeMap (FlightKey × AirportKey × ℕ) (Vec ℕ Z) → Part → Option (List ℕ)
 parts_in rows part = option_map (λ text. text.items) (lookup (λ k. same_part part (part_of k)) rows.entries)
 
 -- the trail and the outbox, in order

@@ -12,7 +12,7 @@ use std::alloc::Global;
 use std::collections::BTreeMap;
 
 /// Expectations, found by flight and waybill.
-#[derive(Drop)]
+#[derive(Clone, Drop)]
 pub struct ExpectedLines {
     entries: BTreeMap<(FlightKey, u64), Expected>,
 }

@@ -82,6 +82,13 @@ impl<S: StateStore> StoredStation<S> {
         }
     }
 
+    /// The store, whatever its state.
+    pub fn store(&self) -> &S
+        ensures { result.now ≡ self.now.store }
+    {
+        &self.store
+    }
+
     /// Returns the store, whatever its state.
     pub fn into_store(self) -> S
         ensures same { result ≡ self.store }

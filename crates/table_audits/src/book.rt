@@ -17,7 +17,7 @@ use crate::sums::{BookSums, Posting};
 use sqlite::{Alter, Connection, Error, ErrorCode};
 use station_rows::{MoveRow, WaybillRow};
 use std::alloc::{AllocError, Global};
-use table_load::{FlightEntry, RowFold, fold_moves};
+use table_load::{FlightEntry, RowFold, fold_rows};
 
 /// The tables for auditing the moves: all waybills in the order of their numbers, and all flights
 /// in the order of their keys.
@@ -155,7 +155,7 @@ pub(crate) fn is_good<S: Alter>(
 {
     let none = BookAudit::new(alloc, known.beside.flights.len())?;
     let beside = &known.beside;
-    let Some(audit) = fold_moves::<S, BookAudit>(alloc, conn, beside, none)? else {
+    let Some(audit) = fold_rows::<S, MoveRow, BookAudit>(alloc, conn, beside, none)? else {
         return Ok(false);
     };
     let Some(book) = audit.judged(&known.beside.flights) else {

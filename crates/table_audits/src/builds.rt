@@ -10,7 +10,7 @@ use row_codec::Tally;
 use sqlite::{Alter, Connection, Error};
 use station_rows::BuildRow;
 use std::alloc::Global;
-use table_load::{FlightEntry, found_builds};
+use table_load::{FlightEntry, found_rows};
 
 /// Returns whether a row has this tally of a waybill on a flight.
 fn says(row: &BuildRow, on: &FlightEntry, awb: i64, tally: &Tally) -> bool
@@ -62,7 +62,7 @@ pub(crate) fn is_good<S: Alter>(
     ensures read { Audits S.Store conn.old conn.new result table.Build known.now known.now }
     ensures survives { Survives (state S.Store conn.old) (state S.Store conn.new) (λ _. ⊥) }
 {
-    let Some(rows) = found_builds(alloc, conn)? else {
+    let Some(rows) = found_rows::<S, BuildRow>(alloc, conn)? else {
         return Ok(false);
     };
     Ok(are_same(&known.book.sums, &known.beside.flights, &rows))

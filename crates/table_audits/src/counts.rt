@@ -10,7 +10,7 @@ use row_codec::Tally;
 use sqlite::{Alter, Connection, Error};
 use station_rows::CountRow;
 use std::alloc::Global;
-use table_load::found_counts;
+use table_load::found_rows;
 
 /// Returns whether a row has this tally of a place.
 fn is_row(row: &CountRow, place: &CountPlace, tally: &Tally) -> bool
@@ -49,7 +49,7 @@ pub(crate) fn is_good<S: Alter>(
     ensures read { Audits S.Store conn.old conn.new result table.Counts known.now known.now }
     ensures survives { Survives (state S.Store conn.old) (state S.Store conn.new) (λ _. ⊥) }
 {
-    let Some(rows) = found_counts(alloc, conn)? else {
+    let Some(rows) = found_rows::<S, CountRow>(alloc, conn)? else {
         return Ok(false);
     };
     Ok(are_same(&known.book.sums, &rows))

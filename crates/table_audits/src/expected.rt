@@ -13,7 +13,7 @@ use sqlite::{Alter, Connection, Error};
 use station_core::Expectation;
 use station_rows::{ExpectedRow, WaybillRow};
 use std::alloc::Global;
-use table_load::{ExpectedEntry, found_expected};
+use table_load::{ExpectedEntry, found_rows};
 
 /// Returns the expectation of a row that is in range.
 fn listed(row: &ExpectedEntry) -> Option<Expectation>
@@ -59,7 +59,7 @@ pub(crate) fn is_good<S: Alter>(
     ensures read { Audits S.Store conn.old conn.new result table.Expected known.now known.now }
     ensures survives { Survives (state S.Store conn.old) (state S.Store conn.new) (λ _. ⊥) }
 {
-    let Some(rows) = found_expected(alloc, conn)? else {
+    let Some(rows) = found_rows::<S, ExpectedEntry>(alloc, conn)? else {
         return Ok(false);
     };
     let waybills = &known.beside.waybills;

@@ -10,7 +10,7 @@ use row_codec::noted_of;
 use sqlite::{Alter, Connection, Error};
 use station_core::NotedFlight;
 use std::alloc::Global;
-use table_load::{FlightEntry, found_flights};
+use table_load::{FlightEntry, found_rows};
 
 /// Returns the flight of a row that is in range.
 fn noted(row: &FlightEntry) -> Option<NotedFlight>
@@ -48,7 +48,7 @@ pub(crate) fn is_good<S: Alter>(
     ensures read { Audits S.Store conn.old conn.new result table.Flight known.old known.new }
     ensures survives { Survives (state S.Store conn.old) (state S.Store conn.new) (λ _. ⊥) }
 {
-    let Some(rows) = found_flights(alloc, conn)? else {
+    let Some(rows) = found_rows::<S, FlightEntry>(alloc, conn)? else {
         return Ok(false);
     };
     let is_lawful = rows.iter().all(|row| is_lawful(row, &known.here));

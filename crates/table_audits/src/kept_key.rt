@@ -10,7 +10,7 @@ use row_codec::count_of;
 use sqlite::{Alter, Connection, Error};
 use station_core::Key;
 use std::alloc::Global;
-use table_load::{KeptKeyEntry, RowFold, fold_kept_keys};
+use table_load::{KeptKeyEntry, RowFold, fold_rows};
 
 /// Returns whether the row is in range. Its command is a text by its type.
 #[tactic(auto, using(crate::proofs::Texts::kept_key_is))]
@@ -77,7 +77,7 @@ pub(crate) fn is_good<S: Alter>(
     ensures survives { Survives (state S.Store conn.old) (state S.Store conn.new) (λ _. ⊥) }
 {
     let none = KeptKeys::new();
-    let Some(keys) = fold_kept_keys::<S, KeptKeys>(alloc, conn, &(), none)? else {
+    let Some(keys) = fold_rows::<S, KeptKeyEntry, KeptKeys>(alloc, conn, &(), none)? else {
         return Ok(false);
     };
     Ok(keys.are_lawful)

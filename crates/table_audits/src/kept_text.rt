@@ -10,7 +10,7 @@ use crate::lookups::is_kept;
 use row_codec::count_of;
 use sqlite::{Alter, Connection, Error};
 use std::alloc::Global;
-use table_load::{KeptTextEntry, PartEntry, found_kept_texts};
+use table_load::{KeptTextEntry, PartEntry, found_rows};
 
 fn are_in_range(rows: &[KeptTextEntry]) -> bool
     ensures { result ≡ list_all is_kept_text_row (map kept_text_entry rows.now) }
@@ -48,7 +48,7 @@ pub(crate) fn is_good<S: Alter>(
     ensures read { Audits S.Store conn.old conn.new result table.KeptText known.old known.new }
     ensures survives { Survives (state S.Store conn.old) (state S.Store conn.new) (λ _. ⊥) }
 {
-    let Some(rows) = found_kept_texts(alloc, conn)? else {
+    let Some(rows) = found_rows::<S, KeptTextEntry>(alloc, conn)? else {
         return Ok(false);
     };
     let is_lawful = are_kept_texts_lawful(&rows, &known.parts);

@@ -7,7 +7,7 @@ ghost use Rattle.table_audits.specs.Judged.{Audits};
 use crate::known::Known;
 use sqlite::{Alter, Connection, Error};
 use std::alloc::Global;
-use table_load::{FileVersion, OldWaybillEntry, found_old_waybills};
+use table_load::{FileVersion, OldWaybillEntry, found_rows};
 
 /// Returns whether the rows of `waybill` are lawful: there are none.
 fn are_old_waybills_lawful(rows: &[OldWaybillEntry]) -> bool
@@ -29,7 +29,7 @@ fn read_rows<S: Alter>(
 {
     match version {
         FileVersion::First => Ok(Some(Vec::new(alloc))),
-        FileVersion::Second => found_old_waybills(alloc, conn),
+        FileVersion::Second => found_rows(alloc, conn),
     }
 }
 

@@ -9,7 +9,7 @@ use crate::numbers::NumberedRows;
 use sqlite::{Alter, Connection, Error};
 use station_rows::MessageRow;
 use std::alloc::Global;
-use table_load::{RowFold, fold_outbox};
+use table_load::{RowFold, fold_rows};
 
 /// The rows of `outbox` are added in the order of their numbers. Each is a text by its type.
 impl RowFold<MessageRow> for NumberedRows {
@@ -45,7 +45,7 @@ pub(crate) fn is_good<S: Alter>(
     ensures survives { Survives (state S.Store conn.old) (state S.Store conn.new) (λ _. ⊥) }
 {
     let none = NumberedRows::new();
-    let Some(messages) = fold_outbox::<S, NumberedRows>(alloc, conn, &(), none)? else {
+    let Some(messages) = fold_rows::<S, MessageRow, NumberedRows>(alloc, conn, &(), none)? else {
         return Ok(false);
     };
     let Some(count) = if_confirmed(messages.count, known.confirmed) else {

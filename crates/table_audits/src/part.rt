@@ -7,7 +7,7 @@ use crate::known::Known;
 use row_codec::part_by;
 use sqlite::{Alter, Connection, Error};
 use std::alloc::Global;
-use table_load::{PartEntry, found_parts};
+use table_load::{PartEntry, found_rows};
 
 /// Returns whether the row is in range. Its telegram is a text by its type.
 fn is_lawful(row: &PartEntry) -> bool
@@ -25,7 +25,7 @@ pub(crate) fn is_good<S: Alter>(
     ensures read { Audits S.Store conn.old conn.new result table.Part known.old known.new }
     ensures survives { Survives (state S.Store conn.old) (state S.Store conn.new) (λ _. ⊥) }
 {
-    let Some(rows) = found_parts(alloc, conn)? else {
+    let Some(rows) = found_rows::<S, PartEntry>(alloc, conn)? else {
         return Ok(false);
     };
     let is_lawful = rows.iter().all(|row| is_lawful(row));

@@ -13,7 +13,7 @@ use row_codec::{awb_key, run_by};
 use sqlite::{Alter, Connection, Error};
 use station_rows::{StockRow, WaybillRow};
 use std::alloc::Global;
-use table_load::found_stock;
+use table_load::found_rows;
 
 /// Returns whether each number from the first to the last is declared. It stops at the first that
 /// isn't.
@@ -93,7 +93,7 @@ pub(crate) fn is_good<S: Alter>(
     ensures read { Audits S.Store conn.old conn.new result table.Stock known.now known.now }
     ensures survives { Survives (state S.Store conn.old) (state S.Store conn.new) (λ _. ⊥) }
 {
-    let Some(rows) = found_stock(alloc, conn)? else {
+    let Some(rows) = found_rows::<S, StockRow>(alloc, conn)? else {
         return Ok(false);
     };
     Ok(are_stock_lawful(&rows, &known.beside.waybills))

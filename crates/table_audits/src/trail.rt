@@ -13,7 +13,7 @@ use row_codec::{awb_key, waybill_of_line};
 use sqlite::{Alter, Connection, Error};
 use station_rows::{TrailRow, WaybillRow};
 use std::alloc::Global;
-use table_load::{RowFold, fold_trail};
+use table_load::{RowFold, fold_rows};
 
 fn is_lawful(row: &TrailRow, waybills: &[WaybillRow]) -> bool
     ensures { RisesByNumber (map waybill_meant waybills.now)
@@ -55,7 +55,7 @@ pub(crate) fn is_good<S: Alter>(
 {
     let none = NumberedRows::new();
     let beside = &known.beside.waybills;
-    let Some(lines) = fold_trail::<S, NumberedRows>(alloc, conn, beside, none)? else {
+    let Some(lines) = fold_rows::<S, TrailRow, NumberedRows>(alloc, conn, beside, none)? else {
         return Ok(false);
     };
     let Some(count) = lines.count else {

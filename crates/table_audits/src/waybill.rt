@@ -9,7 +9,7 @@ use row_codec::waybill_by;
 use sqlite::{Alter, Connection, Error};
 use station_rows::WaybillRow;
 use std::alloc::{AllocError, Global};
-use table_load::{FileVersion, OldWaybillEntry, found_old_waybills, found_waybills};
+use table_load::{FileVersion, OldWaybillEntry, found_rows};
 
 /// Returns whether the row is in range, and its weight at least a tenth a piece.
 fn is_lawful(row: &WaybillRow) -> bool
@@ -50,11 +50,11 @@ fn read_rows<S: Alter>(
     ensures survives { Survives (state S.Store conn.old) (state S.Store conn.new) (λ _. ⊥) }
 {
     match version {
-        FileVersion::First => match found_old_waybills(alloc, conn)? {
+        FileVersion::First => match found_rows::<S, OldWaybillEntry>(alloc, conn)? {
             None => Ok(None),
             Some(olds) => Ok(Some(undated_rows(alloc, olds)?)),
         },
-        FileVersion::Second => found_waybills(alloc, conn),
+        FileVersion::Second => found_rows(alloc, conn),
     }
 }
 

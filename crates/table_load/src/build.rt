@@ -1,21 +1,21 @@
-ghost use Rattle.table_load.specs.Common.{Survives, state, build_meant};
-ghost use Rattle.table_load.specs.Whole.{FindsTable};
-ghost use Rattle.table_load.specs.Held.{HoldsBuild};
+ghost use Rattle.table_load.specs.Common.{build_meant};
 
-use crate::{Cells, KeyedRow, RowError, TableQuery, found_rows};
-use sqlite::{Alter, Connection, Error};
+use crate::{Cells, KeyedRow, RowError, TableQuery};
 use station_rows::BuildRow;
-use std::alloc::Global;
 
 impl KeyedRow for BuildRow {
     ghost use Rattle.std.specs.Prelude.{ℕ, ℤ, List, refl};
     ghost use Rattle.station_schema.specs.Tables.{Build, BuildKey, build_cmp, build_row};
     ghost use Rattle.station_rows.specs.Shown.{build_read};
-    ghost use Rattle.table_load.specs.Held.{by_key, HasBuildTexts};
+    ghost use Rattle.table_load.specs.Held.{by_key, HasBuildTexts, build_columns, build_name};
 
     ghost Entry = { BuildKey × Build };
 
     ghost meant = { build_meant };
+
+    ghost name = { build_name };
+
+    ghost columns = { build_columns };
 
     ghost to_row = { build_row };
 
@@ -26,6 +26,16 @@ impl KeyedRow for BuildRow {
     ghost IsLawful = { HasBuildTexts };
 
     ghost back = { λ _. refl };
+
+    #[tactic(auto, using(crate::proofs::Texts::build_is, crate::proofs::Orders::build_agrees))]
+    fn query() -> TableQuery<'static> {
+        TableQuery {
+            text: "SELECT flight, day, awb, pieces, tenths FROM build ORDER BY flight, day, awb",
+            name: "build",
+            columns: &["flight", "day", "awb", "pieces", "tenths"],
+            keys: 3,
+        }
+    }
 
     fn typed(cells: &mut Cells<'_>) -> Result<BuildRow, RowError> {
         let row = BuildRow {
@@ -42,23 +52,4 @@ impl KeyedRow for BuildRow {
     fn is_below(&self, next: &BuildRow) -> bool {
         (self.flight.as_str(), (self.day, self.awb)) < (next.flight.as_str(), (next.day, next.awb))
     }
-}
-
-/// Returns all rows of `build` in any database, ordered by `flight`, `day` and `awb`. For `None`
-/// and errors see [`found_rows`](crate::found_rows).
-#[tactic(auto, using(crate::proofs::Texts::build_is, crate::proofs::Orders::build_agrees))]
-pub fn found_builds<S: Alter>(
-    alloc: Global,
-    conn: &mut Connection<S>,
-) -> Result<Option<Vec<BuildRow>>, Error>
-    ensures read { FindsTable S.Store conn.old conn.new result build_meant HoldsBuild }
-    ensures survives { Survives (state S.Store conn.old) (state S.Store conn.new) (λ _. ⊥) }
-{
-    let query = TableQuery {
-        text: "SELECT flight, day, awb, pieces, tenths FROM build ORDER BY flight, day, awb",
-        name: "build",
-        columns: &["flight", "day", "awb", "pieces", "tenths"],
-        keys: 3,
-    };
-    found_rows(alloc, conn, &query)
 }

@@ -1,10 +1,6 @@
-ghost use Rattle.table_load.specs.Common.{Survives, state};
-ghost use Rattle.table_load.specs.Whole.{FindsTable};
-ghost use Rattle.table_load.specs.Held.{HoldsExpected, expected_entry};
+ghost use Rattle.table_load.specs.Held.{expected_entry};
 
-use crate::{Cells, KeyedRow, RowError, TableQuery, found_rows};
-use sqlite::{Alter, Connection, Error};
-use std::alloc::Global;
+use crate::{Cells, KeyedRow, RowError, TableQuery};
 
 /// A row of `expected`. Its key is `flight`, `day` and `awb`.
 #[derive(Drop)]
@@ -26,11 +22,15 @@ pub struct ExpectedEntry {
 impl KeyedRow for ExpectedEntry {
     ghost use Rattle.std.specs.Prelude.{ℕ, ℤ, List, refl};
     ghost use Rattle.station_schema.specs.Tables.{Expected, ExpectedKey, expected_cmp, expected_row};
-    ghost use Rattle.table_load.specs.Held.{by_key, HasExpectedTexts, expected_back};
+    ghost use Rattle.table_load.specs.Held.{by_key, HasExpectedTexts, expected_columns, expected_name, expected_back};
 
     ghost Entry = { ExpectedKey × Expected };
 
     ghost meant = { expected_entry };
+
+    ghost name = { expected_name };
+
+    ghost columns = { expected_columns };
 
     ghost to_row = { expected_row };
 
@@ -41,6 +41,16 @@ impl KeyedRow for ExpectedEntry {
     ghost IsLawful = { HasExpectedTexts };
 
     ghost back = { λ _. refl };
+
+    #[tactic(auto, using(crate::proofs::Texts::expected_is, crate::proofs::Orders::expected_agrees))]
+    fn query() -> TableQuery<'static> {
+        TableQuery {
+            text: "SELECT flight, day, awb, pieces, tenths, checked FROM expected ORDER BY flight, day, awb",
+            name: "expected",
+            columns: &["flight", "day", "awb", "pieces", "tenths", "checked"],
+            keys: 3,
+        }
+    }
 
     fn typed(cells: &mut Cells<'_>) -> Result<ExpectedEntry, RowError> {
         let row = ExpectedEntry {
@@ -58,23 +68,4 @@ impl KeyedRow for ExpectedEntry {
     fn is_below(&self, next: &ExpectedEntry) -> bool {
         (self.flight.as_str(), (self.day, self.awb)) < (next.flight.as_str(), (next.day, next.awb))
     }
-}
-
-/// Returns all rows of `expected` in any database, ordered by `flight`, `day` and `awb`. For `None`
-/// and errors see [`found_rows`](crate::found_rows).
-#[tactic(auto, using(crate::proofs::Texts::expected_is, crate::proofs::Orders::expected_agrees))]
-pub fn found_expected<S: Alter>(
-    alloc: Global,
-    conn: &mut Connection<S>,
-) -> Result<Option<Vec<ExpectedEntry>>, Error>
-    ensures read { FindsTable S.Store conn.old conn.new result expected_entry HoldsExpected }
-    ensures survives { Survives (state S.Store conn.old) (state S.Store conn.new) (λ _. ⊥) }
-{
-    let query = TableQuery {
-        text: "SELECT flight, day, awb, pieces, tenths, checked FROM expected ORDER BY flight, day, awb",
-        name: "expected",
-        columns: &["flight", "day", "awb", "pieces", "tenths", "checked"],
-        keys: 3,
-    };
-    found_rows(alloc, conn, &query)
 }

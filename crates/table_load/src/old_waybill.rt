@@ -1,10 +1,6 @@
-ghost use Rattle.table_load.specs.Common.{Survives, state};
-ghost use Rattle.table_load.specs.Whole.{FindsTable};
-ghost use Rattle.table_load.specs.Held.{HoldsOldWaybill, old_waybill_entry};
+ghost use Rattle.table_load.specs.Held.{old_waybill_entry};
 
-use crate::{Cells, KeyedRow, RowError, TableQuery, found_rows};
-use sqlite::{Alter, Connection, Error};
-use std::alloc::Global;
+use crate::{Cells, KeyedRow, RowError, TableQuery};
 
 /// A row of `waybill`, in a file of version 1. Its key is `awb`.
 #[derive(Drop)]
@@ -24,11 +20,15 @@ pub struct OldWaybillEntry {
 impl KeyedRow for OldWaybillEntry {
     ghost use Rattle.std.specs.Prelude.{ℕ, ℤ, List, refl};
     ghost use Rattle.station_schema.specs.Tables.{OldWaybill, old_waybill_id};
-    ghost use Rattle.table_load.specs.Held.{by_number, HasOldWaybillTexts, old_waybill_shown, old_waybill_back};
+    ghost use Rattle.table_load.specs.Held.{by_number, HasOldWaybillTexts, old_waybill_columns, old_waybill_name, old_waybill_shown, old_waybill_back};
 
     ghost Entry = { OldWaybill };
 
     ghost meant = { old_waybill_entry };
+
+    ghost name = { old_waybill_name };
+
+    ghost columns = { old_waybill_columns };
 
     ghost to_row = { old_waybill_shown };
 
@@ -39,6 +39,24 @@ impl KeyedRow for OldWaybillEntry {
     ghost IsLawful = { HasOldWaybillTexts };
 
     ghost back = { λ _. refl };
+
+    #[tactic(auto, using(crate::proofs::Texts::old_waybill_is, crate::proofs::Orders::old_waybill_agrees))]
+    fn query() -> TableQuery<'static> {
+        TableQuery {
+            text: "SELECT awb, origin, destination, pieces, tenths, goods, notified FROM waybill ORDER BY awb",
+            name: "waybill",
+            columns: &[
+                "awb",
+                "origin",
+                "destination",
+                "pieces",
+                "tenths",
+                "goods",
+                "notified",
+            ],
+            keys: 1,
+        }
+    }
 
     fn typed(cells: &mut Cells<'_>) -> Result<OldWaybillEntry, RowError> {
         let row = OldWaybillEntry {
@@ -57,31 +75,4 @@ impl KeyedRow for OldWaybillEntry {
     fn is_below(&self, next: &OldWaybillEntry) -> bool {
         self.awb < next.awb
     }
-}
-
-/// Returns all rows of `waybill` in any database, ordered by `awb`. For `None` and errors see
-/// [`found_rows`](crate::found_rows).
-#[tactic(auto, using(crate::proofs::Texts::old_waybill_is, crate::proofs::Orders::old_waybill_agrees))]
-pub fn found_old_waybills<S: Alter>(
-    alloc: Global,
-    conn: &mut Connection<S>,
-) -> Result<Option<Vec<OldWaybillEntry>>, Error>
-    ensures read { FindsTable S.Store conn.old conn.new result old_waybill_entry HoldsOldWaybill }
-    ensures survives { Survives (state S.Store conn.old) (state S.Store conn.new) (λ _. ⊥) }
-{
-    let query = TableQuery {
-        text: "SELECT awb, origin, destination, pieces, tenths, goods, notified FROM waybill ORDER BY awb",
-        name: "waybill",
-        columns: &[
-            "awb",
-            "origin",
-            "destination",
-            "pieces",
-            "tenths",
-            "goods",
-            "notified",
-        ],
-        keys: 1,
-    };
-    found_rows(alloc, conn, &query)
 }

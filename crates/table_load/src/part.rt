@@ -1,10 +1,6 @@
-ghost use Rattle.table_load.specs.Common.{Survives, state};
-ghost use Rattle.table_load.specs.Whole.{FindsTable};
-ghost use Rattle.table_load.specs.Held.{HoldsPart, part_entry};
+ghost use Rattle.table_load.specs.Held.{part_entry};
 
-use crate::{Cells, KeyedRow, RowError, TableQuery, found_rows};
-use sqlite::{Alter, Connection, Error};
-use std::alloc::Global;
+use crate::{Cells, KeyedRow, RowError, TableQuery};
 
 /// A row of `part`. Its key is `flight`, `day`, `airport` and `seq`.
 #[derive(Drop)]
@@ -24,11 +20,15 @@ pub struct PartEntry {
 impl KeyedRow for PartEntry {
     ghost use Rattle.std.specs.Prelude.{ℕ, ℤ, List, refl};
     ghost use Rattle.station_schema.specs.Tables.{PartKey, part_cmp, part_row};
-    ghost use Rattle.table_load.specs.Held.{by_key, HasPartTexts, part_back};
+    ghost use Rattle.table_load.specs.Held.{by_key, HasPartTexts, part_columns, part_name, part_back};
 
     ghost Entry = { PartKey × List ℕ };
 
     ghost meant = { part_entry };
+
+    ghost name = { part_name };
+
+    ghost columns = { part_columns };
 
     ghost to_row = { part_row };
 
@@ -39,6 +39,16 @@ impl KeyedRow for PartEntry {
     ghost IsLawful = { HasPartTexts };
 
     ghost back = { λ _. refl };
+
+    #[tactic(auto, using(crate::proofs::Texts::part_is, crate::proofs::Orders::part_agrees))]
+    fn query() -> TableQuery<'static> {
+        TableQuery {
+            text: "SELECT flight, day, airport, seq, body FROM part ORDER BY flight, day, airport, seq",
+            name: "part",
+            columns: &["flight", "day", "airport", "seq", "body"],
+            keys: 4,
+        }
+    }
 
     fn typed(cells: &mut Cells<'_>) -> Result<PartEntry, RowError> {
         let row = PartEntry {
@@ -61,23 +71,4 @@ impl KeyedRow for PartEntry {
             (next.day, (next.airport.as_str(), next.seq)),
         )
     }
-}
-
-/// Returns all rows of `part` in any database, ordered by `flight`, `day`, `airport` and `seq`. For
-/// `None` and errors see [`found_rows`](crate::found_rows).
-#[tactic(auto, using(crate::proofs::Texts::part_is, crate::proofs::Orders::part_agrees))]
-pub fn found_parts<S: Alter>(
-    alloc: Global,
-    conn: &mut Connection<S>,
-) -> Result<Option<Vec<PartEntry>>, Error>
-    ensures read { FindsTable S.Store conn.old conn.new result part_entry HoldsPart }
-    ensures survives { Survives (state S.Store conn.old) (state S.Store conn.new) (λ _. ⊥) }
-{
-    let query = TableQuery {
-        text: "SELECT flight, day, airport, seq, body FROM part ORDER BY flight, day, airport, seq",
-        name: "part",
-        columns: &["flight", "day", "airport", "seq", "body"],
-        keys: 4,
-    };
-    found_rows(alloc, conn, &query)
 }

@@ -20,7 +20,12 @@ pub trait KeyedRow: Drop {
 
     ghost meant: { Self → Entry };
 
-    /// The values of an entry's columns, key first.
+    /// The table's name, and its columns, key first.
+    ghost name: { List ℕ };
+
+    ghost columns: { List (List ℕ) };
+
+    /// The values of an entry's columns.
     ghost to_row: { Entry → Values };
 
     ghost from_row: { Values → Entry };
@@ -30,6 +35,13 @@ pub trait KeyedRow: Drop {
 
     /// The entry's texts are texts.
     ghost IsLawful: { Entry → Type 0 };
+
+    /// The query for all rows, in the order of their keys.
+    fn query() -> TableQuery<'static>
+        ensures selects { IsQuery result }
+        ensures agrees { Agrees result.keys to_row cmp }
+        ensures named { result.name.now ≡ name }
+        ensures columns { column_names result ≡ columns };
 
     /// Reads the row with these values, if they are one.
     fn typed(cells: &mut Cells<'_>) -> Result<Self, RowError>
@@ -52,18 +64,15 @@ pub trait KeyedRow: Drop {
 pub fn fold_rows<S: Alter, T: KeyedRow, F: RowFold<T> + Drop>(
     alloc: Global,
     conn: &mut Connection<S>,
-    query: &TableQuery<'_>,
     beside: &F::Beside,
     fold: F,
 ) -> Result<Option<F>, Error>
-    requires selects { IsQuery query.now }
-    requires agrees { Agrees query.now.keys T.to_row T.cmp }
     requires begun { F.has beside.now fold [] }
     ensures read { FoldsTable S.Store conn.old conn.new result (F.has beside.now) T.meant
-        (λ db. HoldsTable db query.now.name.now (column_names query.now) T.to_row
-        (AreLawful T.cmp T.IsLawful)) }
+        (λ db. HoldsTable db T.name T.columns T.to_row (AreLawful T.cmp T.IsLawful)) }
     ensures survives { Survives (state S.Store conn.old) (state S.Store conn.new) (λ _. ⊥) }
 {
+    let query = T::query();
     if !has_table(conn.schema(), query.name, query.columns) {
         return Ok(None);
     }
@@ -76,17 +85,13 @@ pub fn fold_rows<S: Alter, T: KeyedRow, F: RowFold<T> + Drop>(
 pub fn found_rows<S: Alter, T: KeyedRow>(
     alloc: Global,
     conn: &mut Connection<S>,
-    query: &TableQuery<'_>,
 ) -> Result<Option<Vec<T>>, Error>
-    requires selects { IsQuery query.now }
-    requires agrees { Agrees query.now.keys T.to_row T.cmp }
     ensures read { FindsTable S.Store conn.old conn.new result T.meant
-        (λ db. HoldsTable db query.now.name.now (column_names query.now) T.to_row
-        (AreLawful T.cmp T.IsLawful)) }
+        (λ db. HoldsTable db T.name T.columns T.to_row (AreLawful T.cmp T.IsLawful)) }
     ensures survives { Survives (state S.Store conn.old) (state S.Store conn.new) (λ _. ⊥) }
 {
     let none = Collected::new(alloc);
-    match fold_rows::<S, T, Collected<T>>(alloc, conn, query, &(), none)? {
+    match fold_rows::<S, T, Collected<T>>(alloc, conn, &(), none)? {
         None => Ok(None),
         Some(collected) => Ok(Some(collected.rows)),
     }

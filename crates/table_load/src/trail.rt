@@ -1,22 +1,21 @@
-ghost use Rattle.std.specs.Prelude.{[]};
-ghost use Rattle.table_load.specs.Common.{Survives, state, trail_meant};
-ghost use Rattle.table_load.specs.Walks.{FoldsTable};
-ghost use Rattle.table_load.specs.Held.{HoldsTrail};
+ghost use Rattle.table_load.specs.Common.{trail_meant};
 
-use crate::{Cells, KeyedRow, RowError, RowFold, TableQuery, fold_rows};
-use sqlite::{Alter, Connection, Error};
+use crate::{Cells, KeyedRow, RowError, TableQuery};
 use station_rows::TrailRow;
-use std::alloc::Global;
 
 impl KeyedRow for TrailRow {
     ghost use Rattle.std.specs.Prelude.{ℕ, ℤ, List, refl};
     ghost use Rattle.station_schema.specs.Tables.{TrailLine, trail_id};
     ghost use Rattle.station_rows.specs.Shown.{trail_shown, trail_read};
-    ghost use Rattle.table_load.specs.Held.{by_number, HasTrailTexts};
+    ghost use Rattle.table_load.specs.Held.{by_number, HasTrailTexts, trail_columns, trail_name};
 
     ghost Entry = { TrailLine };
 
     ghost meant = { trail_meant };
+
+    ghost name = { trail_name };
+
+    ghost columns = { trail_columns };
 
     ghost to_row = { trail_shown };
 
@@ -27,6 +26,16 @@ impl KeyedRow for TrailRow {
     ghost IsLawful = { HasTrailTexts };
 
     ghost back = { λ _. refl };
+
+    #[tactic(auto, using(crate::proofs::Texts::trail_is, crate::proofs::Orders::trail_agrees))]
+    fn query() -> TableQuery<'static> {
+        TableQuery {
+            text: "SELECT number, awb, line FROM trail ORDER BY number",
+            name: "trail",
+            columns: &["number", "awb", "line"],
+            keys: 1,
+        }
+    }
 
     fn typed(cells: &mut Cells<'_>) -> Result<TrailRow, RowError> {
         let row = TrailRow {
@@ -41,27 +50,4 @@ impl KeyedRow for TrailRow {
     fn is_below(&self, next: &TrailRow) -> bool {
         self.number < next.number
     }
-}
-
-/// Folds the rows of `trail` in any database, ordered by `number`. For `None` and errors see
-/// [`fold_rows`](crate::fold_rows).
-#[tactic(auto, using(crate::proofs::Texts::trail_is, crate::proofs::Orders::trail_agrees))]
-pub fn fold_trail<S: Alter, F: RowFold<TrailRow> + Drop>(
-    alloc: Global,
-    conn: &mut Connection<S>,
-    beside: &F::Beside,
-    fold: F,
-) -> Result<Option<F>, Error>
-    requires begun { F.has beside.now fold [] }
-    ensures read { FoldsTable S.Store conn.old conn.new result (F.has beside.now) trail_meant
-        HoldsTrail }
-    ensures survives { Survives (state S.Store conn.old) (state S.Store conn.new) (λ _. ⊥) }
-{
-    let query = TableQuery {
-        text: "SELECT number, awb, line FROM trail ORDER BY number",
-        name: "trail",
-        columns: &["number", "awb", "line"],
-        keys: 1,
-    };
-    fold_rows::<S, TrailRow, F>(alloc, conn, &query, beside, fold)
 }

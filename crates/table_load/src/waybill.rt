@@ -1,21 +1,21 @@
-ghost use Rattle.table_load.specs.Common.{Survives, state, waybill_meant};
-ghost use Rattle.table_load.specs.Whole.{FindsTable};
-ghost use Rattle.table_load.specs.Held.{HoldsWaybill};
+ghost use Rattle.table_load.specs.Common.{waybill_meant};
 
-use crate::{Cells, KeyedRow, RowError, TableQuery, found_rows};
-use sqlite::{Alter, Connection, Error};
+use crate::{Cells, KeyedRow, RowError, TableQuery};
 use station_rows::WaybillRow;
-use std::alloc::Global;
 
 impl KeyedRow for WaybillRow {
     ghost use Rattle.std.specs.Prelude.{ℕ, ℤ, List, refl};
     ghost use Rattle.station_schema.specs.Tables.{Waybill, waybill_id};
     ghost use Rattle.station_rows.specs.Shown.{waybill_shown, waybill_read};
-    ghost use Rattle.table_load.specs.Held.{by_number, HasWaybillTexts};
+    ghost use Rattle.table_load.specs.Held.{by_number, HasWaybillTexts, waybill_columns, waybill_name};
 
     ghost Entry = { Waybill };
 
     ghost meant = { waybill_meant };
+
+    ghost name = { waybill_name };
+
+    ghost columns = { waybill_columns };
 
     ghost to_row = { waybill_shown };
 
@@ -26,6 +26,25 @@ impl KeyedRow for WaybillRow {
     ghost IsLawful = { HasWaybillTexts };
 
     ghost back = { λ _. refl };
+
+    #[tactic(auto, using(crate::proofs::Texts::waybill_is, crate::proofs::Orders::waybill_agrees))]
+    fn query() -> TableQuery<'static> {
+        TableQuery {
+            text: "SELECT awb, origin, destination, pieces, tenths, goods, notified, since FROM waybill2 ORDER BY awb",
+            name: "waybill2",
+            columns: &[
+                "awb",
+                "origin",
+                "destination",
+                "pieces",
+                "tenths",
+                "goods",
+                "notified",
+                "since",
+            ],
+            keys: 1,
+        }
+    }
 
     fn typed(cells: &mut Cells<'_>) -> Result<WaybillRow, RowError> {
         let row = WaybillRow {
@@ -45,32 +64,4 @@ impl KeyedRow for WaybillRow {
     fn is_below(&self, next: &WaybillRow) -> bool {
         self.awb < next.awb
     }
-}
-
-/// Returns all rows of `waybill2` in any database, ordered by `awb`. For `None` and errors see
-/// [`found_rows`](crate::found_rows).
-#[tactic(auto, using(crate::proofs::Texts::waybill_is, crate::proofs::Orders::waybill_agrees))]
-pub fn found_waybills<S: Alter>(
-    alloc: Global,
-    conn: &mut Connection<S>,
-) -> Result<Option<Vec<WaybillRow>>, Error>
-    ensures read { FindsTable S.Store conn.old conn.new result waybill_meant HoldsWaybill }
-    ensures survives { Survives (state S.Store conn.old) (state S.Store conn.new) (λ _. ⊥) }
-{
-    let query = TableQuery {
-        text: "SELECT awb, origin, destination, pieces, tenths, goods, notified, since FROM waybill2 ORDER BY awb",
-        name: "waybill2",
-        columns: &[
-            "awb",
-            "origin",
-            "destination",
-            "pieces",
-            "tenths",
-            "goods",
-            "notified",
-            "since",
-        ],
-        keys: 1,
-    };
-    found_rows(alloc, conn, &query)
 }

@@ -15,7 +15,7 @@ use std::alloc::Global;
 use std::collections::BTreeMap;
 
 /// The movement book, with the sums of its moves by waybill, and by flight and waybill.
-#[derive(Drop)]
+#[derive(Clone, Drop)]
 pub(crate) struct MovementBook {
     pub(crate) moves: Vec<Move>,
     pub(crate) flows: BTreeMap<u64, WaybillFlows>,

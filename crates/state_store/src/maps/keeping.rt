@@ -5,7 +5,7 @@ ghost use Rattle.state_store.specs.Shown.{Shows};
 
 use crate::StoreFault;
 use crate::maps::state::MapState;
-use station_core::{KeptReply, Key};
+use station_core::Key;
 
 impl MapState {
     /// Stores the text of a command accepted under a key, and its count.
@@ -20,7 +20,7 @@ impl MapState {
     {
         let name = Vec::from_slice(self.alloc, key.as_bytes())?;
         let request = String::from_str(self.alloc, request)?;
-        self.kept_keys.insert(name, KeptReply { request, count })?;
+        self.kept_keys.insert(name, (request, count))?;
         Ok(())
     }
 

@@ -1,11 +1,13 @@
-//! A new station in memory.
-ghost use Rattle.state_store.specs.Common.{opening};
+//! A new station in memory, and a copy of one.
+ghost use Rattle.std.specs.Prelude.{IfOk};
+ghost use Rattle.state_store.specs.Common.{State, opening};
+ghost use Rattle.state_store.specs.Shown.{Shows};
 ghost use Rattle.state_store.specs.Store.{at_rest};
 
 use crate::maps::book::MovementBook;
 use crate::maps::state::MapState;
 use crate::maps::stock::MapStock;
-use crate::{ExpectedLines, StateStore};
+use crate::{ExpectedLines, StateStore, StoreFault};
 use imp_fields::Airport;
 use std::alloc::Global;
 use std::collections::{BTreeMap, HashMap};
@@ -31,5 +33,12 @@ impl MapState {
             kept_keys: HashMap::new(alloc),
             kept_texts: HashMap::new(alloc),
         }
+    }
+
+    /// Returns a copy that shows the same state. It fails only if memory runs out.
+    pub fn try_clone(&self) -> Result<MapState, StoreFault>
+        ensures { (s : State) → Shows self.now s → IfOk result (λ copy. Shows copy s) }
+    {
+        Ok(self.clone()?)
     }
 }

@@ -4,11 +4,16 @@ use crate::{ExpectedLines, FlightKey};
 use awb_number::Awb;
 use imp_fields::Airport;
 use shipment_machine::{Declared, Outbound};
-use station_core::KeptReply;
 use std::alloc::Global;
 use std::collections::{BTreeMap, HashMap};
 
-#[derive(Drop)]
+/// An airport, ordered by its letters.
+#[derive(Clone, Copy, PartialEq, Eq, PartialOrd, Ord)]
+pub(crate) struct AirportKey {
+    pub(crate) letters: [u8; 3],
+}
+
+#[derive(Clone, Drop)]
 pub(crate) struct TrailEntry {
     pub(crate) awb: Awb,
     pub(crate) line: Vec<u8>,
@@ -17,7 +22,7 @@ pub(crate) struct TrailEntry {
 /// The state of a station in memory: maps for what commands read, and sums next to the book.
 ///
 /// Its only fault is that memory runs out. After a fault there is no guarantee about what it shows.
-#[derive(Drop)]
+#[derive(Clone, Drop)]
 pub struct MapState {
     pub(crate) alloc: Global,
     pub(crate) here: Airport,
@@ -26,11 +31,12 @@ pub struct MapState {
     pub(crate) book: MovementBook,
     pub(crate) flights: BTreeMap<FlightKey, Outbound>,
     pub(crate) expected: ExpectedLines,
-    pub(crate) parts: BTreeMap<(FlightKey, [u8; 3], u32), Vec<u8>>,
+    pub(crate) parts: BTreeMap<(FlightKey, AirportKey, u32), Vec<u8>>,
     // In the order in which they were added, like the outbox.
     pub(crate) trail: Vec<TrailEntry>,
     pub(crate) outbox: Vec<Vec<u8>>,
     pub(crate) confirmed: u32,
-    pub(crate) kept_keys: HashMap<Vec<u8>, KeptReply>,
+    // The command accepted under each key, and the count of its reply.
+    pub(crate) kept_keys: HashMap<Vec<u8>, (String, u32)>,
     pub(crate) kept_texts: HashMap<Vec<u8>, u32>,
 }

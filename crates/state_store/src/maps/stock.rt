@@ -9,7 +9,7 @@ use std::collections::BTreeMap;
 
 /// The stock by runs: an entry names the holder of the numbers from its key up to the next entry's.
 /// Neighbours may name the same holder.
-#[derive(Drop)]
+#[derive(Clone, Drop)]
 pub(crate) struct MapStock {
     pub(crate) begins: BTreeMap<u64, Option<Holder>>,
 }

@@ -6,7 +6,7 @@ ghost use Rattle.state_store.specs.Shown.{in_memory};
 ghost use Rattle.state_store.specs.Common.{most_rows};
 
 use crate::maps::asked::{lines, messages, movements};
-use crate::maps::state::MapState;
+use crate::maps::state::{AirportKey, MapState};
 use crate::{FlightKey, StateStore, StoreFault, WaybillQuery};
 use agent_stock::{Holder, Order, StockFault, StockRun};
 use awb_number::Awb;
@@ -46,8 +46,8 @@ impl StateStore for MapState {
         match self.kept_keys.get(key.as_bytes()) {
             None => Ok(None),
             Some(kept) => Ok(Some(KeptReply {
-                request: kept.request.clone()?,
-                count: kept.count,
+                request: kept.0.clone()?,
+                count: kept.1,
             })),
         }
     }
@@ -94,7 +94,8 @@ impl StateStore for MapState {
 
     fn has_part(&mut self, part: &Part) -> Result<bool, StoreFault> {
         let flight = FlightKey::of(&part.flight);
-        let key = (flight, part.airport.letters(), part.number.number());
+        let letters = part.airport.letters();
+        let key = (flight, AirportKey { letters }, part.number.number());
         Ok(self.parts.contains_key(&key))
     }
 

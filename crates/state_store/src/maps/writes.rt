@@ -3,7 +3,7 @@ ghost use Rattle.std.specs.Prelude.{◌∷◌, [], OnOk};
 ghost use Rattle.state_store.specs.Common.{written, Confirm, Declare, Expect, NoteFlight, NotePart, Trail, UseUp, State, on_cargo, with_messages, with_moves};
 ghost use Rattle.state_store.specs.Shown.{Shows};
 
-use crate::maps::state::{MapState, TrailEntry};
+use crate::maps::state::{AirportKey, MapState, TrailEntry};
 use crate::{FlightKey, StoreFault};
 use agent_stock::{Holder, Run};
 use awb_number::Awb;
@@ -69,7 +69,8 @@ impl MapState {
     {
         let text = Vec::from_slice(self.alloc, text)?;
         let flight = FlightKey::of(&part.flight);
-        let key = (flight, part.airport.letters(), part.number.number());
+        let letters = part.airport.letters();
+        let key = (flight, AirportKey { letters }, part.number.number());
         self.parts.insert(key, text)?;
         Ok(())
     }
