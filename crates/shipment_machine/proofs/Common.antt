@@ -37,7 +37,7 @@ pub use Rattle.shipment_machine.specs.declared.view.LineView.{LineView}
 pub use Rattle.station_days.specs.Date.{IsMomentDay, LocalMinute, is_moment_day, resolved}
 pub use Rattle.std.proofs.Common.{All, Bool, Err, IfSome, IsSome, List, None, Ok, Option, Result, Some, [], add-one, ap, append_assoc, arith, drop, drop-cons, false, get_or, inl, inr, length, max, min, nat_eq, nat_le, nat_lt, not, refl, subst, suc, sym, take, true, true≢false, zero, zero-add, ℕ, ◌%◌, ◌&&◌, ◌*◌, ◌++◌, ◌+◌, ◌-◌, ◌/◌, ◌<◌, ◌==◌, ◌||◌, ◌∙◌, ◌∷◌, ◌≡◌, ◌≢◌, ◌≤◌, ◌⊎◌}
 pub use Rattle.std.proofs.lemmas.Bool.Decides.{nat_tests}
-pub use Rattle.std.proofs.lemmas.Bool.{and_from, and_parts, cond-false, cond-true, eq-eqb, eqb-true, le-leb, le-ltb, leb-false, leb-true, lt-ltb, ltb-false, ltb-true, ne_eqb}
+pub use Rattle.std.proofs.lemmas.Bool.{and_from, and_parts, eq-eqb, eqb-true, le-leb, leb-false, leb-true, ltb-false, ltb-true}
 pub use Rattle.std.proofs.lemmas.Int.{ints}
 pub use Rattle.std.proofs.lemmas.List.Elements.{All-cons, All-more, recursion_from_All}
 pub use Rattle.std.proofs.lemmas.List.Folds.{list_any-append}
@@ -45,7 +45,7 @@ pub use Rattle.std.proofs.lemmas.List.Sums.{sum_by-append, sum_by-cons, sum_by_p
 pub use Rattle.std.proofs.lemmas.List.{append-nil, length-map}
 pub use Rattle.std.specs.Bool.{if◌then◌else◌}
 pub use Rattle.std.specs.HashMap.{get}
-pub use Rattle.std.specs.List.{AllByRecursion, filter, flat_map, insert, list_all, list_any, prefix_len, range_with_len, sum_by}
+pub use Rattle.std.specs.List.{AllByRecursion, filter, flat_map, list_all, list_any, range_with_len, sum_by}
 pub use Rattle.std.specs.Option.{unwrap_or}
 pub use Rattle.std.specs.Prelude.{IfErr, IfOk, IsTrue, codes, decimal, is_none, is_some, map, neg_ℤ, pos, ◌-ℤ◌, ◌↔◌}
 pub use Rattle.std.specs.Str.{bytes_eq}

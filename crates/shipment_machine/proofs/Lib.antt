@@ -5,7 +5,6 @@ pub mod Crowd
 pub mod BalanceLaws
 pub mod Keeps
 pub mod Rising
-pub mod Placing
 pub mod OnFlight
 pub mod FlightKeys
 pub mod Places

@@ -1,7 +1,7 @@
 -- The words of other crates that this crate's definitions and contracts cite, passed on from one
 -- place. Declares nothing.
 pub use Rattle.std.specs.HashMap.{get}
-pub use Rattle.std.specs.List.{AllByRecursion, filter, flat_map, list_all, list_any, prefix_len, sum_by}
+pub use Rattle.std.specs.List.{AllByRecursion, filter, flat_map, list_all, list_any, sum_by}
 pub use Rattle.std.specs.Option.{unwrap_or}
 pub use Rattle.std.specs.Str.{bytes_eq}
 pub use Rattle.agent_stock.specs.Stock.{Holders}

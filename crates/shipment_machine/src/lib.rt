@@ -21,7 +21,6 @@ mod planning;
 mod plans;
 mod trail;
 mod view;
-mod waybills;
 
 pub use airline::Airline;
 pub use amount::Amount;
@@ -40,4 +39,3 @@ pub use view::{
     DeclarationView, FlightLoad, FlightView, LineView, LineViews, Loads, Rows, RowsKey, View,
     WaybillView,
 };
-pub use waybills::waybills_of;
