@@ -20,7 +20,8 @@ pub struct AgentCode {
 
 impl Model for AgentCode {
     ghost use Rattle.std.specs.Prelude.{ℕ, List, take, length, IsTrue};
-    ghost use Rattle.awb_number.specs.FilledUp.{IsFilledUp, filled_up, filled_up-take, length-filled};
+    ghost use Rattle.awb_number.specs.FilledUp.{IsFilledUp, filled_up};
+    ghost use Rattle.awb_number.proofs.FilledUp.{filled_up-take, length-filled};
     ghost use Rattle.agent_stock.specs.Code.{is_agent_code};
 
     ghost Value = { List ℕ };

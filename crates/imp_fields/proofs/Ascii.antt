@@ -1,7 +1,7 @@
 -- Fields as they are written are ASCII.
 use Rattle.imp_fields.proofs.Common.{Designator, IsAscii, IsDesignator, List, [], and_parts, arith, flight_text, is_airport, is_carrier, is_goods, is_letter, is_letter_or_digit, is_name, is_printable, true, ℕ, ◌++◌, ◌<◌, ◌∷◌, ◌≡◌}
 use Rattle.std.proofs.lemmas.Bool.Decides.{nat_tests}
-use Rattle.awb_number.specs.Ascii.{IsAscii-tested, ascii-letter_or_digit}
+use Rattle.awb_number.proofs.Ascii.{IsAscii-tested, ascii-letter_or_digit}
 use Rattle.imp_fields.proofs.FieldLaws.{flight_code}
 
 ascii-letter : (b : ℕ) → is_letter b ≡ true → b < 128

@@ -1,6 +1,6 @@
 -- The length of a key, and that it is ASCII.
 use Rattle.station_core.proofs.Common.{Bool, IsAscii, List, arith, false, is_key, is_key_byte, length, list_all, nat_le, nat_tests, true, ℕ, ◌&&◌, ◌<◌, ◌≡◌, ◌≤◌}
-use Rattle.awb_number.specs.Ascii.{IsAscii-tested}
+use Rattle.awb_number.proofs.Ascii.{IsAscii-tested}
 
 middle : (n : ℕ) (a b : Bool) → (a && nat_le n 40 && b) ≡ true → n ≤ 40
 middle n true true h = grind (arith, nat_tests)

@@ -19,7 +19,8 @@ pub struct Key {
 
 impl Model for Key {
     ghost use Rattle.std.specs.Prelude.{ℕ, List, take, length, IsTrue};
-    ghost use Rattle.awb_number.specs.FilledUp.{IsFilledUp, filled_up, filled_up-take, length-filled};
+    ghost use Rattle.awb_number.specs.FilledUp.{IsFilledUp, filled_up};
+    ghost use Rattle.awb_number.proofs.FilledUp.{filled_up-take, length-filled};
     ghost use Rattle.station_core.specs.Key.{is_key};
 
     ghost Value = { List ℕ };

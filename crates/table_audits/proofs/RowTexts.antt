@@ -1,7 +1,7 @@
 -- What a row within range holds as a text is one.
 use Rattle.table_audits.proofs.Common.{AllByRecursion, AreBuilds, Bool, Build, BuildKey, Expected, ExpectedKey, FinMap, Flight, FlightKey, HasBuildTexts, HasExpectedTexts, HasFlightTexts, HasKeptKeyTexts, HasKeptTextTexts, HasMovesTexts, HasOutboxTexts, HasPartTexts, HasStockTexts, HasTrailTexts, HasWaybillTexts, IsAscii, IsAscii-airport, IsAscii-flight, IsAscii-goods, IsText, IsUtf8-from_ascii, Kept, List, Message, None, PartKey, Some, Stock, StockKey, TrailLine, Waybill, [], and_parts, arith, build_cmp, build_here, build_in, build_total, each_entry, entries, false, flight_of, if◌then◌else◌, int_eq, is_agent_code, is_airport, is_day, is_expected_row, is_flight_row, is_flight_text, is_kept_row, is_kept_text_row, is_key_byte, is_letter_or_digit, is_message_row, is_move_row, is_one, is_part_row, is_printable, is_some, is_stock_row, is_trail_row, is_utf8-from_IsUtf8, is_waybill_row, length, nat_tests, pos, refl, running, subst, sym, true, unnamed_holder, ℕ, ℤ, ◌&&◌, ◌<◌, ◌==◌, ◌||◌, ◌∙◌, ◌∷◌, ◌≡◌}
 use Rattle.std.proofs.lemmas.Str.Ascii.{IsAscii-nil}
-use Rattle.awb_number.specs.Ascii.{IsAscii-tested, ascii-letter_or_digit}
+use Rattle.awb_number.proofs.Ascii.{IsAscii-tested, ascii-letter_or_digit}
 use Rattle.agent_stock.specs.declared.stock.Holder.TheVariants as holder
 use Rattle.shipment_machine.specs.declared.moves.Move as cargo
 use Rattle.station_schema.specs.Tables.{Move}

@@ -1,5 +1,5 @@
 use Rattle.agent_stock.proofs.Common.{ap, is_agent_code, sym, true, ◌∙◌, ◌≡◌}
-use Rattle.awb_number.specs.FilledUp.{IsFilledUp-written, take-written}
+use Rattle.awb_number.proofs.FilledUp.{IsFilledUp-written, take-written}
 use Rattle.agent_stock.proofs.Codes.{length-code}
 use Rattle.agent_stock.proofs.agent_code.AgentCode.read.Goals as goal
 

@@ -1,5 +1,5 @@
 use Rattle.station_core.proofs.Common.{ap, is_key, sym, true, ◌∙◌, ◌≡◌}
-use Rattle.awb_number.specs.FilledUp.{IsFilledUp-written, take-written}
+use Rattle.awb_number.proofs.FilledUp.{IsFilledUp-written, take-written}
 use Rattle.station_core.proofs.Keys.{length-key}
 use Rattle.station_core.proofs.key.Key.read.Goals as goal
 

@@ -1,12 +1,10 @@
 -- Texts of digits and letters are ASCII.
-use Rattle.std.proofs.Common.{ℕ, zero, suc, ◌/◌, ◌≡◌, ◌<◌, ◌+◌, ◌%◌, Bool, true, false, ◌&&◌, List, [], ◌∷◌, ◌++◌, refl, arith}
+use Rattle.std.proofs.Common.{ℕ, zero, suc, ◌/◌, ◌≡◌, ◌<◌, ◌+◌, ◌%◌, Bool, true, false, ◌&&◌, List, [], ◌∷◌, refl, arith}
 use Rattle.std.specs.Str.{IsAscii}
 use Rattle.std.specs.List.{list_all}
 use Rattle.std.proofs.lemmas.Bool.Decides.{nat_tests}
-use Rattle.std.proofs.lemmas.Str.{IsAscii-append}
 use Rattle.std.proofs.lemmas.Str.Ascii.{IsAscii-nil, IsAscii-cons, IsAscii-push}
 use Rattle.awb_number.specs.Digits.{is_letter_or_digit, padded}
-use Rattle.awb_number.specs.Number.{number_text, prefix_of, serial_of, check_digit}
 
 first : (a b : Bool) → (a && b) ≡ true → a ≡ true
 first true b h = refl
@@ -28,11 +26,3 @@ ascii-letter_or_digit b h = grind (arith, nat_tests)
 pub IsAscii-padded : (width n : ℕ) → IsAscii (padded width n)
 IsAscii-padded zero n = IsAscii-nil
 IsAscii-padded (suc width) n = IsAscii-push (padded width (n / 10)) (48 + n % 10) (IsAscii-padded width (n / 10)) (omega arith)
-
-pub IsAscii-number_text : (k : ℕ) → IsAscii (number_text k)
-IsAscii-number_text k =
-    let prefix = padded 3 (prefix_of k) in
-    let serial = padded 7 (serial_of k) in
-    IsAscii-append (prefix ++ (45 ∷ []) ++ serial) (padded 1 (check_digit (serial_of k)))
-    (IsAscii-append (prefix ++ (45 ∷ [])) serial (IsAscii-push prefix 45 (IsAscii-padded 3 (prefix_of k)) (omega arith)) (IsAscii-padded 7 (serial_of k)))
-    (IsAscii-padded 1 (check_digit (serial_of k)))
