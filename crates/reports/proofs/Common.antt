@@ -12,7 +12,7 @@ pub use Rattle.reports.specs.Listings.{IsListing, IsTextOf, IsWhole, is_about, i
 pub use Rattle.reports.specs.Manifest.{has_pieces, leaves, manifest_of, manifest_row, manifest_rows, takes_away}
 pub use Rattle.reports.specs.Objects.{count_data, kept_data, members_of, message_data, trail_data}
 pub use Rattle.reports.specs.Picking.{AreOne, HaveBytes, TakesWanted}
-pub use Rattle.reports.specs.Pieces.{before_row, close_of_none, end_piece, in_form, pieces_of, row_piece, whole_text}
+pub use Rattle.reports.specs.Pieces.{before_row, close_of_none, end_piece, in_form, row_piece}
 pub use Rattle.reports.specs.Progress.{Ends, HasGone, HasStuck, IsWhy, Progress, Takes, Waits, progress_of}
 pub use Rattle.reports.specs.Reports.{IsExpectedReport, IsFlightReport, IsStockReport, irregularity_report, movement_book, pending_report, shed_report, trail_report}
 pub use Rattle.reports.specs.Tallies.{IsNew, TakesMove, counted, listed, nothing_of, row_of, tally_in, with_move}

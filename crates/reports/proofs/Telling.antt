@@ -1,7 +1,8 @@
 -- What goes out while rows are taken.
 use Rattle.std.proofs.Common.{arith, ◌≡◌, ◌∙◌, ap, sym, refl, subst, ◌⊎◌, inl, inr, ℕ, ◌+◌, ◌≤◌, Bool, true, false, Some, None, Result, Ok, Err, List, [], ◌∷◌, ◌++◌, length, take, drop, append_assoc, length-append, OnOk, OnErr, IfErr}
 use Rattle.std.proofs.Math.Seq.{take-append-add, take-append_seam}
-use Rattle.reports.proofs.Common.{ActFault, Ends, Given, HandedOut, HasEnded, HasGone, HasStuck, HasTold, IsBegun, IsCause, IsReadersFault, IsWhy, Progress, ReportCause, ReportFault, Takes, Waits, pieces_of, take-append-drop, take-append-le, whole_text}
+use Rattle.reports.proofs.Common.{ActFault, Ends, Given, HandedOut, HasEnded, HasGone, HasStuck, HasTold, IsBegun, IsCause, IsReadersFault, IsWhy, Progress, ReportCause, ReportFault, Takes, Waits, take-append-drop, take-append-le}
+use Rattle.reports.proofs.Pieces.{pieces_of, whole_text}
 use Rattle.reports.specs.declared.fault.ReportCause.TheVariants as cause
 use Rattle.station_core.specs.declared.answer.ActFault.TheVariants as act
 

@@ -1,5 +1,5 @@
 -- The text added for each row, and at the end.
-use Rattle.std.specs.Prelude.{ℕ, zero, suc, ◌+◌, decimal, List, [], ◌∷◌, ◌++◌, length, codes}
+use Rattle.std.specs.Prelude.{ℕ, zero, suc, decimal, List, [], ◌++◌, codes}
 use Rattle.reports.specs.Common.{Data, compact_text}
 use Rattle.reports.specs.Lines.{end_line}
 use Rattle.reports.specs.declared.form.Form.{Form}
@@ -28,12 +28,3 @@ close_of_none (suc rows) = []
 abbrev pub end_piece : Form → ℕ → List ℕ
 end_piece form.Text rows = end_line rows
 end_piece form.Json rows = close_of_none rows ++ (codes "],\"count\":" ++ (decimal rows ++ codes "}\n"))
-
--- the pieces of rows, after `n` others
-abbrev pub pieces_of : {Row : Type 0} → (ℕ → Row → List ℕ) → ℕ → List Row → List ℕ
-pieces_of piece n [] = []
-pieces_of piece n (row ∷ rows) = piece n row ++ pieces_of piece (n + 1) rows
-
--- all of them, and the end
-abbrev pub whole_text : {Row : Type 0} → (ℕ → Row → List ℕ) → (ℕ → List ℕ) → List Row → List ℕ
-whole_text piece end rows = pieces_of piece 0 rows ++ end (length rows)
