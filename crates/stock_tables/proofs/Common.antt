@@ -24,7 +24,7 @@ pub use Rattle.std.specs.List.{AllByRecursion, find, last_or, list_all, range_wi
 pub use Rattle.std.specs.Option.{option_and_then}
 pub use Rattle.std.specs.Ordering.{eq_by_cmp, int_cmp, int_eq, ordering_then}
 pub use Rattle.std.specs.Prelude.{Err, IfOk, IsTrue, Ok, OnOk, Result, int_le, int_lt, is_some, nat_eq, nat_le, nat_lt, ◌&&◌, ◌+◌, ◌==◌, ◌||◌, ◌≤◌}
-pub use Rattle.stock_tables.specs.Reads.{are_enough, begins_before, holder_at, is_below, is_from, last_below, last_to_end, reaches, reaching}
+pub use Rattle.stock_tables.specs.Reads.{are_enough, begins_before, holder_at, reaches, reaching}
 pub use Rattle.stock_tables.specs.Rows.{AreAround, AreNear, Before, Behind, BehindBy, IsJoined, Touches, cut_before, cut_from, lies_ahead, lies_behind, listed, rows_ahead, rows_behind, rows_near, touches, written}
 pub use Rattle.stock_tables.specs.Runs.{IsWritable, code_of, entry_of, holder_number, key_of, row_in}
 pub use Rattle.stock_tables.specs.Stocked.{AreThere, IsCut, Restocked, Stocked, restocked, using_up}

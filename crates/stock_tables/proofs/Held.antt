@@ -1,5 +1,6 @@
 -- What the reads of the stock's rows say of its numbers.
-use Rattle.stock_tables.proofs.Common.{AreStockRows, FinMap, List, None, Option, Run, Some, Stock, StockRow, ap, ap₂, are_enough, entries, filter, holder_at, holders_in, is_between, last_rows_up_to, last_to_end, last_up_to, map, option_and_then, option_map, pos, prefix_of, reaches, reaching, refl, rows_near, run_in, serial_of, stock_cmp, stock_meant, sym, true, ℕ, ℤ, ◌++◌, ◌+ℤ◌, ◌+◌, ◌∙◌, ◌≡◌}
+use Rattle.stock_tables.proofs.Common.{AreStockRows, FinMap, List, None, Option, Run, Some, Stock, StockRow, ap, ap₂, are_enough, entries, filter, holder_at, holders_in, is_between, last_rows_up_to, last_up_to, map, option_and_then, option_map, pos, prefix_of, reaches, reaching, refl, rows_near, run_in, serial_of, stock_cmp, stock_meant, sym, true, ℕ, ℤ, ◌++◌, ◌+ℤ◌, ◌+◌, ◌∙◌, ◌≡◌}
+use Rattle.stock_tables.proofs.LastRows.{last_to_end}
 use Rattle.stock_tables.proofs.Meant.{same_holders, are_in_order}
 use Rattle.stock_tables.proofs.Reading.{near_read, last_have, holder_read, between_read, before_read, last_rows_read, until_read}
 

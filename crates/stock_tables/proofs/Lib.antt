@@ -11,3 +11,4 @@ pub mod Places
 pub mod Reading
 pub mod Rewriting
 pub mod Standing
+mod LastRows

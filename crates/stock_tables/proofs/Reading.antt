@@ -1,5 +1,6 @@
 -- The rows that a run touches, and the holder of a number, by the last row below a number.
-use Rattle.stock_tables.proofs.Common.{AllByRecursion, Bool, IsRunRow, List, None, Option, Run, Some, StandFrom, Stock, StockKey, StockRun, [], and_parts, ap, are_enough, arith, begins_before, cond, drop, drop-map, end_of, eqb-true, false, filter, holder_at, holders_by, inl, inr, int_eq, int_le, ints, is_among, is_below, is_between, is_from, is_stock_row, is_up_to, last_below, last_or, last_rows_up_to, last_to_end, last_up_to, leb-true, length, length-drop, length-map, list_all, ltb-true, map, nat_eq, nat_le, nat_lt, nat_tests, natural, negsuc, option_and_then, option_map, pos, prefix_of, reaches, reaching, refl, rows_near, run_in, serial_of, subst, sym, take, take-append-drop, touches, true, ℕ, ℤ, ◌%◌, ◌&&◌, ◌*◌, ◌++◌, ◌+ℤ◌, ◌+◌, ◌-◌, ◌/◌, ◌<◌, ◌||◌, ◌∙◌, ◌∷◌, ◌≡◌, ◌≤◌, ◌⊎◌}
+use Rattle.stock_tables.proofs.Common.{AllByRecursion, Bool, IsRunRow, List, None, Option, Run, Some, StandFrom, Stock, StockKey, StockRun, [], and_parts, ap, are_enough, arith, begins_before, cond, drop, drop-map, end_of, eqb-true, false, filter, holder_at, holders_by, inl, inr, int_eq, int_le, ints, is_among, is_between, is_stock_row, is_up_to, last_or, last_rows_up_to, last_up_to, leb-true, length, length-drop, length-map, list_all, ltb-true, map, nat_eq, nat_le, nat_lt, nat_tests, natural, negsuc, option_and_then, option_map, pos, prefix_of, reaches, reaching, refl, rows_near, run_in, serial_of, subst, sym, take, take-append-drop, touches, true, ℕ, ℤ, ◌%◌, ◌&&◌, ◌*◌, ◌++◌, ◌+ℤ◌, ◌+◌, ◌-◌, ◌/◌, ◌<◌, ◌||◌, ◌∙◌, ◌∷◌, ◌≡◌, ◌≤◌, ◌⊎◌}
+use Rattle.stock_tables.proofs.LastRows.{is_below, is_from, last_below, last_to_end}
 use Rattle.std.proofs.lemmas.List.Elements.{filter-append, filter_agree}
 use Rattle.stock_tables.proofs.Standing.{last_end, ends_up, stand_split, stand_lower}
 use Rattle.stock_tables.proofs.Meant.{low_fits, natural_is, row_fits}
