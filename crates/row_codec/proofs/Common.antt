@@ -14,7 +14,7 @@ pub use Rattle.row_codec.specs.Meaning.{Means, airport_in, confirmed_in, is_stat
 pub use Rattle.row_codec.specs.Moves.{are_flight_columns, book_in, book_row_by, day_column, flight_column, is_move_row, move_by, move_row, place_code, place_of, plain_place}
 pub use Rattle.row_codec.specs.Numbers.{AreNumbered, flag, is_count, is_day, is_flag, is_number, is_set, is_within, natural}
 pub use Rattle.row_codec.specs.Posted.{Keeps, Posted, WereThere}
-pub use Rattle.row_codec.specs.Replies.{AreRequests, is_kept_row, is_kept_text_row, kept_by, kept_keys_in, kept_row, kept_texts_in}
+pub use Rattle.row_codec.specs.Replies.{AreRequests, is_kept_row, is_kept_text_row, kept_by, kept_keys_in, kept_texts_in}
 pub use Rattle.row_codec.specs.Stock.{holder_by, holders_in}
 pub use Rattle.row_codec.specs.Stored.{come_to, pieces_found, posting_build, posting_count, stored, storing_build, storing_count}
 pub use Rattle.row_codec.specs.Sums.{come, gone, is_built, plus, posting}

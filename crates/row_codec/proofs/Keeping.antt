@@ -1,6 +1,7 @@
 -- What was accepted under a key, and the count of a telegram, is kept.
 use Rattle.std.proofs.Common.{◌≡◌, ◌&&◌, ℕ, pos, true, Some, None, option_map, List, Bool, false, cond, refl, sym, ap, subst, ◌∙◌}
-use Rattle.row_codec.proofs.Common.{AreRequests, IsRequest, Kept, Means, State, Tables, and_from, bytes_eq, eq_by_cmp, get, get-insert, insert, is_count, is_eq-slice_cmp, is_kept_row, is_kept_text_row, is_key, is_utf8, keeping, keeping_text, kept_by, kept_cmp, kept_keys_in, kept_row, kept_same, kept_text_cmp, kept_text_same, kept_text_total, kept_texts_in, kept_total, meaning_of, natural, with_kept, with_kept_text, with_key, with_text}
+use Rattle.row_codec.proofs.Common.{AreRequests, IsRequest, Kept, Means, State, Tables, and_from, bytes_eq, eq_by_cmp, get, get-insert, insert, is_count, is_eq-slice_cmp, is_kept_row, is_kept_text_row, is_key, is_utf8, keeping, keeping_text, kept_by, kept_cmp, kept_keys_in, kept_same, kept_text_cmp, kept_text_same, kept_text_total, kept_texts_in, kept_total, meaning_of, natural, with_kept, with_kept_text, with_key, with_text}
+use Rattle.row_codec.proofs.KeptRow.{kept_row}
 use Rattle.station_core.specs.Step as step
 use Rattle.row_codec.proofs.Guarded.{seen-insert}
 use Rattle.row_codec.proofs.MapLaws.{all-insert}

@@ -33,3 +33,4 @@ pub mod KnownLaws
 pub mod FlightRows
 pub mod Loads
 pub mod EachWaybill
+pub mod KeptRow

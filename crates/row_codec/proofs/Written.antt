@@ -1,5 +1,6 @@
 -- The same writes, stated of the rows and the keys that were made of the values.
-use Rattle.row_codec.proofs.Common.{Confirm, Declare, Declared, Expect, Expected, ExpectedKey, Flight, FlightDate, FlightKey, IsRequest, IsTrue, Kept, List, Means, Message, NoteFlight, NotePart, Outbound, Part, PartKey, Some, State, Tables, Trail, TrailLine, Waybill, [], ap, changing_waybill, confirming, expected_key, expected_row, flight_key, flight_text, get_by, is_count, is_designator, is_expected_row, is_flight_row, is_key, is_move_row, is_part_row, is_trail_row, is_utf8, is_waybill_row, kept_row, length, line_row, message_row, move_by, move_row, on_cargo, outbound_row, part_key, pos, subst, sym, true, waybill_id, waybill_row, with_expected, with_flight, with_kept, with_kept_text, with_key, with_message, with_messages, with_move, with_part, with_text, with_trail_line, with_waybill, written, ℕ, ℤ, ◌+◌, ◌∙◌, ◌∷◌, ◌≡◌}
+use Rattle.row_codec.proofs.Common.{Confirm, Declare, Declared, Expect, Expected, ExpectedKey, Flight, FlightDate, FlightKey, IsRequest, IsTrue, Kept, List, Means, Message, NoteFlight, NotePart, Outbound, Part, PartKey, Some, State, Tables, Trail, TrailLine, Waybill, [], ap, changing_waybill, confirming, expected_key, expected_row, flight_key, flight_text, get_by, is_count, is_designator, is_expected_row, is_flight_row, is_key, is_move_row, is_part_row, is_trail_row, is_utf8, is_waybill_row, length, line_row, message_row, move_by, move_row, on_cargo, outbound_row, part_key, pos, subst, sym, true, waybill_id, waybill_row, with_expected, with_flight, with_kept, with_kept_text, with_key, with_message, with_messages, with_move, with_part, with_text, with_trail_line, with_waybill, written, ℕ, ℤ, ◌+◌, ◌∙◌, ◌∷◌, ◌≡◌}
+use Rattle.row_codec.proofs.KeptRow.{kept_row}
 use Rattle.shipment_machine.specs.declared.moves.Expected as cargo
 use Rattle.shipment_machine.specs.declared.moves.Move as cargo_move
 use Rattle.station_core.specs.Step as step

@@ -1,5 +1,5 @@
 -- Accepted inputs in the rows of `kept_key` and `kept_text`.
-use Rattle.std.specs.Prelude.{◌≡◌, ℕ, ℤ, pos, Bool, ◌&&◌, Option, Some, List}
+use Rattle.std.specs.Prelude.{◌≡◌, ℕ, ℤ, Bool, ◌&&◌, Option, Some, List}
 use Rattle.row_codec.specs.Common.{option_map, is_utf8, FinMap, get, is_key, IsRequest, Kept, kept_cmp, kept_text_cmp}
 use Rattle.station_core.specs.Step as step
 use Rattle.row_codec.specs.Numbers.{natural, is_count}
@@ -7,9 +7,6 @@ use Rattle.row_codec.specs.Numbers.{natural, is_count}
 -- the entry under a key
 abbrev pub kept_by : Kept → step.Kept
 kept_by row = record { request = row.command; count = natural row.count }
-
-abbrev pub kept_row : step.Kept → Kept
-kept_row kept = record { command = kept.request; count = pos kept.count }
 
 abbrev pub kept_keys_in : FinMap kept_cmp Kept → List ℕ → Option step.Kept
 kept_keys_in rows key = option_map kept_by (get rows key)

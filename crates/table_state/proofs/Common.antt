@@ -15,7 +15,8 @@ pub use Rattle.row_codec.specs.Meaning.{IsReadable, Means, meaning_of}
 pub use Rattle.row_codec.specs.Moves.{book_in, book_row_by, is_move_row, plain_place}
 pub use Rattle.row_codec.specs.Numbers.{AreNumbered, is_count, is_number, natural}
 pub use Rattle.row_codec.specs.Posted.{WereThere}
-pub use Rattle.row_codec.specs.Replies.{kept_by, kept_row}
+pub use Rattle.row_codec.proofs.KeptRow.{kept_row}
+pub use Rattle.row_codec.specs.Replies.{kept_by}
 pub use Rattle.row_codec.specs.Stock.{holder_by, holders_in, stands_for}
 pub use Rattle.row_codec.specs.Waybills.{declared_by, is_waybill_row, waybill_row}
 pub use Rattle.row_sinks.specs.Handed.{HandedOut, Hands}
