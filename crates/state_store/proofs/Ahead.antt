@@ -1,5 +1,6 @@
 -- The entries of a stock that are ahead, and what an entry more says.
-use Rattle.state_store.proofs.Common.{AreStockRuns, Bool, Holder, Holders, IsNoneFrom, None, Option, Some, StockRun, [], ap, arith, below, cases_lt, cond, false, inl, inr, named_by, nat_le, nat_lt, nat_tests, refl, subst, true, with_numbers, with_run, ℕ, ◌&&◌, ◌+◌, ◌<◌, ◌∙◌, ◌∷◌, ◌≡◌, ◌≤◌}
+use Rattle.state_store.proofs.Common.{AreStockRuns, Bool, Holder, Holders, IsNoneFrom, None, Option, Some, StockRun, [], ap, arith, cases_lt, cond, false, inl, inr, named_by, nat_le, nat_lt, nat_tests, refl, subst, true, with_numbers, with_run, ℕ, ◌&&◌, ◌+◌, ◌<◌, ◌∙◌, ◌∷◌, ◌≡◌, ◌≤◌}
+use Rattle.state_store.proofs.Below.{below}
 use Rattle.state_store.proofs.Named.{AreAbove, Entries, Names, Rise, begins, named, one_name}
 
 -- ---- numbers of one holder, some more of them

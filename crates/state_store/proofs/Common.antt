@@ -28,7 +28,7 @@ pub use Rattle.state_store.specs.Flow.{drawn_of, flow_of, flow_with, held_of, mo
 pub use Rattle.state_store.specs.Lines.{aboard_of, part_rows_on}
 pub use Rattle.state_store.specs.Listed.{announced_by, asked_by, loaded}
 pub use Rattle.state_store.specs.Maps.{cargo_of, declared_in, flights_in, part_of, parts_in, trail_in, trail_line}
-pub use Rattle.state_store.specs.Runs.{below, named_by, with_numbers}
+pub use Rattle.state_store.specs.Runs.{named_by, with_numbers}
 pub use Rattle.state_store.specs.Shown.{Shows, in_memory, state_of}
 pub use Rattle.state_store.specs.Stock.{holders_of, nobody}
 pub use Rattle.state_store.specs.Store.{MayLeave, Reads, ReadsAtRest, Says, Storing, Survives, at_rest}

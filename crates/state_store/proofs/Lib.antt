@@ -23,3 +23,4 @@ mod Surviving
 pub mod Tied
 pub mod Walks
 mod Writing
+mod Below

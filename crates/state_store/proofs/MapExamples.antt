@@ -1,5 +1,6 @@
 -- The definitions on worked rows.
-use Rattle.state_store.proofs.Common.{Desk, Flow, Holder, List, None, Option, Some, Void, [], amount, below, drawn_of, first_movement, held_of, named_by, nobody, refl, with_numbers, ℕ, ◌∷◌, ◌≡◌}
+use Rattle.state_store.proofs.Common.{Desk, Flow, Holder, List, None, Option, Some, Void, [], amount, drawn_of, first_movement, held_of, named_by, nobody, refl, with_numbers, ℕ, ◌∷◌, ◌≡◌}
+use Rattle.state_store.proofs.Below.{below}
 use Rattle.station_core.specs.declared.rows.BookQuery.TheVariants.{After, All, Last}
 
 -- the desk has 0200000010 to 0200000014, then five numbers are void

@@ -1,5 +1,5 @@
 -- The holder of each number, by entries that hold up to the next one.
-use Rattle.std.specs.Prelude.{ℕ, ◌&&◌, nat_le, nat_lt, if◌then◌else◌, Option, Some, None, List, [], ◌∷◌}
+use Rattle.std.specs.Prelude.{ℕ, ◌&&◌, nat_le, nat_lt, if◌then◌else◌, Option, Some, List, [], ◌∷◌}
 use Rattle.state_store.specs.Common.{Holders, Holder}
 
 -- the holder named by the last entry up to the number, `before` if there is none
@@ -10,6 +10,3 @@ named_by before (e ∷ es) q = named_by (if nat_le e.0 q then e.1 else before) e
 -- the stock in which one holder has the numbers from one up to another
 abbrev pub with_numbers : Holders → ℕ → ℕ → Holder → Holders
 with_numbers held from end holder q = if nat_le from q && nat_lt q end then Some holder else held q
-
-abbrev pub below : ℕ → Holders → Holders
-below end held q = if nat_lt q end then held q else None

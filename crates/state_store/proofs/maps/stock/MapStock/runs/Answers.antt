@@ -1,4 +1,5 @@
-use Rattle.state_store.proofs.Common.{AreStockRuns, Holder, None, Option, below, holders_of, subst, sym}
+use Rattle.state_store.proofs.Common.{AreStockRuns, Holder, None, Option, holders_of, subst, sym}
+use Rattle.state_store.proofs.Below.{below}
 use Rattle.state_store.proofs.Ahead.{IsAhead, all_below, below_none, below_some, first_ahead, no_runs, nobody_below, none_from_below, then_ahead}
 use Rattle.state_store.proofs.Named.{rises}
 use Rattle.state_store.proofs.maps.stock.MapStock.runs.Goals.{in-Some-named+in_ok-put_numbers-in-Some-named, in-None-named}

@@ -1,4 +1,5 @@
-use Rattle.state_store.proofs.Common.{AreStockRuns, below, holders_of}
+use Rattle.state_store.proofs.Common.{AreStockRuns, holders_of}
+use Rattle.state_store.proofs.Below.{below}
 use Rattle.state_store.proofs.Ahead.{IsAhead}
 use Rattle.state_store.proofs.maps.stock.MapStock.runs.Given as goal
 
