@@ -1,7 +1,7 @@
 -- The words of other crates that this crate's definitions and contracts cite, passed on from one
 -- place. Declares nothing.
 pub use Rattle.std.specs.BTreeMap.{BTreeMap, IsOrdered, get, is_at}
-pub use Rattle.std.specs.Cmp.{Equal-is, IsEquivalence, IsPartialEquivalence, IsTotalOrder, both_ways, nat_cmp_total, on_total, partial_equiv_from_equiv, po, then_total, tied_back, tied_itself}
+pub use Rattle.std.specs.Cmp.{IsTotalOrder, nat_cmp_total, on_total, partial_equiv_from_equiv, po, then_total}
 pub use Rattle.std.specs.Cmp.Lexicographic.{nat_list_cmp_total}
 pub use Rattle.std.specs.HashMap.{HashMap, get_by}
 pub use Rattle.std.specs.List.{flat_map, sum_by}

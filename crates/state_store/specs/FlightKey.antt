@@ -1,7 +1,7 @@
 -- The flights in a map, ordered as readers do.
 use Rattle.std.specs.Prelude.{Bool}
-use Rattle.std.proofs.Common.{ap, Ordering, is_eq}
-use Rattle.state_store.specs.Common.{eq_by_cmp, IsTotalOrder, IsEquivalence, IsPartialEquivalence, Equal-is, both_ways, partial_equiv_from_equiv, tied_itself, tied_back, on_total, then_total, nat_cmp_total, nat_list_cmp_total, flight_text, FlightDate, by_flight}
+use Rattle.std.proofs.Common.{Ordering}
+use Rattle.state_store.specs.Common.{eq_by_cmp, IsTotalOrder, on_total, then_total, nat_cmp_total, nat_list_cmp_total, flight_text, FlightDate, by_flight}
 use Rattle.state_store.specs.declared.flight_key.FlightKey.{FlightKey}
 
 -- flights are ordered by written form, and then by day
@@ -17,13 +17,3 @@ key_total = on_total (λ (k : FlightKey). k.flight) flights_total
 -- keys that compare as equal are the same
 abbrev pub same_key : FlightKey → FlightKey → Bool
 same_key a b = eq_by_cmp by_key a b
-
-pub key_equiv : IsEquivalence same_key
-key_equiv = record {
-  refl = λ a. ap is_eq (tied_itself key_total a);
-  symm = λ a b. both_ways (same_key a b) (same_key b a) (λ e. ap is_eq (tied_back key_total a b ((Equal-is (by_key a b)).0 e))) (λ e. ap is_eq (tied_back key_total b a ((Equal-is (by_key b a)).0 e)));
-  congr = λ a b c e. ap is_eq (key_total.congr a b c ((Equal-is (by_key a b)).0 e));
-}
-
-pub key_per : IsPartialEquivalence same_key
-key_per = partial_equiv_from_equiv key_equiv

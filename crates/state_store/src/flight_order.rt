@@ -1,7 +1,8 @@
 //! The order of flights in a map.
 ghost use Rattle.std.specs.Prelude.{refl, Some};
-ghost use Rattle.state_store.specs.Common.{po};
-ghost use Rattle.state_store.specs.FlightKey.{by_key, key_equiv, key_per, key_total, same_key};
+ghost use Rattle.std.proofs.lemmas.Cmp.{eq_by_cmp_equiv};
+ghost use Rattle.state_store.specs.Common.{partial_equiv_from_equiv, po};
+ghost use Rattle.state_store.specs.FlightKey.{by_key, key_total, same_key};
 
 use crate::flight_key::FlightKey;
 use std::cmp::Ordering;
@@ -9,7 +10,7 @@ use std::cmp::Ordering;
 impl PartialEq for FlightKey {
     ghost eq = { same_key };
 
-    ghost laws = { key_per };
+    ghost laws = { partial_equiv_from_equiv (eq_by_cmp_equiv key_total) };
 
     fn eq(&self, other: &FlightKey) -> bool {
         self.cmp(other) == Ordering::Equal
@@ -17,7 +18,7 @@ impl PartialEq for FlightKey {
 }
 
 impl Eq for FlightKey {
-    ghost laws = { key_equiv };
+    ghost laws = { eq_by_cmp_equiv key_total };
 }
 
 impl PartialOrd for FlightKey {
