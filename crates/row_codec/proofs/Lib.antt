@@ -34,3 +34,4 @@ pub mod FlightRows
 pub mod Loads
 pub mod EachWaybill
 pub mod KeptRow
+pub mod SameMeaning

@@ -13,3 +13,4 @@ mod RunLaw
 mod Runs
 pub mod StepLaw
 mod Walks
+pub mod Rooms

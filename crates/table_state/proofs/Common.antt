@@ -78,7 +78,7 @@ pub use Rattle.std.specs.Str.{IsAscii, IsUtf8, is_utf8}
 pub use Rattle.std.specs.declared.cmp.Ordering.TheVariants.{Equal, Greater, Less}
 pub use Rattle.stock_tables.specs.Stocked.{Restocked, Stocked, restocked, using_up}
 pub use Rattle.table_state.specs.Announced.{HaveCome, announced_by, has_come_by}
-pub use Rattle.table_state.specs.Laws.{same_meaning}
+pub use Rattle.row_codec.proofs.SameMeaning.{same_meaning}
 pub use Rattle.table_state.specs.Put.{put_over, putting_waybill}
 pub use Rattle.table_state.specs.Shown.{AreBoarded, Finds, HasAsked, HasOpen, HasThese, HaveAsked, IfGivenBack, IsBoarded, IsCounted, Knows, Shows, Stands, Tells, in_tables, joins, opens}
 pub use Rattle.table_state.specs.Spans.{AreCovered, Covers, IsCovered, IsSpanned, LiesIn}

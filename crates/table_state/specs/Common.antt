@@ -15,7 +15,7 @@ pub use Rattle.row_codec.specs.Numbers.{natural}
 pub use Rattle.row_codec.specs.Posted.{Posted, WereThere}
 pub use Rattle.row_codec.specs.Waybills.{declared_by}
 pub use Rattle.shipment_machine.specs.Book.{balances_of, in_store, same_place, waybills_on}
-pub use Rattle.shipment_machine.specs.Cargo.{Cargo, written}
+pub use Rattle.shipment_machine.specs.Cargo.{written}
 pub use Rattle.shipment_machine.specs.Numbers.{is_in}
 pub use Rattle.shipment_machine.specs.declared.flight.FlightDate.{FlightDate}
 pub use Rattle.shipment_machine.specs.declared.moves.Balances.{Balances}
@@ -33,7 +33,7 @@ pub use Rattle.state_store.specs.declared.expected_lines.ExpectedLines.{Expected
 pub use Rattle.state_store.specs.declared.query.WaybillQuery.{WaybillQuery}
 pub use Rattle.state_store.specs.declared.query.WaybillQuery.TheVariants.{Irregular, Stored}
 pub use Rattle.station_core.specs.Readers.{AreAnnounced, AreExpectations, book_by, book_row, expected_for, has_come, is_of_flight, message, numbered}
-pub use Rattle.station_core.specs.Step.{IsLawfulState, State, has_room, most_rows, opening}
+pub use Rattle.station_core.specs.Step.{IsLawfulState, State, most_rows, opening}
 pub use Rattle.station_core.specs.Told.{AreAllBalances, on_cargo, sizes_of}
 pub use Rattle.station_core.specs.declared.rows.AnnouncedRow.{AnnouncedRow}
 pub use Rattle.station_core.specs.declared.rows.BookQuery.TheVariants.{On}

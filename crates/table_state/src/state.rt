@@ -2,7 +2,8 @@
 
 ghost use Rattle.std.specs.Prelude.{◌≡◌, Some};
 ghost use Rattle.table_state.specs.Common.{State, opening, Tables, Means, IsOpening, at_rest};
-ghost use Rattle.table_state.specs.Laws.{finds_what_it_shows, all_numbered};
+ghost use Rattle.table_state.specs.Laws.{finds_what_it_shows};
+ghost use Rattle.station_core.proofs.Rooms.{all_numbered};
 ghost use Rattle.table_state.specs.Shown.{HasThese, Knows, in_tables};
 
 use crate::counted::{Boarded, Boardings, KnownCounts};
