@@ -13,6 +13,12 @@ pub enum WordsFault {
     Memory,
 }
 
+impl From<AllocError> for WordsFault {
+    fn from(_: AllocError) -> WordsFault {
+        WordsFault::Memory
+    }
+}
+
 /// A word that `clap` accepted, and that isn't valid in its place.
 #[derive(Clone, Copy)]
 pub(crate) enum BadValue<'a> {

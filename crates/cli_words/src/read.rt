@@ -246,9 +246,7 @@ fn read_line<'a>(words: Words<'a>) -> Result<Line<'a>, BadValue<'a>>
 pub fn parse_words<'a, S: AsStr>(alloc: Global, words: &'a [S]) -> Result<Line<'a>, WordsFault>
     ensures { IfOk result IsLine }
 {
-    if let Some(help) = refusal_help(alloc, words) {
-        return Err(help);
-    }
+    refusal_help(alloc, words)?;
     let words = sort_words(alloc, words)?;
     match read_line(words) {
         Ok(line) => Ok(line),
