@@ -20,3 +20,4 @@ pub mod TrailLemmas
 pub mod Views
 pub mod WaybillLemmas
 pub mod WriteLemmas
+pub mod ShownRows

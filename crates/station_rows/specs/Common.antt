@@ -25,8 +25,7 @@ pub use Rattle.station_schema.specs.ColumnKeys.{adjust}
 pub use Rattle.station_schema.specs.Connection.{IsOpening, IsVacant, MayOpen, connection_view}
 pub use Rattle.station_schema.specs.Effects.{IsSettled, IsUndone, Reads, Stops}
 pub use Rattle.station_schema.specs.Names.{takes_name}
-pub use Rattle.station_schema.specs.Once.{station_once}
-pub use Rattle.station_schema.specs.Own.{IsNewStation, IsOwn, LiesInOrder, own_once}
+pub use Rattle.station_schema.specs.Own.{IsNewStation, IsOwn, LiesInOrder}
 pub use Rattle.station_schema.specs.Schema.{station_schema}
 pub use Rattle.station_schema.specs.Store.{IsShowing, IsUnchanged, MayCommit, Rests, Seen, Shows, Survives, View, Writes, at_rest, inside}
 pub use Rattle.station_schema.specs.Streams.{taking}

@@ -18,9 +18,6 @@ waybill_read r = record {
   since = int_of (column r 7);
 }
 
-abbrev pub flight_shown : Flight → Row
-flight_shown f = Text f.unload ∷ Int f.closed ∷ []
-
 abbrev pub flight_read : Row → Flight
 flight_read r = record { unload = bytes_of (column r 0); closed = int_of (column r 1) }
 
@@ -47,9 +44,6 @@ move_read r = record {
   day = int_of (column r 8);
   minute = int_of (column r 9);
 }
-
-abbrev pub expected_shown : Expected → Row
-expected_shown e = Int e.pieces ∷ Int e.tenths ∷ Int e.checked ∷ []
 
 abbrev pub expected_read : Row → Expected
 expected_read r = record { pieces = int_of (column r 0); tenths = int_of (column r 1); checked = int_of (column r 2) }
@@ -98,9 +92,6 @@ message_read r = record {
   body = bytes_of (column r 1);
 }
 
-abbrev pub kept_shown : Kept → Row
-kept_shown k = Text k.command ∷ Int k.count ∷ []
-
 abbrev pub kept_read : Row → Kept
 kept_read r = record { command = bytes_of (column r 0); count = int_of (column r 1) }
 
@@ -116,9 +107,6 @@ stock_read r = (
   (int_of (column r 0), int_of (column r 1)),
   record { high = int_of (column r 2); holder = int_of (column r 3); agent = bytes_of (column r 4) },
 )
-
-abbrev pub station_shown : Station → Row
-station_shown s = Int s.id ∷ Text s.airport ∷ Int s.version ∷ Int s.confirmed ∷ []
 
 abbrev pub station_read : Row → Station
 station_read r = record {

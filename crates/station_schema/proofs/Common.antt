@@ -57,7 +57,7 @@ pub use Rattle.station_schema.specs.Effects.{Commits, IsMade, IsUndone, Makes, R
 pub use Rattle.station_schema.specs.Own.{IsNewStation, IsOldOwn, IsOwn, LiesInOrder}
 pub use Rattle.station_schema.specs.Schema.{build, column_of, counts, expected, flight, kept_key, kept_text, key_column, moves, moves_index, no_schema, old_schema, outbox, part, schema_with, station, station_schema, stock, trail, waybill, waybill2}
 pub use Rattle.station_schema.specs.Shapes.{index_of, table_of}
-pub use Rattle.station_schema.specs.Tables.{ExpectedKey, FlightKey, IsOldStation, IsStation, IsTyped, PartKey, StockKey, Tables, build_cmp, count_cmp, expected_cmp, flight_cmp, kept_cmp, kept_text_cmp, part_cmp, rows_in, station_id, station_row, stock_cmp, tables_in, tables_of, typed_stations}
+pub use Rattle.station_schema.specs.Tables.{ExpectedKey, FlightKey, IsOldStation, IsStation, IsTyped, PartKey, StockKey, Tables, build_cmp, count_cmp, expected_cmp, flight_cmp, kept_cmp, kept_text_cmp, part_cmp, station_id, station_row, stock_cmp, tables_of}
 pub use Rattle.station_schema.specs.declared.declarations.TheConstants.{DECLARATIONS, MOVES_AWB, WAYBILL2}
 pub use Rattle.std.proofs.Common.{Equal, Greater, Less, None, Ordering, Some, T, ap, append-nil, append_assoc, ap₂, arith, codes, cond, drop-drop, filter, get_or, inl, inr, int_eq, is_eq, is_some, length, map-id, nat_le, negsuc, not, option_map, pos, rules, slice_get, slice_index_or, subst, subst₂, sym, take, ℤ, ◌++◌, ◌+ℤ◌, ◌+◌, ◌/◌, ◌<ℤ◌, ◌<◌, ◌^◌, ◌∙◌, ◌≢◌, ◌≤◌, ◌⊎◌}
 pub use Rattle.std.proofs.Math.Logic.{∥∥₁_elim}

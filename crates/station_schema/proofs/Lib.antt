@@ -6,12 +6,14 @@ pub mod Creating
 pub mod Files
 pub mod Keys
 pub mod MemoryRows
+pub mod Once
 pub mod Opened
 pub mod Owned
 pub mod Statements
 pub mod StationLemmas
 pub mod Stored
 pub mod TableLemmas
+pub mod TableRows
 pub mod Texts
 pub mod Typed
 pub mod Shared

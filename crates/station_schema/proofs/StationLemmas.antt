@@ -1,5 +1,6 @@
 -- What the statement on `station` does.
-use Rattle.station_schema.proofs.Common.{CommitsBy, Edits, Executes, IsInside, IsKeyedBy-insert_by, List, Ok, Row, State, Survives, Text, [], insert_by, new_station, pos, refl, station, station_id, station_row, station_schema, tables_of, typed_stations, value_rows, with_station, ℕ, ◌∷◌}
+use Rattle.station_schema.proofs.Common.{CommitsBy, Edits, Executes, IsInside, IsKeyedBy-insert_by, List, Ok, Row, State, Survives, Text, [], insert_by, new_station, pos, refl, station, station_id, station_row, station_schema, tables_of, value_rows, with_station, ℕ, ◌∷◌}
+use Rattle.station_schema.proofs.TableRows.{typed_stations}
 use Rattle.station_schema.proofs.Shared.{cast_int, cast_null}
 use Rattle.station_schema.proofs.Keyed.{puts}
 use Rattle.station_schema.proofs.Ran.{IsPlaced, insert_ran}

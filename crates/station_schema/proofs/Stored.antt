@@ -1,5 +1,6 @@
 -- From the rows of a tree to a table, and back.
-use Rattle.station_schema.proofs.Common.{IsTotalOrder, numbered, from_entries, AllByRecursion, AreEntries, AreListed, Bool, Database, Edits, FinMap, IsInside, IsKeyedBy, IsStation, IsTyped, List, Row, Shows, State, Table, Tables, Trees, [], ap, arith, cond, false, if◌then◌else◌, map, map_back, refl, rows_in, station_schema, subst, sym, tables_in, tables_of, true, ℕ, ℤ, ◌==◌, ◌∙◌, ◌∷◌, ◌≡◌, ◌≢◌}
+use Rattle.station_schema.proofs.Common.{IsTotalOrder, numbered, from_entries, AllByRecursion, AreEntries, AreListed, Bool, Database, Edits, FinMap, IsInside, IsKeyedBy, IsStation, IsTyped, List, Row, Shows, State, Table, Tables, Trees, [], ap, arith, cond, false, if◌then◌else◌, map, map_back, refl, station_schema, subst, sym, tables_of, true, ℕ, ℤ, ◌==◌, ◌∙◌, ◌∷◌, ◌≡◌, ◌≢◌}
+use Rattle.station_schema.proofs.TableRows.{rows_in, tables_in}
 use Rattle.std.specs.declared.cmp.Ordering.{Ordering}
 use Rattle.station_schema.specs.Tables as table
 use Rattle.station_schema.proofs.ColumnKeys.{IsMap, reads_back, entries_by}

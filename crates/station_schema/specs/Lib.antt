@@ -3,7 +3,6 @@ pub mod Beside
 pub mod Calls
 pub mod Connection
 pub mod Names
-pub mod Once
 pub mod Own
 pub mod Schema
 pub mod Shapes

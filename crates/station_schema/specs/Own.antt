@@ -1,18 +1,13 @@
 -- Trees whose schema is that of a station.
 use Rattle.std.specs.Prelude.{◌≡◌, ℕ, List, IsTrue}
 use Rattle.station_schema.specs.Common.{Trees, Schema, IsSound, Ghosts, IsOrdered, catalog_tree, IsListed}
-use Rattle.sqlite_schema.specs.contracts.schema.Schema.{the_row as schema_row}
 use Rattle.station_schema.specs.Connection.{opening}
 use Rattle.station_schema.specs.Schema.{old_schema, station_schema}
 use Rattle.station_schema.specs.Tables.{tables_of}
-use base.Stored.{Coded-set}
 
 -- these trees allow only the schema of a station
 pub record IsOwn (db : Trees) : Type 0 where
   pub only : (schema : Schema) → IsSound schema db → schema ≡ station_schema
-
-pub own_once : (db : Trees) → IsProp (IsOwn db)
-own_once db a b = λ i. record { only = λ schema sound. Coded-set schema_row.coded _ _ (a.only schema sound) (b.only schema sound) i }
 
 -- these trees allow only the schema of a station of version 1
 pub record IsOldOwn (db : Trees) : Type 0 where

@@ -46,7 +46,8 @@ pub use Rattle.sqlite_keyed.specs.Keyed.{get_by, has_key}
 pub use Rattle.sqlite_typed.specs.Tests.{bytes_cmp}
 pub use Rattle.station_core.specs.Key.{is_key, is_key_byte}
 pub use Rattle.station_rows.specs.Meant.{build_meant, count_meant, message_meant, move_meant, stock_meant, trail_meant, waybill_meant}
-pub use Rattle.station_rows.specs.Shown.{build_read, count_read, message_read, message_shown, move_read, move_shown, station_shown, stock_read, trail_read, trail_shown, waybill_read, waybill_shown}
+pub use Rattle.station_rows.proofs.ShownRows.{station_shown}
+pub use Rattle.station_rows.specs.Shown.{build_read, count_read, message_read, message_shown, move_read, move_shown, stock_read, trail_read, trail_shown, waybill_read, waybill_shown}
 pub use Rattle.station_rows.specs.declared.moves.MoveRow.{MoveRow}
 pub use Rattle.station_rows.specs.declared.outbox.MessageRow.{MessageRow}
 pub use Rattle.station_rows.specs.declared.trail.TrailRow.{TrailRow}
@@ -55,7 +56,8 @@ pub use Rattle.station_schema.proofs.Keys.{build_total, count_total, expected_sa
 pub use Rattle.station_schema.proofs.Maps.{entries_of, entries_rise}
 pub use Rattle.station_schema.proofs.OneRow.{first_true, int_tied, pair_eq, pair_same, pair_total, second_true, texts_same, texts_total}
 pub use Rattle.station_schema.specs.Connection.{opening}
-pub use Rattle.station_schema.specs.Tables.{Build, BuildKey, Count, CountKey, Expected, ExpectedKey, Flight, FlightKey, IsOldStation, IsStation, Kept, Message, OldWaybill, PartKey, Station, Stock, StockKey, Tables, TrailLine, Waybill, build_cmp, count_cmp, expected_cmp, expected_row, flight_cmp, flight_row, kept_cmp, kept_row, kept_text_cmp, kept_text_row, message_id, move_id, old_tables_of, old_waybill_id, part_cmp, part_row, raised, station_id, station_in, station_row, stock_cmp, stock_row, tables_of, trail_id, typed_stations, undated, upgraded, waybill_id}
+pub use Rattle.station_schema.proofs.TableRows.{typed_stations}
+pub use Rattle.station_schema.specs.Tables.{Build, BuildKey, Count, CountKey, Expected, ExpectedKey, Flight, FlightKey, IsOldStation, IsStation, Kept, Message, OldWaybill, PartKey, Station, Stock, StockKey, Tables, TrailLine, Waybill, build_cmp, count_cmp, expected_cmp, expected_row, flight_cmp, flight_row, kept_cmp, kept_row, kept_text_cmp, kept_text_row, message_id, move_id, old_tables_of, old_waybill_id, part_cmp, part_row, raised, station_id, station_in, station_row, stock_cmp, stock_row, tables_of, trail_id, undated, upgraded, waybill_id}
 pub use Rattle.std.proofs.Common.{Bool, Equal, Err, Greater, Less, List, None, Ok, Option, Ordering, Result, Some, T, [], ap, ap₂, arith, cond, drop, false, get_or, inl, inr, int_cmp, is_eq, is_lt, length, length-append, map, nat_cmp, nat_lt, neg_ℤ, negsuc, of_z, option_map, pos, refl, replicate, rules, slice_get, slice_index_or, string_bytes, subst, suc, sym, tests, to_z, true, true≢false, w64, zero, ℕ, ℤ, ◌%◌, ◌*◌, ◌++◌, ◌+◌, ◌-ℤ◌, ◌-◌, ◌/◌, ◌<◌, ◌==◌, ◌∙◌, ◌∷◌, ◌≡◌, ◌≢◌, ◌≤◌, ◌⊎◌}
 pub use Rattle.std.proofs.lemmas.Bool.Decides.{Decides-int_eq, nat_tests}
 pub use Rattle.std.proofs.lemmas.Bool.{and_from, and_parts, cases_Bool, cond-true, eq-eqb, le-leb, leb-true}
@@ -79,7 +81,7 @@ pub use Rattle.std.specs.Option.{option_and_then}
 pub use Rattle.std.specs.Ordering.{eq_by_cmp, int_eq, ordering_then}
 pub use Rattle.std.specs.Prelude.{IfSome, IsErr, IsSome, IsTrue, MatchBool, MatchOption, OnOk, find, if◌then◌else◌, int_le, int_lt, is_some, nat_le, not, slice_set, ◌&&◌, ◌||◌, ◌↔◌}
 pub use Rattle.std.specs.Str.{IsAscii, bytes_eq, is_utf8}
-pub use Rattle.table_audits.specs.Audited.{AreDepartures, AreMoveRows, flight_in, flights_of, is_fit_move, nowhere}
+pub use Rattle.table_audits.specs.Audited.{AreDepartures, flight_in, flights_of, is_fit_move, nowhere}
 pub use Rattle.table_audits.specs.Balances.{AreBalances, drawn_at, drawn_by, is_covered, is_lawful_build, is_lawful_count, is_left, is_open, on_flight}
 pub use Rattle.table_audits.specs.Departed.{IsDeparted, departs_in, is_marked, marked, marks_of}
 pub use Rattle.table_audits.specs.Good.{AreGood, HoldsStation, IsFirstBad, IsGood, IsHeld, IsStationOf, before}

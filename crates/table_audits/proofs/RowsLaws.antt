@@ -1,6 +1,14 @@
 -- The rows of `moves` are lawful exactly where each is good.
-use Rattle.table_audits.proofs.Common.{AllByRecursion, AreMoveRows, AreNumbered, IsGoodRow, IsLawfulMove, all_both, all_from_test, all_map, all_unmap, all_weaker, cargo_in, is_move_row, move_by, move_id, test_from_all, true, ◌≡◌}
+use Rattle.table_audits.proofs.Common.{AllByRecursion, AreNumbered, IsGoodRow, IsLawfulMove, all_both, all_from_test, all_map, all_unmap, all_weaker, cargo_in, is_move_row, move_by, move_id, test_from_all, true, ◌≡◌}
+use Rattle.std.specs.Prelude.{IsTrue}
+use Rattle.std.specs.List.{list_all}
 use Rattle.station_schema.specs.Tables as table
+
+-- each row is in range, numbered from 1, and a lawful move by itself
+pub record AreMoveRows (t : table.Tables) : Type 0 where
+  pub rows : IsTrue (list_all is_move_row t.moves)
+  pub numbers : AreNumbered move_id t.moves
+  pub moves : AllByRecursion (IsLawfulMove (cargo_in t)) (cargo_in t).book
 
 module _ (t : table.Tables) where
   pub rows_good : AreMoveRows t → AllByRecursion (IsGoodRow t) t.moves

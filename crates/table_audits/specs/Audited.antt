@@ -1,6 +1,6 @@
 -- Lawfulness of the rows of `moves` with the waybills and the flights, apart from balances.
 use Rattle.std.specs.Prelude.{pos, Bool, ◌&&◌, ◌↔◌, None, IsTrue, List, [], map}
-use Rattle.table_audits.specs.Common.{unwrap_or, AllByRecursion, list_all, list_any, FlightDate, is_closed, IsLawfulMove, departs_with, StaysDeparted, Tables, Flight, FlightKey, Waybill, move_id, AreNumbered, flight_date_of, is_move_row}
+use Rattle.table_audits.specs.Common.{unwrap_or, list_any, FlightDate, is_closed, departs_with, StaysDeparted, Tables, Flight, FlightKey, Waybill, flight_date_of}
 use Rattle.shipment_machine.specs.declared.moves.Move as cargo
 use Rattle.shipment_machine.specs.Lawful.{is_pair}
 use Rattle.table_audits.specs.Lawful.{cargo_in}
@@ -17,12 +17,6 @@ flight_in row = unwrap_or (flight_date_of row.0.0 row.0.1) nowhere
 -- the flights in rows of `flight`, in order
 abbrev pub flights_of : List (FlightKey × Flight) → List FlightDate
 flights_of rows = map flight_in rows
-
--- each row is in range, numbered from 1, and a lawful move by itself
-pub record AreMoveRows (t : Tables) : Type 0 where
-  pub rows : IsTrue (list_all is_move_row t.moves)
-  pub numbers : AreNumbered move_id t.moves
-  pub moves : AllByRecursion (IsLawfulMove (cargo_in t)) (cargo_in t).book
 
 -- exactly the departed flights are closed, and nothing is built on them after their departure
 pub record AreDepartures (t : Tables) : Type 0 where

@@ -1,4 +1,5 @@
-use Rattle.station_rows.proofs.Common.{expected_meant, expected_read, expected_shown, refl}
+use Rattle.station_rows.proofs.Common.{expected_meant, expected_read, refl}
+use Rattle.station_rows.proofs.ShownRows.{expected_shown}
 use Rattle.station_rows.proofs.ReadLemmas.{query_survives, first_told}
 use Rattle.station_rows.proofs.Texts.{get_expected_is}
 use Rattle.station_rows.proofs.KeyedLemmas.{gets_value}

@@ -1,4 +1,5 @@
-use Rattle.station_rows.proofs.Common.{flight_meant, flight_read, flight_shown, refl}
+use Rattle.station_rows.proofs.Common.{flight_meant, flight_read, refl}
+use Rattle.station_rows.proofs.ShownRows.{flight_shown}
 use Rattle.station_rows.proofs.ReadLemmas.{query_survives, first_told}
 use Rattle.station_rows.proofs.Texts.{get_flight_is}
 use Rattle.station_rows.proofs.KeyedLemmas.{gets_value}

@@ -1,4 +1,5 @@
-use Rattle.station_rows.proofs.Common.{kept_meant, kept_read, kept_shown, refl}
+use Rattle.station_rows.proofs.Common.{kept_meant, kept_read, refl}
+use Rattle.station_rows.proofs.ShownRows.{kept_shown}
 use Rattle.station_rows.proofs.ReadLemmas.{query_survives, first_told}
 use Rattle.station_rows.proofs.Texts.{get_kept_is}
 use Rattle.station_rows.proofs.KeyedLemmas.{gets_value}

@@ -1,4 +1,5 @@
-use Rattle.station_rows.proofs.Common.{refl, station_meant, station_read, station_shown}
+use Rattle.station_rows.proofs.Common.{refl, station_meant, station_read}
+use Rattle.station_rows.proofs.ShownRows.{station_shown}
 use Rattle.station_rows.proofs.ReadLemmas.{query_survives, first_told}
 use Rattle.station_rows.proofs.Texts.{get_station_is}
 use Rattle.station_rows.proofs.StationLemmas.{gets_station}

@@ -1,6 +1,7 @@
--- That tables are a station's has at most one proof.
+-- That tables, or trees, are a station's has at most one proof.
 use Rattle.std.specs.Prelude.{◌<ℤ◌, ◌==◌, ℤ, ℕ, List, [], ◌∷◌, refl, Bool, true, false, MatchBool}
-use Rattle.station_schema.specs.Common.{AllByRecursion, Table, Ordering, Row, Database, IsAscending-prop, rows_set, IsKeyedBy}
+use Rattle.station_schema.specs.Common.{AllByRecursion, Table, Ordering, Row, Database, Trees, IsAscending-prop, rows_set, IsKeyedBy}
+use Rattle.station_schema.specs.Own.{IsOwn}
 use Rattle.station_schema.specs.Schema.{station_schema}
 use Rattle.sqlite_schema.specs.contracts.schema.Schema.{the_row as schema_row}
 use Rattle.station_schema.specs.ColumnKeys.{AreEntries, AreListed}
@@ -53,3 +54,6 @@ station_once db a b = λ i. record {
   typed = all_once (λ (table : Table). IsTyped table.tree (db.trees table.tree)) (λ table. typed_once table.tree (db.trees table.tree))
       station_schema.tables a.typed b.typed i;
 }
+
+pub own_once : (db : Trees) → IsProp (IsOwn db)
+own_once db a b = λ i. record { only = λ schema sound. Coded-set schema_row.coded _ _ (a.only schema sound) (b.only schema sound) i }
