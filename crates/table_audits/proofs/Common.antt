@@ -45,8 +45,8 @@ pub use Rattle.sqlite_keyed.proofs.SortLemmas.{pair_cmp, sorted_unique}
 pub use Rattle.sqlite_keyed.specs.Keyed.{get_by, has_key}
 pub use Rattle.sqlite_typed.specs.Tests.{bytes_cmp}
 pub use Rattle.station_core.specs.Key.{is_key, is_key_byte}
-pub use Rattle.station_rows.specs.Meant.{build_meant, count_meant, message_meant, move_meant, stock_meant, trail_meant, waybill_meant}
 pub use Rattle.station_rows.proofs.ShownRows.{station_shown}
+pub use Rattle.station_rows.specs.Meant.{build_meant, count_meant, message_meant, move_meant, stock_meant, trail_meant, waybill_meant}
 pub use Rattle.station_rows.specs.Shown.{build_read, count_read, message_read, message_shown, move_read, move_shown, stock_read, trail_read, trail_shown, waybill_read, waybill_shown}
 pub use Rattle.station_rows.specs.declared.moves.MoveRow.{MoveRow}
 pub use Rattle.station_rows.specs.declared.outbox.MessageRow.{MessageRow}
@@ -55,8 +55,8 @@ pub use Rattle.station_rows.specs.declared.waybills.WaybillRow.{WaybillRow}
 pub use Rattle.station_schema.proofs.Keys.{build_total, count_total, expected_same, expected_total, flight_same, flight_total, kept_same, kept_text_same, kept_text_total, kept_total, part_same, part_total, stock_total}
 pub use Rattle.station_schema.proofs.Maps.{entries_of, entries_rise}
 pub use Rattle.station_schema.proofs.OneRow.{first_true, int_tied, pair_eq, pair_same, pair_total, second_true, texts_same, texts_total}
-pub use Rattle.station_schema.specs.Connection.{opening}
 pub use Rattle.station_schema.proofs.TableRows.{typed_stations}
+pub use Rattle.station_schema.specs.Connection.{opening}
 pub use Rattle.station_schema.specs.Tables.{Build, BuildKey, Count, CountKey, Expected, ExpectedKey, Flight, FlightKey, IsOldStation, IsStation, Kept, Message, OldWaybill, PartKey, Station, Stock, StockKey, Tables, TrailLine, Waybill, build_cmp, count_cmp, expected_cmp, expected_row, flight_cmp, flight_row, kept_cmp, kept_row, kept_text_cmp, kept_text_row, message_id, move_id, old_tables_of, old_waybill_id, part_cmp, part_row, raised, station_id, station_in, station_row, stock_cmp, stock_row, tables_of, trail_id, undated, upgraded, waybill_id}
 pub use Rattle.std.proofs.Common.{Bool, Equal, Err, Greater, Less, List, None, Ok, Option, Ordering, Result, Some, T, [], ap, ap₂, arith, cond, drop, false, get_or, inl, inr, int_cmp, is_eq, is_lt, length, length-append, map, nat_cmp, nat_lt, neg_ℤ, negsuc, of_z, option_map, pos, refl, replicate, rules, slice_get, slice_index_or, string_bytes, subst, suc, sym, tests, to_z, true, true≢false, w64, zero, ℕ, ℤ, ◌%◌, ◌*◌, ◌++◌, ◌+◌, ◌-ℤ◌, ◌-◌, ◌/◌, ◌<◌, ◌==◌, ◌∙◌, ◌∷◌, ◌≡◌, ◌≢◌, ◌≤◌, ◌⊎◌}
 pub use Rattle.std.proofs.lemmas.Bool.Decides.{Decides-int_eq, nat_tests}

@@ -40,11 +40,11 @@ pub use Rattle.station_schema.proofs.AnyTexts.{Means, asks, by_column}
 pub use Rattle.station_schema.proofs.Inside.{commits_nothing, execute_stops, keeps, not_run, query_keeps, query_stops, survives_inside, survives_three, transaction_stays}
 pub use Rattle.station_schema.proofs.Keyed.{any_rows, no_overlay, one_table, puts_all, puts_past, removed_any, seen}
 pub use Rattle.station_schema.proofs.Statements.{changes, execute_survives}
+pub use Rattle.station_schema.proofs.TableRows.{rows_in, tables_in, typed_builds, typed_counts, typed_expected, typed_flights, typed_kept, typed_kept_texts, typed_moves, typed_old_waybills, typed_outbox, typed_parts, typed_stations, typed_stock, typed_trail, typed_waybills}
 pub use Rattle.station_schema.specs.Calls.{Edits, IsInside}
 pub use Rattle.station_schema.specs.ColumnKeys.{AreEntries, AreListed, numbered, numbered_in}
 pub use Rattle.station_schema.specs.Effects.{Reads, Stops}
 pub use Rattle.station_schema.specs.Schema.{old_schema, schema_with, station, station_schema, waybill, waybill2}
-pub use Rattle.station_schema.proofs.TableRows.{rows_in, tables_in, typed_builds, typed_counts, typed_expected, typed_flights, typed_kept, typed_kept_texts, typed_moves, typed_old_waybills, typed_outbox, typed_parts, typed_stations, typed_stock, typed_trail, typed_waybills}
 pub use Rattle.station_schema.specs.Tables.{Build, BuildKey, Count, CountKey, Expected, ExpectedKey, Flight, FlightKey, IsOldStation, IsStation, Kept, Message, Move, OldWaybill, PartKey, Station, Stock, StockKey, Tables, TrailLine, Waybill, build_cmp, build_in, build_row, count_cmp, count_in, count_row, expected_cmp, expected_in, expected_row, flight_cmp, flight_in, flight_row, kept_cmp, kept_in, kept_row, kept_text_cmp, kept_text_in, kept_text_row, message_id, message_in, message_row, move_id, move_in, move_row, old_tables_of, old_waybill_id, old_waybill_in, old_waybill_row, part_cmp, part_in, part_row, raised, station_id, station_in, station_row, stock_cmp, stock_in, stock_row, tables_of, trail_id, trail_in, trail_row, undated, upgraded, waybill_id, waybill_in, waybill_row}
 pub use Rattle.std.proofs.Common.{Bool, Err, IsTrue, None, Ok, Option, Result, Some, [], ap, ap₂, arith, codes, fold, inl, inr, length, map, negsuc, pos, refl, rules, slice_get, subst, subst₂, suc, sym, take, to_z, unwrap_or, w64, zero, ◌++◌, ◌+◌, ◌-◌, ◌<ℤ◌, ◌<◌, ◌∙◌, ◌∷◌, ◌≡◌, ◌≢◌, ◌≤◌}
 pub use Rattle.std.proofs.lemmas.Int.{ints, to_z-of_z}

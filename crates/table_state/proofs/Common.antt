@@ -4,7 +4,9 @@ pub use Rattle.imp_fields.specs.Airport.{is_airport}
 pub use Rattle.imp_fields.specs.Flight.{Designator, flight_text, same_flight}
 pub use Rattle.row_codec.proofs.Fits.{count_fits, part_fits}
 pub use Rattle.row_codec.proofs.Handing.{book_handed, book_on, message_of, messages_handed}
+pub use Rattle.row_codec.proofs.KeptRow.{kept_row}
 pub use Rattle.row_codec.proofs.Noted.{day_again, expectations_told, noted_told}
+pub use Rattle.row_codec.proofs.SameMeaning.{same_meaning}
 pub use Rattle.row_codec.proofs.Telling.{book_told, declared_told, holders_told}
 pub use Rattle.row_codec.specs.Counts.{AreBuilds, AreCounts, build_here, build_in, count_here, count_in, running, written_flight}
 pub use Rattle.row_codec.specs.Flights.{flight_key, flights_in, is_designator, is_flight_row, noted_by, outbound_by, outbound_row}
@@ -15,7 +17,6 @@ pub use Rattle.row_codec.specs.Meaning.{IsReadable, Means, meaning_of}
 pub use Rattle.row_codec.specs.Moves.{book_in, book_row_by, is_move_row, plain_place}
 pub use Rattle.row_codec.specs.Numbers.{AreNumbered, is_count, is_number, natural}
 pub use Rattle.row_codec.specs.Posted.{WereThere}
-pub use Rattle.row_codec.proofs.KeptRow.{kept_row}
 pub use Rattle.row_codec.specs.Replies.{kept_by}
 pub use Rattle.row_codec.specs.Stock.{holder_by, holders_in, stands_for}
 pub use Rattle.row_codec.specs.Waybills.{declared_by, is_waybill_row, waybill_row}
@@ -78,7 +79,6 @@ pub use Rattle.std.specs.Str.{IsAscii, IsUtf8, is_utf8}
 pub use Rattle.std.specs.declared.cmp.Ordering.TheVariants.{Equal, Greater, Less}
 pub use Rattle.stock_tables.specs.Stocked.{Restocked, Stocked, restocked, using_up}
 pub use Rattle.table_state.specs.Announced.{HaveCome, announced_by, has_come_by}
-pub use Rattle.row_codec.proofs.SameMeaning.{same_meaning}
 pub use Rattle.table_state.specs.Put.{put_over, putting_waybill}
 pub use Rattle.table_state.specs.Shown.{AreBoarded, Finds, HasAsked, HasOpen, HasThese, HaveAsked, IfGivenBack, IsBoarded, IsCounted, Knows, Shows, Stands, Tells, in_tables, joins, opens}
 pub use Rattle.table_state.specs.Spans.{AreCovered, Covers, IsCovered, IsSpanned, LiesIn}
