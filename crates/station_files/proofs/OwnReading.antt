@@ -3,7 +3,7 @@ use Rattle.station_files.proofs.Common.{Absent, List, PageMap, Row, Wanted, [], 
 use Rattle.sqlite_trees.specs.Listing.{same_code}
 use Rattle.sqlite_store.specs.Db.{trees_in}
 use Rattle.sqlite_store.specs.Listing.{all_trees}
-use Rattle.station_files.specs.OwnLaws.{says, says_nothing}
+use Rattle.shown_trees.proofs.Laws.{says, says_nothing}
 use Rattle.station_files.proofs.SameReading.{reals_are, root_of_row, same_trees, shape_is}
 
 module _ (size : ℕ) (numbers : List ℕ) (few : length numbers < 65536) (low : (t : ℕ) → t < length numbers → get_or numbers t 0 < 65536) (wanted own : List Wanted) (pages : PageMap)

@@ -1,7 +1,6 @@
 -- Trees of other programs besides those of a list.
 use Rattle.std.specs.Prelude.{◌≡◌, ℕ, ◌+◌, pos, Bool, true, not, ◌||◌, List, map, take}
-use Rattle.station_files.specs.Common.{list_all, list_any, Row, column, bytes, same_name, has_rowid, Object, wanted_of, listed_from}
-use Rattle.station_files.specs.Own.{rows_from}
+use Rattle.station_files.specs.Common.{list_all, list_any, Row, column, bytes, same_name, has_rowid, Object, wanted_of, listed_from, rows_from}
 
 abbrev pub is_one_of : List ℕ → Row → Bool
 is_one_of numbers row = list_any (λ n. has_rowid (pos (n + 1)) row) numbers

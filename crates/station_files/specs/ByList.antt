@@ -1,7 +1,6 @@
 -- Files read by a list of trees, whatever the order in the files.
 use Rattle.std.specs.Prelude.{◌≡◌, ◌<◌, ℕ, false, List, [], length, map, IsTrue}
-use Rattle.station_files.specs.Common.{Ghosts, Files, outcomes, IsPageSize, AreClean, Image, PageMap, IsSoundFile, Adopts, Recovers, stored_size, catalog_tree, Trees, Object, Schema, IsSound, wanted_of, recovers, state, file_trees, listed_from, read_by, IsOurs, Wanted, FileStore, file_state, image_of, AreDatabases, Held, State, HasCleanDisk}
-use Rattle.station_files.specs.Own.{own_trees, AreLow}
+use Rattle.station_files.specs.Common.{Ghosts, Files, outcomes, IsPageSize, AreClean, Image, PageMap, IsSoundFile, Adopts, Recovers, stored_size, catalog_tree, Trees, Object, Schema, IsSound, wanted_of, recovers, state, file_trees, listed_from, read_by, IsOurs, Wanted, FileStore, file_state, image_of, AreDatabases, Held, State, HasCleanDisk, own_trees, AreLow}
 
 -- the files recover to the pages of a sound file, with pages of this size
 pub record HoldsPages (size : ℕ) (image : Image) : Type 0 where

@@ -1,6 +1,7 @@
 -- The words of other crates that this crate's definitions and contracts cite, passed on from one
 -- place. Declares nothing.
 pub use Rattle.std.specs.List.{AllByRecursion, list_all, list_any}
+pub use Rattle.shown_trees.specs.Shown.{AreApart, AreLaidOut, AreLow, GoBack, IsNumberOf, IsShown, as_numbered, number_inside, own_trees, own_view, renumbered, rows_from, shown_row}
 pub use Rattle.sqlite.specs.Closing.{IsCopied}
 pub use Rattle.sqlite.specs.Files.{BeginsWell, Finds, HoldsDatabase, IsCleanLeft, IsClosed, IsEmpty, IsKept, IsOpened, file_state, image_of, over_files}
 pub use Rattle.sqlite.specs.Held.{AreDatabases, Held, IsNew}
@@ -24,18 +25,16 @@ pub use Rattle.sqlite_store.specs.Unopened.{AreUsable, Opens, files_of, image, s
 pub use Rattle.sqlite_store.specs.declared.catalog.Wanted.{Wanted}
 pub use Rattle.sqlite_store.specs.declared.store.FileStore.{FileStore}
 pub use Rattle.sqlite_store.specs.declared.store.open.Unopened.{Unopened}
-pub use Rattle.sqlite_trees.specs.Listing.{listed_once}
-pub use Rattle.sqlite_trees.specs.Objects.{IsListed, catalog_tree, number_in, row_for, set_at, shape_code, version_tree}
+pub use Rattle.sqlite_trees.specs.Objects.{catalog_tree, row_for, shape_code, version_tree}
 pub use Rattle.sqlite_trees.specs.Sound.{same_name}
-pub use Rattle.sqlite_trees.specs.Tree.{Trees, has_rowid, no_trees, rowid}
-pub use Rattle.sqlite_trees.specs.View.{IsClean, IsOrdered, IsQuiet, IsShaped, Snapshot, View, doubt}
+pub use Rattle.sqlite_trees.specs.Tree.{Trees, has_rowid}
+pub use Rattle.sqlite_trees.specs.View.{IsClean, IsQuiet, Snapshot, View, doubt}
 pub use Rattle.sqlite_trees.specs.declared.error.StoreError.TheVariants.{OutOfMemory}
 pub use Rattle.sqlite_trees.specs.declared.schema.Object.{Object}
-pub use Rattle.sqlite_trees.specs.declared.store.Shape.{Shape}
-pub use Rattle.sqlite_trees.specs.declared.store.Shape.TheVariants.{Absent, Table}
-pub use Rattle.sqlite_value.specs.Order.{Row, bytes, column, value_cmp}
+pub use Rattle.sqlite_trees.specs.declared.store.Shape.TheVariants.{Absent}
+pub use Rattle.sqlite_value.specs.Order.{Row, bytes, column}
 pub use Rattle.sqlite_value.specs.Value.{owned}
-pub use Rattle.sqlite_value.specs.declared.value.Value.TheVariants.{Int, Text}
+pub use Rattle.sqlite_value.specs.declared.value.Value.TheVariants.{Text}
 pub use Rattle.sqlite_wal.specs.Files.{outcomes}
 pub use Rattle.sqlite_wal.specs.PageSize.{IsPageSize, bytes_of}
 pub use Rattle.sqlite_wal.specs.Reads.{AreClean, OnlyReads}

@@ -1,8 +1,7 @@
 -- Connections to stores that were just opened, and what they return at the end.
 use Rattle.std.specs.Prelude.{◌≡◌, ◌<◌, ◌≤◌, ℕ, List, length, IsTrue}
-use Rattle.station_files.specs.Common.{Ghosts, Trees, doubt, IsClean, view, is_shielded, FileStore, file_state, IsOpened, AreDatabases, Held, IsNew, State, HasCleanDisk}
+use Rattle.station_files.specs.Common.{Ghosts, Trees, doubt, IsClean, view, is_shielded, FileStore, file_state, IsOpened, AreDatabases, Held, IsNew, State, HasCleanDisk, own_trees, AreLow}
 use Rattle.sqlite_trees.specs.declared.store.Store as trees
-use Rattle.station_files.specs.Own.{own_trees, AreLow}
 
 module _ {D : Type 0} {g : Ghosts D} where
   -- the connection shows what the store did

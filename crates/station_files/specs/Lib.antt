@@ -7,9 +7,6 @@ pub mod Connected
 pub mod Listed
 pub mod Others
 pub mod OthersStay
-pub mod Own
 pub mod OwnFiles
-pub mod OwnLaws
-pub mod OwnRows
 pub mod Spared
 pub mod StationTrees

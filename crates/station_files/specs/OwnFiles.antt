@@ -1,12 +1,11 @@
 -- Files with trees of other programs besides those of a list.
 use Rattle.std.specs.Prelude.{◌≡◌, ◌⊎◌, ◌<◌, ℕ, false, List, length, take}
-use Rattle.station_files.specs.Common.{Ghosts, Files, PageMap, Recovers, Trees, Object, recovers, view, file_trees, listed_from, read_by, IsOurs, Wanted, FileStore, image_of, over_files, AreDatabases, State, IsFresh, Leftover, IsOwn}
+use Rattle.station_files.specs.Common.{Ghosts, Files, PageMap, Recovers, Trees, Object, recovers, view, file_trees, listed_from, read_by, IsOurs, Wanted, FileStore, image_of, over_files, AreDatabases, State, IsFresh, Leftover, IsOwn, as_numbered, own_trees, AreLow}
 use Rattle.sqlite.specs.declared.file.Leftover.TheVariants as left
 use Rattle.station_files.specs.Beside.{AreBeside}
 use Rattle.station_files.specs.ByList.{FindsBy, HoldsOwn, LeavesAs}
 use Rattle.station_files.specs.Connected.{recovers_own}
 use Rattle.station_files.specs.Listed.{IsReadBy}
-use Rattle.station_files.specs.Own.{as_numbered, own_trees, AreLow}
 use Rattle.station_files.specs.Spared.{SparesFiles}
 use Rattle.station_files.specs.StationTrees.{ListsStation}
 

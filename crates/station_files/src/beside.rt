@@ -1,11 +1,10 @@
 //! Files with trees of other programs besides those of a list.
 ghost use Rattle.std.specs.Prelude.{◌≡◌, ◌⊎◌, ◌<◌, ◌≤◌, false, ℕ, List, length, take, IsTrue, IfErr, IfOk, IfSome};
-ghost use Rattle.station_files.specs.Common.{PageMap, Recovers, view, is_shielded, IsReady, image, state_of, AreUsable, Opens, catalog_tree, Trees, doubt, IsClean, IsShielded, IsCleanLeft, IsNew, HasCleanDisk, IsLive, IsFresh};
+ghost use Rattle.station_files.specs.Common.{PageMap, Recovers, view, is_shielded, IsReady, image, state_of, AreUsable, Opens, catalog_tree, Trees, doubt, IsClean, IsShielded, IsCleanLeft, IsNew, HasCleanDisk, IsLive, IsFresh, as_numbered, own_trees, AreLow};
 ghost use Rattle.sqlite_store.specs.FileStore.{state as store_state};
 ghost use Rattle.sqlite.specs.Held.{state};
 ghost use Rattle.sqlite.specs.State.{Opens as IsAtRest};
 ghost use Rattle.station_files.specs.Beside.{AreBeside};
-ghost use Rattle.station_files.specs.Own.{as_numbered, own_trees, AreLow};
 ghost use Rattle.station_files.specs.OwnFiles.{FindsOwn, IsReadByTheirs, SparesOwn};
 
 use crate::opening::unopened;

@@ -5,7 +5,6 @@ mod beside;
 mod closing;
 mod first_page;
 mod laws;
-mod layout;
 mod making;
 mod opening;
 mod own_listing;

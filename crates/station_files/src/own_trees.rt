@@ -1,13 +1,11 @@
 //! Files with trees of other programs besides those of a list.
 ghost use Rattle.std.specs.Prelude.{◌≡◌, ◌≢◌, ◌⊎◌, ◌<◌, ℕ, ◌+◌, map, take, length, slice_index, false, [], ◌∷◌, ◌++◌, IsTrue, IfOk, IfErr, IfSome, OnOk};
-ghost use Rattle.station_files.specs.Common.{AllByRecursion, Text, column, catalog_tree, Trees, IsClean, OutOfMemory, Absent, IsFresh};
+ghost use Rattle.station_files.specs.Common.{AllByRecursion, Text, column, catalog_tree, Trees, IsClean, OutOfMemory, Absent, IsFresh, as_numbered, number_inside, own_trees, own_view, renumbered, rows_from, AreApart, AreLaidOut, IsNumberOf, IsShown, GoBack};
 ghost use Rattle.sqlite_trees.specs.declared.error.StoreError.{StoreError as Failure};
 ghost use Rattle.station_files.specs.Others.{SparesOthers};
-ghost use Rattle.station_files.specs.Own.{as_numbered, number_inside, own_trees, own_view, renumbered, rows_from, AreApart, AreLaidOut, IsNumberOf, IsShown};
-ghost use Rattle.station_files.specs.OwnLaws.{GoBack};
 
-use crate::layout::Layout;
 use crate::tree_list::row_of;
+use shown_trees::Layout;
 use sqlite_trees::error::StoreError;
 use sqlite_trees::schema::Object;
 use sqlite_trees::store::{Alter, Direction, Shape, Store};
@@ -271,7 +269,7 @@ impl<S: Alter> OwnTrees<S> {
 impl<S: Alter> Store for OwnTrees<S> {
     ghost use Rattle.std.proofs.Common.{refl, ap, ◌∙◌};
     ghost use Rattle.std.proofs.Math.Logic.{∥∥₁_map};
-    ghost use Rattle.station_files.specs.OwnLaws.{own_nothing, view_ordered, view_unaltered};
+    ghost use Rattle.shown_trees.proofs.Laws.{own_nothing, view_ordered, view_unaltered};
 
     ghost view = { λ it. own_view it.numbers.items it.layouts.items it.before.items
         (S.Store.view it.store) };
@@ -441,7 +439,7 @@ impl<S: Alter> Store for OwnTrees<S> {
 }
 
 impl<S: Alter> Alter for OwnTrees<S> {
-    ghost use Rattle.station_files.specs.OwnLaws.{view_listed};
+    ghost use Rattle.shown_trees.proofs.Laws.{view_listed};
 
     ghost listed = { λ it sound. view_listed it.inside (S.Store.shut_if_dirty it.store)
         (S.Store.broken_if_shut it.store) sound (S.Alter.listed it.store sound) };

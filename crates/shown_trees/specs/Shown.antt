@@ -1,7 +1,13 @@
 -- The part of a store that is shown, if it has trees of other programs besides those of a list.
 use Rattle.std.specs.Prelude.{◌≡◌, ◌<◌, ℕ, ◌+◌, ◌==◌, pos, true, if◌then◌else◌, IsTrue, Bool, List, [], ◌∷◌, ◌++◌, length, map, find, nat_lt, slice_index, slice_index_or, Option, Some, None}
-use Rattle.station_files.specs.Common.{Int, Row, column, catalog_tree, version_tree, number_in, set_at, IsListed, Trees, has_rowid, Snapshot, View, IsClean, Shape, Absent, Table}
-use Rattle.station_files.specs.declared.layout.Layout.{Layout}
+use Rattle.sqlite_trees.specs.Objects.{catalog_tree, version_tree, number_in, set_at, IsListed}
+use Rattle.sqlite_trees.specs.Tree.{Trees, has_rowid}
+use Rattle.sqlite_trees.specs.View.{Snapshot, View, IsClean}
+use Rattle.sqlite_trees.specs.declared.store.Shape.{Shape}
+use Rattle.sqlite_trees.specs.declared.store.Shape.TheVariants.{Absent, Table}
+use Rattle.sqlite_value.specs.Order.{Row, column}
+use Rattle.sqlite_value.specs.declared.value.Value.TheVariants.{Int}
+use Rattle.shown_trees.specs.declared.layout.Layout.{Layout}
 
 -- the same trees, numbered by the list by which the store was opened
 abbrev pub as_numbered : View → View
@@ -95,3 +101,7 @@ pub record IsNumberOf (numbers : List ℕ) (layouts : List Layout) (v : View) (t
 abbrev pub number_inside : List ℕ → Option ℕ → Option ℕ
 number_inside numbers None = None
 number_inside numbers (Some tree) = Some (if tree == catalog_tree then tree else slice_index numbers tree)
+
+-- the layouts after a rollback, which restores them unless the store is shut
+abbrev pub GoBack : List Layout → List Layout → List Layout → View → Type 0
+GoBack layouts before new v = ((new ≡ layouts) ⊎ (new ≡ before)) × (IsClean v → new ≡ (if v.is_broken then layouts else before))

@@ -4,12 +4,20 @@ use Rattle.std.proofs.Math.Path.{fun_ext}
 use Rattle.std.proofs.lemmas.Bool.{cases_eq, cases_Bool}
 use Rattle.std.proofs.lemmas.Bool.Decides.{nat_tests}
 use Rattle.std.proofs.lemmas.Int.{ints}
-use Rattle.station_files.specs.Common.{AllByRecursion, Int, Row, column, value_cmp, listed_once, catalog_tree, version_tree, number_in, row_for, set_at, shape_code, IsListed, Trees, no_trees, rowid, has_rowid, View, IsClean, IsOrdered, IsShaped, Shape, Absent, Table}
+use Rattle.sqlite_trees.specs.Listing.{listed_once}
+use Rattle.sqlite_trees.specs.Objects.{catalog_tree, version_tree, number_in, row_for, set_at, shape_code, IsListed}
+use Rattle.sqlite_trees.specs.Tree.{Trees, no_trees, rowid, has_rowid}
+use Rattle.sqlite_trees.specs.View.{View, IsClean, IsOrdered, IsShaped}
+use Rattle.sqlite_trees.specs.declared.store.Shape.{Shape}
+use Rattle.sqlite_trees.specs.declared.store.Shape.TheVariants.{Absent, Table}
+use Rattle.sqlite_value.specs.Order.{Row, column, value_cmp}
+use Rattle.sqlite_value.specs.declared.value.Value.TheVariants.{Int}
+use Rattle.std.specs.List.{AllByRecursion}
 use Rattle.sqlite_value.proofs.OrderLemmas.{value_cmp-Int}
 use Rattle.sqlite_trees.proofs.Doubt.{no_doubt}
-use Rattle.station_files.specs.Own.{own_trees, own_shapes, own_reals, reals_by, renumbered, rows_from, shapes_by, shown_row, AreLaidOut, AreLow, IsShown}
-use Rattle.station_files.specs.declared.layout.Layout.{Layout}
-use Rattle.station_files.specs.OwnRows.{found_own, found_none}
+use Rattle.shown_trees.specs.Shown.{own_trees, own_shapes, own_reals, reals_by, renumbered, rows_from, shapes_by, shown_row, AreLaidOut, AreLow, IsShown}
+use Rattle.shown_trees.specs.declared.layout.Layout.{Layout}
+use Rattle.shown_trees.proofs.Rows.{found_own, found_none}
 
 -- past the numbers of the trees that are shown
 pub record IsPastAll (numbers : List ℕ) (t : ℕ) : Type 0 where
@@ -157,7 +165,3 @@ module _ {numbers : List ℕ} {layouts before : List Layout} {makes : Bool} {v :
   view_unaltered same = listed_once _ _ _ _ _ view_listed
       (subst (λ rows. IsListed rows (shapes_by before) (reals_by before)) (sym same)
       (listed_as v.committed v.committed_shape v.committed_reals before (inside.listed clean is_open) (inside.kept clean)))
-
--- the layouts after a rollback, which restores them unless the store is shut
-abbrev pub GoBack : List Layout → List Layout → List Layout → View → Type 0
-GoBack layouts before new v = ((new ≡ layouts) ⊎ (new ≡ before)) × (IsClean v → new ≡ (if v.is_broken then layouts else before))

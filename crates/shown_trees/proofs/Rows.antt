@@ -1,9 +1,10 @@
 -- The rows that list the trees with some numbers, one tree at a time.
 use Rattle.std.proofs.Common.{◌≡◌, ◌≢◌, ◌<◌, ◌≤◌, ℕ, ◌+◌, ◌∙◌, zero, suc, pos, List, [], ◌∷◌, ◌++◌, length, find, get_or, option_map, Option, None, Some, inl, inr, refl, arith, le-ltb, lt-ltb, ltb, ltb-false}
 use Rattle.std.proofs.lemmas.Bool.{cases_Bool}
-use Rattle.station_files.specs.Common.{Row, has_rowid}
+use Rattle.sqlite_trees.specs.Tree.{has_rowid}
+use Rattle.sqlite_value.specs.Order.{Row}
 use Rattle.sqlite_value.proofs.OrderLemmas.{value_cmp-Int}
-use Rattle.station_files.specs.Own.{renumbered, rows_from, shown_row}
+use Rattle.shown_trees.specs.Shown.{renumbered, rows_from, shown_row}
 
 -- the row of another tree is passed over
 passed : (from id : ℕ) (shown : Option Row) (rows : List Row) → from + 1 ≢ id → find (has_rowid (pos id)) (shown_row from shown ++ rows) ≡ find (has_rowid (pos id)) rows
