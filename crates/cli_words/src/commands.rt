@@ -70,47 +70,37 @@ const REPORT: [Word; 8] = [
     AS_JSON,
 ];
 
+const TAKE: [Word; 1] = [Word("FILE", Given::Repeatedly, help::FILES)];
+
+const READ: [Word; 1] = [Word("FILE", Given::Always, help::READ_FILE)];
+
+const OUTBOX: [Word; 2] = [
+    Word("after", Given::Option("N"), help::MESSAGES_AFTER),
+    AS_JSON,
+];
+
+const KEPT: [Word; 2] = [Word("KEY", Given::Always, help::KEPT_KEY), AS_JSON];
+
+const SERVE: [Word; 2] = [
+    Word("port", Given::NeededOption("N"), help::PORT),
+    Word("count", Given::Option("K"), help::COUNT),
+];
+
 /// The commands, in the order of the help.
 pub(crate) const COMMANDS: [CommandWords; 15] = [
     CommandWords("init", help::INIT, Takes::Words(&[])),
     CommandWords("migrate", help::MIGRATE, Takes::Words(&[])),
     CommandWords("stock", help::STOCK, Takes::Words(&[])),
-    CommandWords(
-        "take",
-        help::TAKE,
-        Takes::Words(&[Word("FILE", Given::Repeatedly, help::FILES)]),
-    ),
-    CommandWords(
-        "read",
-        help::READ,
-        Takes::Words(&[Word("FILE", Given::Always, help::READ_FILE)]),
-    ),
+    CommandWords("take", help::TAKE, Takes::Words(&TAKE)),
+    CommandWords("read", help::READ, Takes::Words(&READ)),
     CommandWords("act", help::ACT, Takes::Verb),
     CommandWords("acts", help::ACTS, Takes::Words(&[])),
-    CommandWords(
-        "outbox",
-        help::OUTBOX,
-        Takes::Words(&[
-            Word("after", Given::Option("N"), help::MESSAGES_AFTER),
-            AS_JSON,
-        ]),
-    ),
+    CommandWords("outbox", help::OUTBOX, Takes::Words(&OUTBOX)),
     CommandWords("report", help::REPORT, Takes::Words(&REPORT)),
     CommandWords("station", help::GLANCE, Takes::Words(&[AS_JSON])),
     CommandWords("waybill", help::WAYBILL, Takes::Words(&LOOK_UP)),
     CommandWords("holder", help::HOLDER, Takes::Words(&LOOK_UP)),
     CommandWords("history", help::HISTORY, Takes::Words(&LOOK_UP)),
-    CommandWords(
-        "key",
-        help::KEPT,
-        Takes::Words(&[Word("KEY", Given::Always, help::KEPT_KEY), AS_JSON]),
-    ),
-    CommandWords(
-        "serve",
-        help::SERVE,
-        Takes::Words(&[
-            Word("port", Given::NeededOption("N"), help::PORT),
-            Word("count", Given::Option("K"), help::COUNT),
-        ]),
-    ),
+    CommandWords("key", help::KEPT, Takes::Words(&KEPT)),
+    CommandWords("serve", help::SERVE, Takes::Words(&SERVE)),
 ];

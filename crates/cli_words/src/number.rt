@@ -28,8 +28,5 @@ pub(crate) fn read_count(text: &str) -> Option<u32>
 pub(crate) fn read_row(text: &str) -> Option<u32>
     ensures { IfSome result (IsNumber 32 text.now) }
 {
-    match text.parse::<u32>() {
-        Ok(number) => Some(number),
-        Err(_) => None,
-    }
+    text.parse::<u32>().ok()
 }

@@ -2,7 +2,7 @@
 ghost use Rattle.std.specs.Prelude.{◌≡◌, IfOk, IfSome};
 ghost use Rattle.cli_words.specs.Listed.{form_of, HasAgent, HasPart, HasManifest, IsAfter, IsFlightDay, IsLast, IsListed, IsOpen, IsOfWaybill};
 
-use crate::fault::BadValue;
+use crate::fault::{BadValue, ROW};
 use crate::number::read_row;
 use crate::read::read_number;
 use crate::words::ReportWords;
@@ -35,10 +35,9 @@ fn agent_part<'a>(report: Report, name: &'a str, code: &'a str) -> Result<Listin
     if report != Report::Stock {
         return Err(BadValue::Part(name));
     }
-    match AgentCode::read(code.as_bytes()) {
-        Some(code) => Ok(Listing::AgentStock(code)),
-        None => Err(BadValue::Agent(code)),
-    }
+    let expected = "expected a code: 1 to 11 upper-case letters or digits";
+    let bad = BadValue::Invalid("--agent", code, expected);
+    Ok(Listing::AgentStock(AgentCode::read(code.as_bytes()).ok_or(bad)?))
 }
 
 fn waybill_part<'a>(report: Report, name: &'a str, word: &'a str) -> Result<Listing, BadValue<'a>>
@@ -57,9 +56,7 @@ fn waybill_part<'a>(report: Report, name: &'a str, word: &'a str) -> Result<List
 fn later_part<'a>(report: Report, name: &'a str, word: &'a str) -> Result<Listing, BadValue<'a>>
     ensures { IfOk result (IsAfter report word.entry.now) }
 {
-    let Some(number) = read_row(word) else {
-        return Err(BadValue::After(word));
-    };
+    let number = read_row(word).ok_or(BadValue::Invalid("--after", word, ROW))?;
     match report {
         Report::Movements => Ok(Listing::MovementsAfter(number)),
         Report::Trail => Ok(Listing::TrailAfter(number)),
@@ -71,9 +68,7 @@ fn later_part<'a>(report: Report, name: &'a str, word: &'a str) -> Result<Listin
 fn last_part<'a>(report: Report, name: &'a str, word: &'a str) -> Result<Listing, BadValue<'a>>
     ensures { IfOk result (IsLast report word.entry.now) }
 {
-    let Some(number) = read_row(word) else {
-        return Err(BadValue::Last(word));
-    };
+    let number = read_row(word).ok_or(BadValue::Invalid("--last", word, ROW))?;
     match report {
         Report::Movements => Ok(Listing::MovementsLast(number)),
         Report::Trail => Ok(Listing::TrailLast(number)),
@@ -93,10 +88,9 @@ fn read_part<'a>(report: Report, words: ReportWords<'a>) -> Result<Listing, BadV
         words.last,
     ) {
         (None, false, None, None, None, None) => Ok(Listing::All(report)),
-        (None, true, None, None, None, None) => match open_part(report) {
-            Some(listing) => Ok(listing),
-            None => Err(BadValue::Part(words.name)),
-        },
+        (None, true, None, None, None, None) => {
+            open_part(report).ok_or(BadValue::Part(words.name))
+        }
         (None, false, Some(code), None, None, None) => agent_part(report, words.name, code),
         (None, false, None, Some(number), None, None) => waybill_part(report, words.name, number),
         (None, false, None, None, Some(number), None) => later_part(report, words.name, number),
@@ -125,10 +119,11 @@ fn read_manifest<'a>(words: ReportWords<'a>) -> Result<Listing, BadValue<'a>>
         words.after,
         words.last,
     ) {
-        (Some(text), false, None, None, None, None) => match read_flight(text) {
-            Some(flight) => Ok(Listing::Manifest(flight)),
-            None => Err(BadValue::Flight(text)),
-        },
+        (Some(text), false, None, None, None, None) => {
+            let expected = "expected a flight, a slash and its day, such as LH400/2026-01-12";
+            let bad = BadValue::Invalid("FLIGHT", text, expected);
+            Ok(Listing::Manifest(read_flight(text).ok_or(bad)?))
+        }
         (None, _, _, _, _, _) => Err(BadValue::Manifest),
         _ => Err(BadValue::Part(words.name)),
     }
@@ -141,8 +136,6 @@ pub(crate) fn read_listing<'a>(words: ReportWords<'a>) -> Result<Listing, BadVal
     if words.name.as_bytes() == b"manifest".as_slice() {
         return read_manifest(words);
     }
-    match Report::read(words.name.as_bytes()) {
-        Some(report) => read_part(report, words),
-        None => Err(BadValue::ReportName(words.name)),
-    }
+    let report = Report::read(words.name.as_bytes()).ok_or(BadValue::ReportName(words.name))?;
+    read_part(report, words)
 }

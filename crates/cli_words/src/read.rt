@@ -3,7 +3,7 @@ ghost use Rattle.std.specs.Prelude.{◌≡◌, true, false, IfOk, Ok, IsSome, op
 ghost use Rattle.awb_number.specs.Number.{number_of};
 ghost use Rattle.cli_words.specs.Line.{has_own, is_asked, IsAt, IsCalled, IsLine, IsMeant, IsStation, Means, rule_of};
 
-use crate::fault::{BadValue, WordsFault, value_fault};
+use crate::fault::{BadValue, KEY, ROW, WordsFault, value_fault};
 use crate::line::{Line, LineCommand};
 use crate::number::{read_count, read_port, read_row};
 use crate::part::{form_of, read_listing};
@@ -20,23 +20,17 @@ use std::convert::AsStr;
 fn read_act<'a>(word: &'a str, key: &'a str) -> Result<LineCommand<'a>, BadValue<'a>>
     ensures { IfOk result (Means (Request.Act word.entry key.entry)) }
 {
-    let Some(verb) = Verb::read(word.as_bytes()) else {
-        return Err(BadValue::Verb(word));
-    };
-    match Key::read(key.as_bytes()) {
-        Some(key) => Ok(LineCommand::Act { verb, key }),
-        None => Err(BadValue::Key(key)),
-    }
+    let verb = Verb::read(word.as_bytes()).ok_or(BadValue::Verb(word))?;
+    let key = Key::read(key.as_bytes()).ok_or(BadValue::Key(key))?;
+    Ok(LineCommand::Act { verb, key })
 }
 
 /// Returns the command that was accepted under a key.
 fn read_kept<'a>(key: &'a str, json: bool) -> Result<LineCommand<'a>, BadValue<'a>>
     ensures { IfOk result (Means (Request.Key key.entry json)) }
 {
-    match Key::read(key.as_bytes()) {
-        Some(key) => Ok(LineCommand::Report(Listing::Kept(key), form_of(json))),
-        None => Err(BadValue::KeptKey(key)),
-    }
+    let key = Key::read(key.as_bytes()).ok_or(BadValue::Invalid("KEY", key, KEY))?;
+    Ok(LineCommand::Report(Listing::Kept(key), form_of(json)))
 }
 
 fn number_of(text: &str) -> Result<Awb, AwbFault>
@@ -51,11 +45,15 @@ fn number_of(text: &str) -> Result<Awb, AwbFault>
 pub(crate) fn read_number<'a>(word: &'a str) -> Result<Awb, BadValue<'a>>
     ensures { IfOk result (λ w. number_of word.entry.now ≡ Ok w) }
 {
-    match number_of(word) {
-        Ok(number) => Ok(number),
-        Err(AwbFault::Shape) => Err(BadValue::Number(word)),
-        Err(AwbFault::Check) => Err(BadValue::CheckDigit(word)),
-    }
+    let expected = match number_of(word) {
+        Ok(number) => return Ok(number),
+        Err(AwbFault::Shape) => {
+            "expected three digits, a hyphen, seven digits and their check digit, such as \
+            020-12345675"
+        }
+        Err(AwbFault::Check) => "wrong check digit, expected the seven digits before it modulo 7",
+    };
+    Err(BadValue::Invalid("AWB", word, expected))
 }
 
 /// Returns the service at a port, for a number of connections.
@@ -63,22 +61,14 @@ fn read_serve<'a>(port: &'a str, count: Option<&'a str>) -> Result<LineCommand<'
     ensures means { IfOk result (Means (Request.Serve port.entry count.entry)) }
     ensures least { IfOk result (λ command. IsCalled command ⊥ ⊥) }
 {
-    let Some(number) = read_port(port) else {
-        return Err(BadValue::Port(port));
-    };
+    let bad = BadValue::Invalid("--port", port, "expected a number from 1 to 65535");
+    let port = read_port(port).ok_or(bad)?;
     let Some(count) = count else {
-        return Ok(LineCommand::Serve {
-            port: number,
-            count: None,
-        });
+        return Ok(LineCommand::Serve { port, count: None });
     };
-    match read_count(count) {
-        Some(count) => Ok(LineCommand::Serve {
-            port: number,
-            count: Some(count),
-        }),
-        None => Err(BadValue::Count(count)),
-    }
+    let bad = BadValue::Invalid("--count", count, "expected a number from 1 to 4294967295");
+    let count = Some(read_count(count).ok_or(bad)?);
+    Ok(LineCommand::Serve { port, count })
 }
 
 /// Returns the unconfirmed messages: all, or those after a number.
@@ -89,13 +79,8 @@ fn read_outbox<'a>(after: Option<&'a str>, json: bool) -> Result<LineCommand<'a>
     let Some(after) = after else {
         return Ok(LineCommand::Outbox(form_of(json)));
     };
-    match read_row(after) {
-        Some(number) => {
-            let listing = Listing::PendingAfter(number);
-            Ok(LineCommand::Report(listing, form_of(json)))
-        }
-        None => Err(BadValue::After(after)),
-    }
+    let number = read_row(after).ok_or(BadValue::Invalid("--after", after, ROW))?;
+    Ok(LineCommand::Report(Listing::PendingAfter(number), form_of(json)))
 }
 
 fn read_command<'a>(
@@ -109,28 +94,27 @@ fn read_command<'a>(
 {
     match request {
         Request::Init if has_file && has_airport => Ok(LineCommand::Init),
-        Request::Init => Err(BadValue::Init),
+        Request::Init => Err(BadValue::Lacks("init needs --db FILE and --station AAA before it")),
         Request::Migrate if has_file => Ok(LineCommand::Migrate),
-        Request::Migrate => Err(BadValue::Migrate),
+        Request::Migrate => Err(BadValue::Lacks("migrate needs --db FILE before it")),
         Request::Stock => Ok(LineCommand::Stock),
         Request::Take(files) => Ok(LineCommand::Take(files)),
-        Request::Act { verb, key } => read_act(verb, key),
+        Request::Act(verb, key) => read_act(verb, key),
         Request::Acts => Ok(LineCommand::Acts),
         Request::Read(file) => Ok(LineCommand::Read(file)),
-        Request::Outbox { after, json } => read_outbox(after, json),
+        Request::Outbox(after, json) => read_outbox(after, json),
         Request::Report(words) => {
             let listing = read_listing(words)?;
             Ok(LineCommand::Report(listing, form_of(words.json)))
         }
-        Request::Station { json } => {
-            let listing = Listing::All(Report::Station);
-            Ok(LineCommand::Report(listing, form_of(json)))
+        Request::Station(json) => {
+            Ok(LineCommand::Report(Listing::All(Report::Station), form_of(json)))
         }
-        Request::Key { key, json } => read_kept(key, json),
+        Request::Key(key, json) => read_kept(key, json),
         Request::History(word) => Ok(LineCommand::History(read_number(word)?)),
         Request::Waybill(word) => Ok(LineCommand::Waybill(read_number(word)?)),
         Request::Holder(word) => Ok(LineCommand::Holder(read_number(word)?)),
-        Request::Serve { port, count } => read_serve(port, count),
+        Request::Serve(port, count) => read_serve(port, count),
     }
 }
 
@@ -140,10 +124,9 @@ fn read_station<'a>(station: Option<&'a str>) -> Result<Option<Airport>, BadValu
     let Some(station) = station else {
         return Ok(None);
     };
-    match Airport::read(station.as_bytes()) {
-        Some(airport) => Ok(Some(airport)),
-        None => Err(BadValue::Station(station)),
-    }
+    let expected = "expected an airport: three letters, A to Z";
+    let bad = BadValue::Invalid("--station", station, expected);
+    Ok(Some(Airport::read(station.as_bytes()).ok_or(bad)?))
 }
 
 fn read_at<'a>(at: Option<&'a str>) -> Result<Option<u16>, BadValue<'a>>
@@ -152,10 +135,8 @@ fn read_at<'a>(at: Option<&'a str>) -> Result<Option<u16>, BadValue<'a>>
     let Some(at) = at else {
         return Ok(None);
     };
-    match read_port(at) {
-        Some(port) => Ok(Some(port)),
-        None => Err(BadValue::At(at)),
-    }
+    let bad = BadValue::Invalid("--at", at, "expected a port: a number from 1 to 65535");
+    Ok(Some(read_port(at).ok_or(bad)?))
 }
 
 /// Returns whether a command can be sent to a running service. A command that needs no station can
@@ -207,7 +188,7 @@ fn read_asked<'a>(
                 Ok(command)
             }
         }
-        Err(BadValue::Init | BadValue::Migrate) if at => Err(BadValue::Beside),
+        Err(BadValue::Lacks(_)) if at => Err(BadValue::Beside),
         Err(bad) => Err(bad),
     }
 }

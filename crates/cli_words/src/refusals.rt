@@ -4,8 +4,8 @@ use crate::fault::{WordsFault, usage_fault};
 use std::alloc::{AllocError, Global};
 use std::convert::AsStr;
 
-/// A row for each refusal: its number, its meaning, its detail and what to do. The table of refusals
-/// in docs/STATION.md has the same texts.
+/// A row for each refusal: its number, its meaning, its detail and what to do. docs/STATION.md has
+/// the same texts in its table of refusals.
 const REFUSALS: &str = "\
 101 | already in stock | the lowest such number | take in the numbers before it and after it as \
     runs of their own

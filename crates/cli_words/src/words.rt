@@ -17,31 +17,22 @@ pub(crate) enum Request<'a> {
     Migrate,
     Stock,
     Take(Vec<&'a str>),
-    Act {
-        verb: &'a str,
-        key: &'a str,
-    },
+    /// A verb and a key.
+    Act(&'a str, &'a str),
     Acts,
     Read(&'a str),
-    Outbox {
-        after: Option<&'a str>,
-        json: bool,
-    },
+    /// The number of `--after`, and whether the rows are printed as JSON.
+    Outbox(Option<&'a str>, bool),
     Report(ReportWords<'a>),
-    Station {
-        json: bool,
-    },
-    Key {
-        key: &'a str,
-        json: bool,
-    },
+    /// Whether the row is printed as JSON.
+    Station(bool),
+    /// A key, and whether its row is printed as JSON.
+    Key(&'a str, bool),
     History(&'a str),
     Waybill(&'a str),
     Holder(&'a str),
-    Serve {
-        port: &'a str,
-        count: Option<&'a str>,
-    },
+    /// A port and a count of connections.
+    Serve(&'a str, Option<&'a str>),
 }
 
 /// The words of `report`: the name, the flight of a manifest, and the requested part of the report.
@@ -70,17 +61,13 @@ pub(crate) struct Words<'a> {
 /// Returns a word of a command as an argument of `clap`.
 fn arg_of<'a>(alloc: Global, word: &Word) -> Arg<'a> {
     let Word(name, given, help) = *word;
-    let arg = Arg::new(alloc, name).help(help);
+    let arg = Arg::new(alloc, name).help(help).action(ArgAction::Set);
     match given {
-        Given::Always => arg.action(ArgAction::Set).required(true),
-        Given::Repeatedly => arg.action(ArgAction::Set).required(true).num_args(1..),
-        Given::Optionally => arg.action(ArgAction::Set),
-        Given::Option(value) => arg.long(name).value_name(value).action(ArgAction::Set),
-        Given::NeededOption(value) => arg
-            .long(name)
-            .value_name(value)
-            .action(ArgAction::Set)
-            .required(true),
+        Given::Always => arg.required(true),
+        Given::Repeatedly => arg.required(true).num_args(1..),
+        Given::Optionally => arg,
+        Given::Option(value) => arg.long(name).value_name(value),
+        Given::NeededOption(value) => arg.long(name).value_name(value).required(true),
         Given::Flag => arg.long(name).action(ArgAction::SetTrue),
     }
 }
@@ -117,8 +104,7 @@ fn with_verbs<'a>(alloc: Global, command: Command<'a>) -> Result<Command<'a>, Al
         .subcommand_required(true)
         .disable_help_subcommand(true);
     for verb in VERBS {
-        let below = verb_command(alloc, verb)?;
-        command = command.subcommand(below)?;
+        command = command.subcommand(verb_command(alloc, verb)?)?;
     }
     Ok(command)
 }
@@ -139,8 +125,7 @@ fn desk<'a>(alloc: Global) -> Result<Command<'a>, AllocError> {
         .subcommand_required(true);
     let mut desk = with_words(alloc, desk, &OPTIONS)?;
     for words in COMMANDS {
-        let below = command_of(alloc, &words)?;
-        desk = desk.subcommand(below)?;
+        desk = desk.subcommand(command_of(alloc, &words)?)?;
     }
     Ok(desk)
 }
@@ -177,32 +162,18 @@ fn asked<'a>(name: &str, words: &ArgMatches<'a>) -> Option<Request<'a>> {
         "stock" => Some(Request::Stock),
         "act" => {
             let (verb, words) = words.subcommand()?;
-            Some(Request::Act {
-                verb,
-                key: words.get_str("KEY")?,
-            })
+            Some(Request::Act(verb, words.get_str("KEY")?))
         }
         "acts" => Some(Request::Acts),
         "read" => Some(Request::Read(words.get_str("FILE")?)),
-        "outbox" => Some(Request::Outbox {
-            after: words.get_str("after"),
-            json: words.get_flag("json"),
-        }),
+        "outbox" => Some(Request::Outbox(words.get_str("after"), words.get_flag("json"))),
         "report" => Some(Request::Report(report_words(words)?)),
-        "station" => Some(Request::Station {
-            json: words.get_flag("json"),
-        }),
-        "key" => Some(Request::Key {
-            key: words.get_str("KEY")?,
-            json: words.get_flag("json"),
-        }),
+        "station" => Some(Request::Station(words.get_flag("json"))),
+        "key" => Some(Request::Key(words.get_str("KEY")?, words.get_flag("json"))),
         "history" => Some(Request::History(words.get_str("AWB")?)),
         "waybill" => Some(Request::Waybill(words.get_str("AWB")?)),
         "holder" => Some(Request::Holder(words.get_str("AWB")?)),
-        "serve" => Some(Request::Serve {
-            port: words.get_str("port")?,
-            count: words.get_str("count"),
-        }),
+        "serve" => Some(Request::Serve(words.get_str("port")?, words.get_str("count"))),
         _ => None,
     }
 }
@@ -216,25 +187,23 @@ fn requested<'a>(
         return Ok(None);
     };
     if name == "take" {
-        let files = files_of(alloc, words)?;
-        return Ok(Some(Request::Take(files)));
+        return Ok(Some(Request::Take(files_of(alloc, words)?)));
     }
     Ok(asked(name, words))
 }
 
 /// Returns the words that `clap` accepted, sorted.
 fn sorted<'a>(alloc: Global, matches: &ArgMatches<'a>) -> Result<Words<'a>, WordsFault> {
-    match requested(alloc, matches) {
-        Ok(Some(request)) => Ok(Words {
-            db: matches.get_str("db"),
-            at: matches.get_str("at"),
-            station: matches.get_str("station"),
-            zone: matches.get_str("zone"),
-            request,
-        }),
-        Ok(None) => Err(WordsFault::Usage(String::new(alloc))),
-        Err(_) => Err(WordsFault::Memory),
-    }
+    let Some(request) = requested(alloc, matches)? else {
+        return Err(WordsFault::Usage(String::new(alloc)));
+    };
+    Ok(Words {
+        db: matches.get_str("db"),
+        at: matches.get_str("at"),
+        station: matches.get_str("station"),
+        zone: matches.get_str("zone"),
+        request,
+    })
 }
 
 /// Returns the message for an option after its command, which `clap` reports as an unexpected word.
@@ -251,23 +220,20 @@ fn late_option(told: &str) -> Option<&'static str> {
 }
 
 /// Returns the fault for words that `clap` refused, with its text.
-fn words_fault(alloc: Global, error: &Error) -> WordsFault {
-    if error.kind() == ErrorKind::OutOfMemory {
-        return WordsFault::Memory;
+fn words_fault(alloc: Global, error: &Error) -> Result<WordsFault, AllocError> {
+    match error.kind() {
+        ErrorKind::OutOfMemory => return Err(AllocError),
+        ErrorKind::DisplayVersion => return Ok(WordsFault::Version),
+        _ => {}
     }
-    if error.kind() == ErrorKind::DisplayVersion {
-        return WordsFault::Version;
-    }
-    let Ok(text) = format!(in alloc; "{error}") else {
-        return WordsFault::Memory;
-    };
+    let text = format!(in alloc; "{error}")?;
     if error.kind() == ErrorKind::DisplayHelp {
-        return WordsFault::Help(text);
+        return Ok(WordsFault::Help(text));
     }
-    match late_option(text.as_str()) {
+    Ok(match late_option(text.as_str()) {
         Some(told) => usage_fault(alloc, told),
         None => WordsFault::Usage(text),
-    }
+    })
 }
 
 /// Sorts the words of a call; the first is the program's name.
@@ -275,11 +241,8 @@ pub(crate) fn sort_words<'a, S: AsStr>(
     alloc: Global,
     words: &'a [S],
 ) -> Result<Words<'a>, WordsFault> {
-    let Ok(command) = desk(alloc) else {
-        return Err(WordsFault::Memory);
-    };
-    match command.try_get_matches_from(words) {
+    match desk(alloc)?.try_get_matches_from(words) {
         Ok(matches) => sorted(alloc, &matches),
-        Err(error) => Err(words_fault(alloc, &error)),
+        Err(error) => Err(words_fault(alloc, &error)?),
     }
 }
