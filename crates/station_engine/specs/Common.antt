@@ -2,7 +2,6 @@
 -- place. Declares nothing.
 pub use Rattle.std.specs.List.{filter}
 pub use Rattle.std.specs.Option.{option_map}
-pub use Rattle.agent_stock.specs.Runs.{AreStockRuns}
 pub use Rattle.agent_stock.specs.Stock.{order_refusal}
 pub use Rattle.desk_commands.specs.Command.{IsCommand, command_text}
 pub use Rattle.shipment_machine.specs.Agreement.{StaysLawful, outcome_of}
@@ -15,7 +14,6 @@ pub use Rattle.shipment_machine.specs.declared.plans.Plan.{Plan}
 pub use Rattle.shipment_machine.specs.declared.plans.Refusal.{Refusal}
 pub use Rattle.state_store.specs.Store.{Changes, Commits, MayLeave, Reads, Storing, at_rest}
 pub use Rattle.station_core.specs.Keeping.{Acts, Breaks, FindsOnly, IfWorks, Keeping, KeepsPremise, Leaves, Reopens}
-pub use Rattle.station_core.specs.Readers.{AreAnnounced, AreExpectedBy, AreFlightRows, irregular_rows, shed_rows}
 pub use Rattle.station_core.specs.Step.{IsLawfulState, State, acted, cargo_acted, has_room, kept_with, key_answer, most_rows, repeated, sent, step, stock_acted, text_answer}
 pub use Rattle.station_core.specs.Texts.{texts_in}
 pub use Rattle.station_core.specs.Told.{kept_of, on_cargo, sizes_of, with_messages, with_moves}

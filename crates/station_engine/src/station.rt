@@ -1,6 +1,5 @@
 ghost use Rattle.std.specs.Prelude.{◌≡◌, true, false, Err, Option, IfOk, IfErr};
-ghost use Rattle.station_engine.specs.Common.{AreStockRuns, Acts, Breaks, FindsOnly, IfWorks, KeepsPremise, Leaves, Reopens, AreAnnounced, AreExpectedBy, AreFlightRows, irregular_rows, shed_rows, State, IsLawfulState, at_rest};
-ghost use Rattle.station_core.specs.Keeping.{Reads};
+ghost use Rattle.station_engine.specs.Common.{Acts, Breaks, FindsOnly, IfWorks, KeepsPremise, Leaves, Reopens, State, IsLawfulState, at_rest};
 ghost use Rattle.station_engine.specs.Found.{Finds, station_over};
 
 use crate::acting::serve;
@@ -108,99 +107,6 @@ impl<S: StateStore> StoredStation<S> {
     }
 }
 
-// The common part of the readers of rows.
-impl<S: StateStore> StoredStation<S> {
-    /// Returns the maximal runs of the stock, ascending.
-    #[tactic(auto, using(crate::proofs::Reading::reads_only))]
-    fn runs(&mut self) -> Result<Vec<StockRun>, ActFault>
-        ensures { Reads ⟦<StoredStation<S> as Keeper>⟧.keeping self.old self.new result
-            (λ s rows. AreStockRuns s.cargo.holders rows.items) }
-    {
-        if self.broken {
-            return Err(ActFault::Reopen);
-        }
-        match self.store.runs() {
-            Err(_) => Err(ActFault::Store),
-            Ok(rows) => Ok(rows),
-        }
-    }
-
-    /// Returns the declared waybills of which nothing has come in, ascending.
-    #[tactic(auto, using(crate::proofs::Reading::reads_only))]
-    fn announced_rows(&mut self) -> Result<Vec<AnnouncedRow>, ActFault>
-        ensures { Reads ⟦<StoredStation<S> as Keeper>⟧.keeping self.old self.new result
-            (λ s rows. AreAnnounced s.cargo rows.items) }
-    {
-        if self.broken {
-            return Err(ActFault::Reopen);
-        }
-        match self.store.announced() {
-            Err(_) => Err(ActFault::Store),
-            Ok(rows) => Ok(rows),
-        }
-    }
-
-    /// Returns the waybills with pieces in store, ascending.
-    #[tactic(auto, using(crate::proofs::Reading::reads_only))]
-    fn shed_rows(&mut self) -> Result<Vec<ShedRow>, ActFault>
-        ensures { Reads ⟦<StoredStation<S> as Keeper>⟧.keeping self.old self.new result
-            (λ s rows. rows.items ≡ shed_rows s.cargo) }
-    {
-        if self.broken {
-            return Err(ActFault::Reopen);
-        }
-        match shed_rows(self.alloc, &mut self.store) {
-            Err(_) => Err(ActFault::Store),
-            Ok(rows) => Ok(rows),
-        }
-    }
-
-    /// Returns the noted flights with their loads.
-    #[tactic(auto, using(crate::proofs::Reading::reads_only))]
-    fn flight_rows(&mut self) -> Result<Vec<FlightRow>, ActFault>
-        ensures { Reads ⟦<StoredStation<S> as Keeper>⟧.keeping self.old self.new result
-            (λ s rows. AreFlightRows s.cargo rows.items) }
-    {
-        if self.broken {
-            return Err(ActFault::Reopen);
-        }
-        match flight_rows(self.alloc, &mut self.store) {
-            Err(_) => Err(ActFault::Store),
-            Ok(rows) => Ok(rows),
-        }
-    }
-
-    /// Returns the queried expectations, by flight and then by waybill.
-    #[tactic(auto, using(crate::proofs::Reading::reads_only))]
-    fn expected_rows(&mut self, query: &ExpectedQuery) -> Result<Vec<ExpectedRow>, ActFault>
-        ensures { Reads ⟦<StoredStation<S> as Keeper>⟧.keeping self.old self.new result
-            (λ s rows. AreExpectedBy query.now s.cargo rows.items) }
-    {
-        if self.broken {
-            return Err(ActFault::Reopen);
-        }
-        match expected_rows(self.alloc, &mut self.store, query) {
-            Err(_) => Err(ActFault::Store),
-            Ok(rows) => Ok(rows),
-        }
-    }
-
-    /// Returns the waybills with missing or found pieces, ascending.
-    #[tactic(auto, using(crate::proofs::Reading::reads_only))]
-    fn irregular_rows(&mut self) -> Result<Vec<IrregularRow>, ActFault>
-        ensures { Reads ⟦<StoredStation<S> as Keeper>⟧.keeping self.old self.new result
-            (λ s rows. rows.items ≡ irregular_rows s.cargo) }
-    {
-        if self.broken {
-            return Err(ActFault::Reopen);
-        }
-        match irregular_rows(self.alloc, &mut self.store) {
-            Err(_) => Err(ActFault::Store),
-            Ok(rows) => Ok(rows),
-        }
-    }
-}
-
 impl<S: StateStore> Keeper for StoredStation<S> {
     ghost use Rattle.station_engine.specs.Laws.{found_is};
 
@@ -219,30 +125,21 @@ impl<S: StateStore> Keeper for StoredStation<S> {
         if self.broken {
             return Err(ActFault::Reopen);
         }
-        match self.store.holder(number) {
-            Err(_) => Err(ActFault::Store),
-            Ok(holder) => Ok(holder),
-        }
+        self.store.holder(number).or(Err(ActFault::Store))
     }
 
     fn waybill(&mut self, number: &Awb) -> Result<Option<Waybill>, ActFault> {
         if self.broken {
             return Err(ActFault::Reopen);
         }
-        match waybill_in(&mut self.store, number) {
-            Err(_) => Err(ActFault::Store),
-            Ok(waybill) => Ok(waybill),
-        }
+        waybill_in(&mut self.store, number).or(Err(ActFault::Store))
     }
 
     fn kept_key(&mut self, key: &Key) -> Result<Option<KeptReply>, ActFault> {
         if self.broken {
             return Err(ActFault::Reopen);
         }
-        match self.store.kept_key(key) {
-            Err(_) => Err(ActFault::Store),
-            Ok(kept) => Ok(kept),
-        }
+        self.store.kept_key(key).or(Err(ActFault::Store))
     }
 
     fn summary(&mut self) -> Result<Summary, ActFault> {
@@ -256,42 +153,66 @@ impl<S: StateStore> Keeper for StoredStation<S> {
         })
     }
 
+    #[tactic(auto, using(crate::proofs::Reading::reads_only))]
     fn stock<K: Sink<StockRun>>(&mut self, sink: &mut K) -> Result<(), ActFault> {
-        let rows = self.runs()?;
+        if self.broken {
+            return Err(ActFault::Reopen);
+        }
+        let rows = self.store.runs().or(Err(ActFault::Store))?;
         hand_out(sink, rows);
         Ok(())
     }
 
+    #[tactic(auto, using(crate::proofs::Reading::reads_only))]
     fn announced<K: Sink<AnnouncedRow>>(&mut self, sink: &mut K) -> Result<(), ActFault> {
-        let rows = self.announced_rows()?;
+        if self.broken {
+            return Err(ActFault::Reopen);
+        }
+        let rows = self.store.announced().or(Err(ActFault::Store))?;
         hand_out(sink, rows);
         Ok(())
     }
 
+    #[tactic(auto, using(crate::proofs::Reading::reads_only))]
     fn shed<K: Sink<ShedRow>>(&mut self, sink: &mut K) -> Result<(), ActFault> {
-        let rows = self.shed_rows()?;
+        if self.broken {
+            return Err(ActFault::Reopen);
+        }
+        let rows = shed_rows(self.alloc, &mut self.store).or(Err(ActFault::Store))?;
         hand_out(sink, rows);
         Ok(())
     }
 
+    #[tactic(auto, using(crate::proofs::Reading::reads_only))]
     fn flights<K: Sink<FlightRow>>(&mut self, sink: &mut K) -> Result<(), ActFault> {
-        let rows = self.flight_rows()?;
+        if self.broken {
+            return Err(ActFault::Reopen);
+        }
+        let rows = flight_rows(self.alloc, &mut self.store).or(Err(ActFault::Store))?;
         hand_out(sink, rows);
         Ok(())
     }
 
+    #[tactic(auto, using(crate::proofs::Reading::reads_only))]
     fn expected_by<K: Sink<ExpectedRow>>(
         &mut self,
         query: &ExpectedQuery,
         sink: &mut K,
     ) -> Result<(), ActFault> {
-        let rows = self.expected_rows(query)?;
+        if self.broken {
+            return Err(ActFault::Reopen);
+        }
+        let rows = expected_rows(self.alloc, &mut self.store, query).or(Err(ActFault::Store))?;
         hand_out(sink, rows);
         Ok(())
     }
 
+    #[tactic(auto, using(crate::proofs::Reading::reads_only))]
     fn irregular<K: Sink<IrregularRow>>(&mut self, sink: &mut K) -> Result<(), ActFault> {
-        let rows = self.irregular_rows()?;
+        if self.broken {
+            return Err(ActFault::Reopen);
+        }
+        let rows = irregular_rows(self.alloc, &mut self.store).or(Err(ActFault::Store))?;
         hand_out(sink, rows);
         Ok(())
     }
@@ -305,10 +226,7 @@ impl<S: StateStore> Keeper for StoredStation<S> {
         if self.broken {
             return Err(ActFault::Reopen);
         }
-        match self.store.book_by(query, sink) {
-            Err(_) => Err(ActFault::Store),
-            Ok(()) => Ok(()),
-        }
+        self.store.book_by(query, sink).or(Err(ActFault::Store))
     }
 
     #[tactic(auto, using(crate::proofs::Reading::hands_out))]
@@ -320,10 +238,7 @@ impl<S: StateStore> Keeper for StoredStation<S> {
         if self.broken {
             return Err(ActFault::Reopen);
         }
-        match self.store.messages_by(query, sink) {
-            Err(_) => Err(ActFault::Store),
-            Ok(()) => Ok(()),
-        }
+        self.store.messages_by(query, sink).or(Err(ActFault::Store))
     }
 
     #[tactic(auto, using(crate::proofs::Reading::hands_out))]
@@ -335,9 +250,6 @@ impl<S: StateStore> Keeper for StoredStation<S> {
         if self.broken {
             return Err(ActFault::Reopen);
         }
-        match self.store.trail_by(query, sink) {
-            Err(_) => Err(ActFault::Store),
-            Ok(()) => Ok(()),
-        }
+        self.store.trail_by(query, sink).or(Err(ActFault::Store))
     }
 }
