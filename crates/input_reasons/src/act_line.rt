@@ -4,7 +4,7 @@ ghost use Rattle.input_reasons.specs.Reason.{IsReason, numbered_head};
 
 use crate::body::{json_words, value_words};
 use crate::member::{kind_words, no_text_words};
-use crate::shown::{numbered, quoted};
+use crate::shown::{expected, numbered, quoted};
 use crate::telegram::refusal_words;
 use desk_commands::Verb;
 use serde_json::Value;
@@ -16,41 +16,6 @@ pub const MOST_LINE: usize = imp_fields::MOST_BYTES + 4_096;
 
 /// The members of a command's line.
 const COMMAND: &[&str] = &["verb", "key", "body"];
-
-/// The words for a malformed line that has a telegram.
-fn telegram_words(alloc: Global, telegram: &Value) -> Result<String, AllocError> {
-    if telegram.as_str().is_some() {
-        return String::from_str(alloc, "unexpected member besides \"telegram\"");
-    }
-    no_text_words(alloc, "telegram", telegram)
-}
-
-/// The words for a missing member, or for one that no line has.
-fn members_words(alloc: Global, line: &Value) -> Result<Option<String>, AllocError> {
-    let Some(members) = line.as_object() else {
-        let kind = kind_words(alloc, line)?;
-        let words = format!(in alloc; "expected an object, found {kind}")?;
-        return Ok(Some(words));
-    };
-    for (key, _value) in members.iter() {
-        if !COMMAND.iter().any(|name| *name == key.as_str()) {
-            let key = quoted(alloc, key.as_bytes())?;
-            let words = format!(in alloc;
-                "unknown member {key}; a line has verb, key and body, or telegram"
-            )?;
-            return Ok(Some(words));
-        }
-    }
-    for name in COMMAND {
-        if line.get(*name).is_none() {
-            let words = format!(in alloc;
-                "missing member \"{name}\"; a line has verb, key and body, or telegram"
-            )?;
-            return Ok(Some(words));
-        }
-    }
-    Ok(None)
-}
 
 /// The words for a malformed line with a verb, a key and a body.
 fn command_words(
@@ -70,10 +35,8 @@ fn command_words(
         return no_text_words(alloc, "key", key);
     };
     if station_core::Key::read(key.as_bytes()).is_none() {
-        let key = quoted(alloc, key.as_bytes())?;
-        return format!(in alloc;
-            "\"key\": expected 1 to 40 printable characters without spaces, found {key}"
-        );
+        let wanted = "1 to 40 printable characters without spaces";
+        return expected(alloc, "\"key\"", wanted, key.as_bytes());
     }
     value_words(alloc, verb, body)
 }
@@ -81,10 +44,29 @@ fn command_words(
 /// The words for a malformed line that is JSON.
 fn object_words(alloc: Global, line: &Value) -> Result<String, AllocError> {
     if let Some(telegram) = line.get("telegram") {
-        return telegram_words(alloc, telegram);
+        if telegram.as_str().is_some() {
+            return String::from_str(alloc, "unexpected member besides \"telegram\"");
+        }
+        return no_text_words(alloc, "telegram", telegram);
     }
-    if let Some(words) = members_words(alloc, line)? {
-        return Ok(words);
+    let Some(members) = line.as_object() else {
+        let kind = kind_words(alloc, line)?;
+        return format!(in alloc; "expected an object, found {kind}");
+    };
+    for (key, _value) in members.iter() {
+        if !COMMAND.iter().any(|name| *name == key.as_str()) {
+            let key = quoted(alloc, key.as_bytes())?;
+            return format!(in alloc;
+                "unknown member {key}; a line has verb, key and body, or telegram"
+            );
+        }
+    }
+    for name in COMMAND {
+        if line.get(*name).is_none() {
+            return format!(in alloc;
+                "missing member \"{name}\"; a line has verb, key and body, or telegram"
+            );
+        }
     }
     match (line.get("verb"), line.get("key"), line.get("body")) {
         (Some(verb), Some(key), Some(body)) => command_words(alloc, verb, key, body),

@@ -1,7 +1,7 @@
 //! A dry run as a JSON object.
 
 ghost use Rattle.std.specs.Prelude.{◌≡◌, ◌++◌, [], IfOk, OnOk, filter_map, map, option_map, string_bytes};
-ghost use Rattle.input_reasons.specs.Common.{cons_option, IsAscii, boolean, string, compact_text};
+ghost use Rattle.input_reasons.specs.Common.{cons_option, IsAscii, string, compact_text};
 ghost use Rattle.input_reasons.specs.LookObject.{cargo_members, dropped_object, list_text, look_object, message_members, part_members, passed_object, read_object, route_members, text_members, text_object, total_value};
 
 use crate::look::Look;
@@ -73,20 +73,12 @@ fn quoted(alloc: Global, text: &str) -> Result<String, AllocError>
     json!(in alloc; text)?.to_string(alloc)
 }
 
-fn flag_text(flag: bool) -> &'static str
-    ensures { result.now ≡ compact_text (boolean flag) }
-{
-    if flag { "true" } else { "false" }
-}
-
+#[tactic(auto, using(crate::proofs::Texts::flag_is))]
 fn text_members(alloc: Global, text: &TrailLine<'_>, doubtful: bool) -> Result<String, AllocError>
     ensures { IfOk result (λ members. string_bytes members ≡ text_members text.now doubtful) }
 {
-    let (text, flag) = (
-        quoted(alloc, ascii_text(text.as_bytes()))?,
-        flag_text(doubtful),
-    );
-    format!(in alloc; "\"text\":{text},\"doubtful\":{flag}")
+    let text = quoted(alloc, ascii_text(text.as_bytes()))?;
+    format!(in alloc; "\"text\":{text},\"doubtful\":{doubtful}")
 }
 
 fn text_object(alloc: Global, line: &SeenLine<'_>) -> Result<String, AllocError>
@@ -131,17 +123,6 @@ fn dropped_object(alloc: Global, line: &DroppedLine<'_>) -> Result<String, Alloc
     format!(in alloc; "{{{members}}}")
 }
 
-fn dropped_objects(alloc: Global, lines: &[DroppedLine<'_>]) -> Result<Vec<String>, AllocError>
-    ensures { IfOk result (λ objects. map string_bytes objects.items ≡ map dropped_object
-        lines.now) }
-{
-    let mut objects = Vec::new(alloc);
-    for line in lines {
-        objects.push(dropped_object(alloc, line)?)?;
-    }
-    Ok(objects)
-}
-
 fn put_object(objects: &mut Vec<String>, object: Option<String>) -> Result<(), AllocError>
     ensures { OnOk result (map string_bytes objects.new.items
         ≡ map string_bytes objects.old.items ++ cons_option (option_map string_bytes object) []) }
@@ -150,28 +131,6 @@ fn put_object(objects: &mut Vec<String>, object: Option<String>) -> Result<(), A
         Some(object) => Ok(objects.push(object)?),
         None => Ok(()),
     }
-}
-
-fn read_objects(alloc: Global, lines: &[SeenLine<'_>]) -> Result<Vec<String>, AllocError>
-    ensures { IfOk result (λ objects. map string_bytes objects.items ≡ filter_map read_object
-        lines.now) }
-{
-    let mut objects = Vec::new(alloc);
-    for line in lines {
-        put_object(&mut objects, read_object(alloc, line)?)?;
-    }
-    Ok(objects)
-}
-
-fn passed_objects(alloc: Global, lines: &[SeenLine<'_>]) -> Result<Vec<String>, AllocError>
-    ensures { IfOk result (λ objects. map string_bytes objects.items ≡ filter_map passed_object
-        lines.now) }
-{
-    let mut objects = Vec::new(alloc);
-    for line in lines {
-        put_object(&mut objects, passed_object(alloc, line)?)?;
-    }
-    Ok(objects)
 }
 
 fn list_text(alloc: Global, objects: &[String]) -> Result<String, AllocError>
@@ -184,7 +143,10 @@ fn list_text(alloc: Global, objects: &[String]) -> Result<String, AllocError>
 fn dropped_list(alloc: Global, lines: &[DroppedLine<'_>]) -> Result<String, AllocError>
     ensures { IfOk result (λ text. string_bytes text ≡ list_text (map dropped_object lines.now)) }
 {
-    let objects = dropped_objects(alloc, lines)?;
+    let mut objects = Vec::new(alloc);
+    for line in lines {
+        objects.push(dropped_object(alloc, line)?)?;
+    }
     list_text(alloc, objects.as_slice())
 }
 
@@ -192,7 +154,10 @@ fn read_list(alloc: Global, lines: &[SeenLine<'_>]) -> Result<String, AllocError
     ensures { IfOk result (λ text. string_bytes text ≡ list_text (filter_map read_object
         lines.now)) }
 {
-    let objects = read_objects(alloc, lines)?;
+    let mut objects = Vec::new(alloc);
+    for line in lines {
+        put_object(&mut objects, read_object(alloc, line)?)?;
+    }
     list_text(alloc, objects.as_slice())
 }
 
@@ -200,7 +165,10 @@ fn passed_list(alloc: Global, lines: &[SeenLine<'_>]) -> Result<String, AllocErr
     ensures { IfOk result (λ text. string_bytes text ≡ list_text (filter_map passed_object
         lines.now)) }
 {
-    let objects = passed_objects(alloc, lines)?;
+    let mut objects = Vec::new(alloc);
+    for line in lines {
+        put_object(&mut objects, passed_object(alloc, line)?)?;
+    }
     list_text(alloc, objects.as_slice())
 }
 
@@ -224,7 +192,7 @@ pub fn look_object(alloc: Global, look: &Look<'_>) -> Result<String, AllocError>
     let dropped = dropped_list(alloc, look.dropped.as_slice())?;
     let read = read_list(alloc, look.lines.as_slice())?;
     let passed = passed_list(alloc, look.lines.as_slice())?;
-    let doubtful = flag_text(look.is_doubtful());
+    let doubtful = look.is_doubtful();
     format!(in alloc;
         "{{{message},\"dropped\":{dropped},\"read\":{read},\"passed\":{passed},\"doubtful\":{doubtful}}}"
     )

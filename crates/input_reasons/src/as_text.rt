@@ -78,19 +78,13 @@ fn line_text(alloc: Global, line: &SeenLine<'_>) -> Result<String, AllocError>
     }
 }
 
-fn dropped_text(alloc: Global, line: &DroppedLine<'_>) -> Result<String, AllocError>
-    ensures { IfOk result (λ text. string_bytes text ≡ dropped_text line.now) }
-{
-    let (doubt, text) = (doubt_text(line.doubtful), ascii_text(line.text.as_bytes()));
-    format!(in alloc; "in front{doubt}{text}\n")
-}
-
 fn dropped_texts(alloc: Global, lines: &[DroppedLine<'_>]) -> Result<String, AllocError>
     ensures { IfOk result (λ text. string_bytes text ≡ flat_map dropped_text lines.now) }
 {
     let mut text = String::new(alloc);
     for line in lines {
-        text.push_str(dropped_text(alloc, line)?.as_str())?;
+        let (doubt, line) = (doubt_text(line.doubtful), ascii_text(line.text.as_bytes()));
+        text.push_str(format!(in alloc; "in front{doubt}{line}\n")?.as_str())?;
     }
     Ok(text)
 }

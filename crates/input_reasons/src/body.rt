@@ -22,25 +22,6 @@ pub(crate) fn json_words(alloc: Global, error: &Error, place: &str) -> Result<St
     }
 }
 
-/// The words for a key that isn't a field's.
-fn unknown_words(alloc: Global, verb: Verb, key: &str) -> Result<String, AllocError> {
-    let (word, key) = (verb.word(), quoted(alloc, key.as_bytes())?);
-    let fields = fields_words(alloc, verb)?;
-    format!(in alloc; "unknown field {key}; `{word}` takes {fields}")
-}
-
-/// The words for a missing field.
-fn missing_words(alloc: Global, verb: Verb, field: Field) -> Result<String, AllocError> {
-    let (word, name) = (verb.word(), field.name());
-    let fields = fields_words(alloc, verb)?;
-    format!(in alloc; "missing field \"{name}\"; `{word}` takes {fields}")
-}
-
-/// Returns whether a key is that of a field of the verb.
-fn is_field(verb: Verb, key: &str) -> bool {
-    verb.fields().iter().any(|field| field.name() == key)
-}
-
 /// Returns whether a field may be left out of this body.
 fn may_lack(field: Field, body: &Value) -> bool {
     matches!(field, Field::FlightIfAny | Field::DateIfAny)
@@ -48,47 +29,33 @@ fn may_lack(field: Field, body: &Value) -> bool {
         && body.get("date").is_none()
 }
 
-/// The words for the first key that isn't a field's.
-fn keys_words(alloc: Global, verb: Verb, body: &Value) -> Result<Option<String>, AllocError> {
+/// Returns the first fault of a body that is JSON: its keys come first, then its values.
+pub(crate) fn value_words(alloc: Global, verb: Verb, body: &Value) -> Result<String, AllocError> {
+    let (word, fields) = (verb.word(), verb.fields());
     let Some(members) = body.as_object() else {
         let kind = kind_words(alloc, body)?;
-        let words = format!(in alloc; "expected an object, found {kind}")?;
-        return Ok(Some(words));
+        return format!(in alloc; "expected an object, found {kind}");
     };
     for (key, _value) in members.iter() {
-        if !is_field(verb, key.as_str()) {
-            return Ok(Some(unknown_words(alloc, verb, key.as_str())?));
+        if !fields.iter().any(|field| field.name() == key.as_str()) {
+            let (key, all) = (quoted(alloc, key.as_bytes())?, fields_words(alloc, verb)?);
+            return format!(in alloc; "unknown field {key}; `{word}` takes {all}");
         }
     }
-    Ok(None)
-}
-
-/// The words for the first field that is missing, or that holds something else.
-fn fields_fault(alloc: Global, verb: Verb, body: &Value) -> Result<Option<String>, AllocError> {
-    for field in verb.fields() {
-        if body.get(field.name()).is_none() && !may_lack(*field, body) {
-            return Ok(Some(missing_words(alloc, verb, *field)?));
+    for field in fields {
+        let name = field.name();
+        if body.get(name).is_none() && !may_lack(*field, body) {
+            let all = fields_words(alloc, verb)?;
+            return format!(in alloc; "missing field \"{name}\"; `{word}` takes {all}");
         }
     }
-    for field in verb.fields() {
+    for field in fields {
         if let Some(value) = body.get(field.name()) {
             if let Some(words) = member_words(alloc, *field, value)? {
-                return Ok(Some(words));
+                return Ok(words);
             }
         }
     }
-    Ok(None)
-}
-
-/// Returns the first fault of a body that is JSON: its keys come first, then its values.
-pub(crate) fn value_words(alloc: Global, verb: Verb, body: &Value) -> Result<String, AllocError> {
-    if let Some(words) = keys_words(alloc, verb, body)? {
-        return Ok(words);
-    }
-    if let Some(words) = fields_fault(alloc, verb, body)? {
-        return Ok(words);
-    }
-    let word = verb.word();
     format!(in alloc; "these fields make no `{word}`")
 }
 

@@ -73,17 +73,6 @@ fn front_lines<'a>(alloc: Global, bytes: &'a [u8]) -> Result<Vec<&'a [u8]>, Allo
     Ok(front)
 }
 
-/// Returns a line before the message line.
-fn dropped_line<'a>(text: &'a [u8]) -> DroppedLine<'a>
-    requires { IsTrue (is_line text.now) }
-    ensures { result ≡ dropped_line text.now }
-{
-    DroppedLine {
-        text: TrailLine::new(text),
-        doubtful: begins_answer(text),
-    }
-}
-
 /// Returns lines before the message line.
 fn put_dropped<'a>(alloc: Global, front: &[&'a [u8]]) -> Result<Vec<DroppedLine<'a>>, AllocError>
     requires { IsTrue (list_all (λ line. is_line line.now) front.now) }
@@ -92,7 +81,10 @@ fn put_dropped<'a>(alloc: Global, front: &[&'a [u8]]) -> Result<Vec<DroppedLine<
 {
     let mut dropped = Vec::new(alloc);
     for line in front {
-        dropped.push(dropped_line(line))?;
+        dropped.push(DroppedLine {
+            text: TrailLine::new(line),
+            doubtful: begins_answer(line),
+        })?;
     }
     Ok(dropped)
 }

@@ -31,10 +31,8 @@ fn number_words(
     value: &Value,
 ) -> Result<Option<String>, AllocError> {
     let (least, most) = range;
-    if let Some(number) = value.as_u64() {
-        if least <= number && number <= most {
-            return Ok(None);
-        }
+    if value.as_u64().is_some_and(|n| least <= n && n <= most) {
+        return Ok(None);
     }
     let (name, kind) = (field.name(), kind_words(alloc, value)?);
     let words = format!(in alloc;
@@ -51,22 +49,20 @@ fn check_digit(text: &[u8; 12]) -> Option<u8> {
 
 /// The words for a text that isn't a waybill number.
 fn awb_words(alloc: Global, text: &[u8]) -> Result<Option<String>, AllocError> {
-    if let Ok(bytes) = <[u8; 12]>::try_from(text) {
-        match Awb::read(&bytes) {
-            Ok(_) => return Ok(None),
-            Err(AwbFault::Check) => {
-                if let Some(digit) = check_digit(&bytes) {
-                    let text = cut(alloc, text)?;
-                    let words = format!(in alloc;
-                        "\"awb\": wrong check digit in {text}, expected {digit}"
-                    )?;
-                    return Ok(Some(words));
-                }
-            }
-            Err(AwbFault::Shape) => {}
+    let Ok(bytes) = <[u8; 12]>::try_from(text) else {
+        return Ok(Some(other_words(alloc, Field::Awb, text)?));
+    };
+    match (Awb::read(&bytes), check_digit(&bytes)) {
+        (Ok(_), _) => Ok(None),
+        (Err(AwbFault::Check), Some(digit)) => {
+            let text = cut(alloc, text)?;
+            let words = format!(in alloc;
+                "\"awb\": wrong check digit in {text}, expected {digit}"
+            )?;
+            Ok(Some(words))
         }
+        _ => Ok(Some(other_words(alloc, Field::Awb, text)?)),
     }
-    Ok(Some(other_words(alloc, Field::Awb, text)?))
 }
 
 /// The words for a text that its field doesn't take.
@@ -82,13 +78,8 @@ fn text_words(alloc: Global, field: Field, text: &[u8]) -> Result<Option<String>
         Field::Prefix => digits_words(alloc, "\"prefix\"", text, 3, 3),
         Field::Serial => digits_words(alloc, "\"serial\"", text, 7, 7),
         Field::Awb => awb_words(alloc, text),
-        _ => {
-            if reads(field, text) {
-                Ok(None)
-            } else {
-                Ok(Some(other_words(alloc, field, text)?))
-            }
-        }
+        _ if reads(field, text) => Ok(None),
+        _ => Ok(Some(other_words(alloc, field, text)?)),
     }
 }
 

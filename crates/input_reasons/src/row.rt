@@ -2,46 +2,16 @@
 ghost use Rattle.std.specs.Prelude.{IfOk, codes, string_bytes};
 ghost use Rattle.input_reasons.specs.Reason.{IsReason, numbered_head};
 
-use crate::shown::{cut, digits_words, numbered, quoted};
+use crate::field::wanted;
+use crate::shown::{cut, digits_words, expected, numbered, quoted};
 use agent_stock::AgentCode;
 use csv::ByteRecord;
-use desk_commands::Verb;
+use desk_commands::{Field, Verb};
 use station_core::Key;
 use std::alloc::{AllocError, Global};
 
 /// The number of fields of a row.
 const FIELDS: usize = 6;
-
-/// The words for a row with a different number of fields.
-fn count_words(alloc: Global, count: usize) -> Result<String, AllocError> {
-    format!(in alloc; "expected six fields, found {count}")
-}
-
-/// The words for a text that isn't a key.
-fn key_words(alloc: Global, key: &[u8]) -> Result<String, AllocError> {
-    let key = quoted(alloc, key)?;
-    format!(in alloc;
-        "key: expected 1 to 40 printable ASCII characters without spaces, found {key}"
-    )
-}
-
-/// The words for a text that isn't a row's verb.
-fn verb_words(alloc: Global, verb: &[u8]) -> Result<String, AllocError> {
-    let verb = quoted(alloc, verb)?;
-    format!(in alloc; "verb: expected take-in, issue, return or void, found {verb}")
-}
-
-/// The words for an agent after a verb that takes none.
-fn no_agent_words(alloc: Global, verb: &[u8], agent: &[u8]) -> Result<String, AllocError> {
-    let (verb, agent) = (cut(alloc, verb)?, quoted(alloc, agent)?);
-    format!(in alloc; "agent: `{verb}` takes no agent, found {agent}")
-}
-
-/// The words for a text that isn't an agent's code.
-fn agent_words(alloc: Global, agent: &[u8]) -> Result<String, AllocError> {
-    let agent = quoted(alloc, agent)?;
-    format!(in alloc; "agent: expected 1 to 11 upper-case letters or digits, found {agent}")
-}
 
 /// Returns whether a verb of a row takes an agent, `None` for any other word.
 fn takes_agent(verb: &[u8]) -> Option<bool> {
@@ -70,24 +40,26 @@ fn field(row: &ByteRecord, place: usize) -> &[u8] {
 
 /// Returns the first fault of a row, from the left.
 fn row_words(alloc: Global, row: &ByteRecord) -> Result<String, AllocError> {
-    let (key, verb, agent) = (field(row, 0), field(row, 1), field(row, 5));
-    if row.len() != FIELDS {
-        return count_words(alloc, row.len());
+    let (count, key, verb, agent) = (row.len(), field(row, 0), field(row, 1), field(row, 5));
+    if count != FIELDS {
+        return format!(in alloc; "expected six fields, found {count}");
     }
     if Key::read(key).is_none() {
-        return key_words(alloc, key);
+        let wanted = "1 to 40 printable ASCII characters without spaces";
+        return expected(alloc, "key", wanted, key);
     }
     let Some(takes_agent) = takes_agent(verb) else {
-        return verb_words(alloc, verb);
+        return expected(alloc, "verb", "take-in, issue, return or void", verb);
     };
     if let Some(words) = run_words(alloc, row)? {
         return Ok(words);
     }
     if !takes_agent && !agent.is_empty() {
-        return no_agent_words(alloc, verb, agent);
+        let (verb, agent) = (cut(alloc, verb)?, quoted(alloc, agent)?);
+        return format!(in alloc; "agent: `{verb}` takes no agent, found {agent}");
     }
     if takes_agent && AgentCode::read(agent).is_none() {
-        return agent_words(alloc, agent);
+        return expected(alloc, "agent", wanted(Field::Agent), agent);
     }
     String::from_str(alloc, "not a row of a stock list")
 }

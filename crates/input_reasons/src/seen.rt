@@ -1,8 +1,7 @@
 //! The lines of a message, from its message line on.
 
-ghost use Rattle.std.specs.Prelude.{◌≡◌, ◌≤◌, ◌&&◌, ◌++◌, IsTrue, IfOk, OnOk, length, map};
+ghost use Rattle.std.specs.Prelude.{◌≡◌, ◌≤◌, ◌++◌, IsTrue, IfOk, OnOk, length, map};
 ghost use Rattle.input_reasons.specs.Common.{list_all, is_line, line_texts, most_lines, is_line_token, is_cargo_line};
-ghost use Rattle.input_reasons.specs.Doubt.{is_doubtful};
 ghost use Rattle.input_reasons.specs.Look.{cargo_of, is_unread, left_behind, loaded_part, lower_lines, lower_part, manifest_part, second_part, seen_line, seen_lines};
 
 use crate::doubt::is_doubtful;
@@ -19,16 +18,6 @@ fn is_unread(part: &LinePart) -> bool
     matches!(part, LinePart::Status | LinePart::Passed)
 }
 
-fn doubtful(alloc: Global, part: &LinePart, text: &[u8]) -> Result<bool, AllocError>
-    ensures { IfOk result (λ answer. answer ≡ (is_unread part.now && is_doubtful text.now)) }
-{
-    if is_unread(part) {
-        is_doubtful(alloc, text)
-    } else {
-        Ok(false)
-    }
-}
-
 fn seen_line<'a>(
     alloc: Global,
     number: u32,
@@ -42,7 +31,7 @@ fn seen_line<'a>(
         number,
         part,
         text: TrailLine::new(text),
-        doubtful: doubtful(alloc, &part, text)?,
+        doubtful: is_unread(&part) && is_doubtful(alloc, text)?,
     })
 }
 
@@ -60,10 +49,8 @@ fn second_part(says: &Content<'_>) -> LinePart
 fn loaded_part(left: &[InboundLine]) -> LinePart
     ensures { result ≡ loaded_part left.now }
 {
-    match left.first() {
-        Some(cargo) => LinePart::Loaded(*cargo),
-        None => LinePart::Passed,
-    }
+    left.first()
+        .map_or(LinePart::Passed, |cargo| LinePart::Loaded(*cargo))
 }
 
 /// Returns whether a line begins with three digits and a hyphen, so that it is a consignment line.
@@ -105,12 +92,9 @@ fn lower_part(says: &Content<'_>, left: &[InboundLine], line: &[u8], is_last: bo
 fn left_behind<'c>(line: &[u8], left: &'c [InboundLine]) -> &'c [InboundLine]
     ensures { result.now ≡ left_behind line.now left.now }
 {
-    if !is_cargo_line(line) {
-        return left;
-    }
     match left.split_first() {
-        Some((_, behind)) => behind,
-        None => left,
+        Some((_, behind)) if is_cargo_line(line) => behind,
+        _ => left,
     }
 }
 

@@ -86,6 +86,17 @@ pub(crate) fn quoted(alloc: Global, text: &[u8]) -> Result<String, AllocError> {
     format!(in alloc; "\"{text}\"")
 }
 
+/// The words for a text at `place` that isn't the wanted one.
+pub(crate) fn expected(
+    alloc: Global,
+    place: &str,
+    wanted: &str,
+    text: &[u8],
+) -> Result<String, AllocError> {
+    let text = quoted(alloc, text)?;
+    format!(in alloc; "{place}: expected {wanted}, found {text}")
+}
+
 /// Returns the words for a text at `place`, if it isn't `least` to `most` digits.
 pub(crate) fn digits_words(
     alloc: Global,
@@ -97,11 +108,10 @@ pub(crate) fn digits_words(
     if least <= text.len() && text.len() <= most && text.iter().all(|b| b.is_ascii_digit()) {
         return Ok(None);
     }
-    let text = quoted(alloc, text)?;
-    let words = if least == most {
-        format!(in alloc; "{place}: expected {most} digits, found {text}")?
+    let wanted = if least == most {
+        format!(in alloc; "{most} digits")?
     } else {
-        format!(in alloc; "{place}: expected {least} to {most} digits, found {text}")?
+        format!(in alloc; "{least} to {most} digits")?
     };
-    Ok(Some(words))
+    Ok(Some(expected(alloc, place, wanted.as_str(), text)?))
 }

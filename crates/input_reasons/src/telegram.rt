@@ -40,21 +40,17 @@ fn fault_words(why: Why) -> &'static str {
     }
 }
 
-/// The words of a fault of a line: which line it is, and what is wrong there.
-fn line_words(alloc: Global, line: u16, why: Why) -> Result<String, AllocError> {
+/// The words of a refusal of a telegram that can't be read: which line it is, and what is wrong
+/// there.
+pub(crate) fn refusal_words(alloc: Global, refusal: &Refusal) -> Result<String, AllocError> {
+    let Detail::Line { line, why } = refusal.detail else {
+        return String::from_str(alloc, fault_words(Why::Kind));
+    };
     let words = fault_words(why);
     match why {
         Why::Size | Why::Lines | Why::Kind | Why::Memory => String::from_str(alloc, words),
         Why::Byte | Why::Long => format!(in alloc; "line {line} of the file: {words}"),
         _ => format!(in alloc; "line {line} of the message: {words}"),
-    }
-}
-
-/// The words of a refusal of a telegram that can't be read.
-pub(crate) fn refusal_words(alloc: Global, refusal: &Refusal) -> Result<String, AllocError> {
-    match refusal.detail {
-        Detail::Line { line, why } => line_words(alloc, line, why),
-        _ => String::from_str(alloc, fault_words(Why::Kind)),
     }
 }
 

@@ -1,6 +1,6 @@
 use Rattle.input_reasons.proofs.Common.{[], ap, cons_option, read_object, sym, ◌++◌, ◌∙◌}
 use Rattle.input_reasons.proofs.Texts.{filter_more}
-use Rattle.input_reasons.proofs.as_object.read_objects.Goals as goal
+use Rattle.input_reasons.proofs.as_object.read_list.Goals as goal
 
 pub loop-line-preserved : goal.loop-line-preserved
 loop-line-preserved c =
