@@ -1,5 +1,5 @@
 -- The part of a store that is shown, if it has trees of other programs besides those of a list.
-use Rattle.std.specs.Prelude.{◌≡◌, ◌<◌, ℕ, ◌+◌, ◌==◌, pos, true, if◌then◌else◌, IsTrue, Bool, List, [], ◌∷◌, ◌++◌, length, map, find, nat_lt, slice_index, slice_index_or, Option, Some, None}
+use Rattle.std.specs.Prelude.{◌≡◌, ◌⊎◌, ◌<◌, ℕ, ◌+◌, ◌==◌, pos, true, if◌then◌else◌, IsTrue, Bool, List, [], ◌∷◌, ◌++◌, length, map, find, nat_lt, slice_index, slice_index_or, Option, Some, None}
 use Rattle.sqlite_trees.specs.Objects.{catalog_tree, version_tree, number_in, set_at, IsListed}
 use Rattle.sqlite_trees.specs.Tree.{Trees, has_rowid}
 use Rattle.sqlite_trees.specs.View.{Snapshot, View, IsClean}
