@@ -94,10 +94,8 @@ fn send_request<O: ByteOut>(writer: &mut O, request: &[u8]) -> Result<(), AskFau
 fn read_whole<I: ByteIn>(alloc: Global, reader: &mut I, most: usize) -> Result<Response, AskFault>
     ensures { HasRead (Until.End most) (I.given reader.old) (I.given reader.new) result }
 {
-    match read_all(alloc, reader, most) {
-        Ok(bytes) => understood(bytes, most),
-        Err(fault) => Err(fault),
-    }
+    let bytes = read_all(alloc, reader, most)?;
+    understood(bytes, most)
 }
 
 /// Reads an answer until printable rows were received, or else to the end of its connection.
@@ -145,10 +143,7 @@ fn ask_one<I: ByteIn, O: ByteOut>(
     ensures { HasAsked until request.now (O.taken writer.old) (O.taken writer.new)
         (I.given reader.old) (I.given reader.new) result }
 {
-    match send_request(writer, request) {
-        Ok(()) => {}
-        Err(fault) => return Err(fault),
-    }
+    send_request(writer, request)?;
     read_until(alloc, reader, until)
 }
 
@@ -183,26 +178,20 @@ fn last_of(ended: &Result<Response, AskFault>) -> LastTry
 #[tactic(auto, using(crate::proofs::Asking::timed))]
 fn ask_over_new<C: Connect, I: ByteIn, O: ByteOut>(
     alloc: Global,
-    service: &mut RemoteDesk<C, I, O>,
+    desk: &mut RemoteDesk<C, I, O>,
     request: &[u8],
     until: Until,
 ) -> Result<Response, AskFault>
     ensures { IsRefusedOrTalked until request.now
-        (talk C.tried C.opened I.given O.taken service.old)
-        (talk C.tried C.opened I.given O.taken service.new) result }
+        (talk C.tried C.opened I.given O.taken desk.old)
+        (talk C.tried C.opened I.given O.taken desk.new) result }
 {
-    if !service.connections.connect() {
+    if !desk.connections.connect() {
         return Err(AskFault::Refused);
     }
-    match ask_one(
-        alloc,
-        &mut service.reader,
-        &mut service.writer,
-        request,
-        until,
-    ) {
+    match ask_one(alloc, &mut desk.reader, &mut desk.writer, request, until) {
         Ok(answer) => Ok(answer),
-        Err(fault) => Err(fault.by_time(service.connections.is_late())),
+        Err(fault) => Err(fault.by_time(desk.connections.is_late())),
     }
 }
 

@@ -60,19 +60,16 @@ fn told_line(alloc: Global, status: u16, value: &Value) -> Result<Option<String>
         let Some(count) = count_told(value) else {
             return Ok(None);
         };
-        let line = ok_line(alloc, count)?;
-        return Ok(Some(line));
+        return Ok(Some(ok_line(alloc, count)?));
     }
     let Some((number, detail)) = refusal_told(value) else {
         return Ok(None);
     };
     if status == 409 || (status == 400 && (number == 301 || number == 302)) {
-        let line = refused_line(alloc, number, detail)?;
-        return Ok(Some(line));
+        return Ok(Some(refused_line(alloc, number, detail)?));
     }
     if status == 400 && number == 400 && detail == "body" {
-        let line = format!(in alloc; "body bad")?;
-        return Ok(Some(line));
+        return Ok(Some(format!(in alloc; "body bad")?));
     }
     Ok(None)
 }
@@ -81,20 +78,13 @@ fn told_line(alloc: Global, status: u16, value: &Value) -> Result<Option<String>
 pub fn content_of(alloc: Global, status: u16, body: &[u8]) -> Result<Content, AllocError>
     ensures { IfOk result (HasContent status body.now) }
 {
+    let good = status == 200;
     match Value::from_slice(alloc, body) {
         Ok(value) => match told_line(alloc, status, &value)? {
-            Some(text) => Ok(Content::Line {
-                good: status == 200,
-                text,
-            }),
+            Some(text) => Ok(Content::Line { good, text }),
             None => Ok(Content::Nothing),
         },
-        Err(e) => {
-            if e.is_memory() {
-                Err(AllocError)
-            } else {
-                Ok(Content::Nothing)
-            }
-        }
+        Err(e) if e.is_memory() => Err(AllocError),
+        Err(_) => Ok(Content::Nothing),
     }
 }

@@ -10,14 +10,8 @@ fn before_digits(text: &[u8]) -> &[u8]
     ensures within { length result.now ≤ length text.entry.now }
 {
     match text.split_last() {
-        Some((last, front)) => {
-            if last.is_ascii_digit() {
-                before_digits(front)
-            } else {
-                text
-            }
-        }
-        None => text,
+        Some((last, front)) if last.is_ascii_digit() => before_digits(front),
+        _ => text,
     }
 }
 

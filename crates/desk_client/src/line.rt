@@ -32,10 +32,7 @@ impl Response {
     pub(crate) fn body(&self) -> &[u8]
         ensures { result.now ≡ body_of self.now }
     {
-        match self.bytes.as_slice().get(self.start..) {
-            Some(body) => body,
-            None => &[],
-        }
+        self.bytes.as_slice().get(self.start..).unwrap_or(&[])
     }
 }
 
@@ -90,15 +87,11 @@ fn tell_late<E: ByteOut>(
         line: 2,
         why: Why::Date,
     };
-    tell_refusal(
-        alloc,
-        errors,
-        number,
-        &Refusal {
-            number: 301,
-            detail,
-        },
-    );
+    let refusal = Refusal {
+        number: 301,
+        detail,
+    };
+    tell_refusal(alloc, errors, number, &refusal);
 }
 
 /// Sends an input to the service, writes the line of its answer, and the reason if a telegram can't

@@ -104,16 +104,8 @@ fn answer_value<S: Ask, W: ByteOut, E: ByteOut>(
     let Ok(posted) = line_posted(alloc, value) else {
         return Err(RunFault::Memory);
     };
-    let question = question_of(&posted);
-    answer_asked(
-        alloc,
-        service,
-        output,
-        errors,
-        Some(number),
-        &asked,
-        &question,
-    )
+    let query = question_of(&posted);
+    answer_asked(alloc, service, output, errors, Some(number), &asked, &query)
 }
 
 /// Answers a line, and writes the reason if it can't be read.

@@ -1,7 +1,7 @@
 //! Look-ups of numbers, and histories of waybills.
 ghost use Rattle.std.specs.Prelude.{◌≡◌, ◌++◌, []};
 ghost use Rattle.desk_client.specs.Common.{list_all, is_printable};
-ghost use Rattle.desk_client.specs.Looks.{has_found, has_object_front, history_look, is_history_of, is_object_of, is_text_byte, is_unknown, object_look, shown, HasLooked, HasShownFound, HasShownUnknown};
+ghost use Rattle.desk_client.specs.Looks.{has_found, has_object_front, history_look, is_text_byte, is_unknown, object_look, shown, HasLooked, HasShownFound, HasShownUnknown};
 ghost use Rattle.desk_client.specs.Request.{get_request, history_path, most_of, most_row_bytes, request_of};
 
 use crate::ask::{Ask, Response};
@@ -48,28 +48,18 @@ fn are_lines(text: &[u8]) -> bool
         .all(|b| (32 <= *b && *b <= 126) || *b == b'\n' || *b == b'\r')
 }
 
-fn is_object_of(number: &Awb, text: &[u8]) -> bool
-    ensures { result ≡ is_object_of number.now text.now }
-{
-    has_object_front(number, text) && are_printable(text)
-}
-
-fn is_history_of(number: &Awb, text: &[u8]) -> bool
-    ensures { result ≡ is_history_of number.now text.now }
-{
-    has_object_front(number, text) && are_lines(text)
-}
-
 fn has_object(number: &Awb, answer: &Response) -> bool
     ensures { result ≡ has_found (object_look number.now) answer.now }
 {
-    answer.status == 200 && is_object_of(number, answer.body())
+    let text = answer.body();
+    answer.status == 200 && has_object_front(number, text) && are_printable(text)
 }
 
 fn has_history(number: &Awb, answer: &Response) -> bool
     ensures { result ≡ has_found (history_look number.now) answer.now }
 {
-    answer.status == 200 && is_history_of(number, answer.body())
+    let text = answer.body();
+    answer.status == 200 && has_object_front(number, text) && are_lines(text)
 }
 
 /// Writes that a number is unknown, if the answer says so.
@@ -79,10 +69,8 @@ fn show_unknown<W: ByteOut>(answer: &Response, output: &mut W) -> Result<bool, R
     if !is_unknown(answer) {
         return Err(RunFault::Store);
     }
-    match send_word(output, "", b"unknown") {
-        Ok(()) => Ok(false),
-        Err(fault) => Err(fault),
-    }
+    send_word(output, "", b"unknown")?;
+    Ok(false)
 }
 
 /// Writes the object in the answer to a look-up, or that the number is unknown.
@@ -97,10 +85,8 @@ fn show_object<W: ByteOut>(
     if !has_object(number, answer) {
         return show_unknown(answer, output);
     }
-    match send_word(output, "", answer.body()) {
-        Ok(()) => Ok(true),
-        Err(fault) => Err(fault),
-    }
+    send_word(output, "", answer.body())?;
+    Ok(true)
 }
 
 /// Writes the history in an answer, or that the waybill is unknown.
@@ -115,10 +101,8 @@ fn show_history<W: ByteOut>(
     if !has_history(number, answer) {
         return show_unknown(answer, output);
     }
-    match send_part(output, answer.body()) {
-        Ok(()) => Ok(true),
-        Err(fault) => Err(fault),
-    }
+    send_part(output, answer.body())?;
+    Ok(true)
 }
 
 /// Looks up a waybill or a number, and writes the object, or that the number is unknown.

@@ -1,5 +1,5 @@
 //! Questions to a service, and their requests.
-ghost use Rattle.std.specs.Prelude.{◌≡◌, ◌++◌, IfOk, length, string_bytes};
+ghost use Rattle.std.specs.Prelude.{◌≡◌, ◌++◌, [], IfOk, length, string_bytes};
 ghost use Rattle.desk_client.specs.Common.{rows_path};
 ghost use Rattle.desk_client.specs.Request.{command_lines, key_line, command_head, get_request, history_path, holder_path, length_line, most_of, request_of, telegram_head, waybill_path};
 
@@ -77,10 +77,14 @@ fn telegram_head(alloc: Global, len: usize) -> Result<String, AllocError>
     )
 }
 
-fn get_request(alloc: Global, path: &str) -> Result<String, AllocError>
-    ensures { IfOk result (λ text. string_bytes text ≡ get_request path.now) }
+/// Returns the request of a path, without a body.
+fn get_request(alloc: Global, path: &str) -> Result<Vec<u8>, AllocError>
+    ensures { IfOk result (λ bytes. bytes.items ≡ get_request path.now ++ []) }
 {
-    format!(in alloc; "GET {path} HTTP/1.1\r\nHost: 127.0.0.1\r\nConnection: close\r\n\r\n")
+    let head = format!(in alloc;
+        "GET {path} HTTP/1.1\r\nHost: 127.0.0.1\r\nConnection: close\r\n\r\n"
+    )?;
+    with_body(alloc, head.as_str(), &[])
 }
 
 fn waybill_path(alloc: Global, number: &Awb) -> Result<String, AllocError>
@@ -122,25 +126,12 @@ pub(crate) fn request_of(alloc: Global, question: &Question<'_>) -> Result<Vec<u
             let head = telegram_head(alloc, text.len())?;
             with_body(alloc, head.as_str(), text)
         }
-        Question::Waybill(number) => {
-            let path = waybill_path(alloc, number)?;
-            let request = get_request(alloc, path.as_str())?;
-            with_body(alloc, request.as_str(), &[])
-        }
-        Question::History(number) => {
-            let path = history_path(alloc, number)?;
-            let request = get_request(alloc, path.as_str())?;
-            with_body(alloc, request.as_str(), &[])
-        }
-        Question::Holder(number) => {
-            let path = holder_path(alloc, number)?;
-            let request = get_request(alloc, path.as_str())?;
-            with_body(alloc, request.as_str(), &[])
-        }
+        Question::Waybill(number) => get_request(alloc, waybill_path(alloc, number)?.as_str()),
+        Question::History(number) => get_request(alloc, history_path(alloc, number)?.as_str()),
+        Question::Holder(number) => get_request(alloc, holder_path(alloc, number)?.as_str()),
         Question::Rows(listing, form) => {
             let path = rows_path(alloc, listing, *form)?;
-            let request = get_request(alloc, path.as_str())?;
-            with_body(alloc, request.as_str(), &[])
+            get_request(alloc, path.as_str())
         }
     }
 }

@@ -25,10 +25,8 @@ fn show_rows<W: ByteOut>(answer: &Response, form: Form, output: &mut W) -> Resul
     {
         return Err(RunFault::Store);
     }
-    match send_part(output, answer.body()) {
-        Ok(()) => Ok(true),
-        Err(fault) => Err(fault),
-    }
+    send_part(output, answer.body())?;
+    Ok(true)
 }
 
 /// Prints a report of which a prefix was received, and the rest as it arrives.

@@ -35,17 +35,9 @@ fn answer_order<S: Ask, W: ByteOut, E: ByteOut>(
     let verb = verb_of(&order);
     let text = body.as_str();
     let bytes = text.as_bytes();
-    let question = Question::Command(verb, key, bytes);
+    let query = Question::Command(verb, key, bytes);
     let input = Input::Keyed(key, Command::Stock(order));
-    answer_input(
-        alloc,
-        service,
-        output,
-        errors,
-        Some(number),
-        &input,
-        &question,
-    )
+    answer_input(alloc, service, output, errors, Some(number), &input, &query)
 }
 
 /// Sends a row's order to the service, and writes the line of its answer. A row without an order

@@ -54,13 +54,8 @@ fn last_why(last: LastTry) -> Option<&'static str>
 {
     match last {
         LastTry::Nothing => None,
-        LastTry::Answered(status) => {
-            if status == UNAVAILABLE {
-                None
-            } else {
-                Some(FOREIGN)
-            }
-        }
+        LastTry::Answered(status) if status == UNAVAILABLE => None,
+        LastTry::Answered(_) => Some(FOREIGN),
         LastTry::Failed(fault) => fault_why(fault),
     }
 }

@@ -48,16 +48,9 @@ fn extent_by(value: &[u8], body: &[u8]) -> Extent
 {
     let len = body.len() as u64;
     match number_told(value) {
-        Some(told) => {
-            if told == len {
-                Extent::Whole
-            } else if told > len {
-                Extent::Short
-            } else {
-                Extent::Never
-            }
-        }
-        None => Extent::Never,
+        Some(told) if told == len => Extent::Whole,
+        Some(told) if told > len => Extent::Short,
+        _ => Extent::Never,
     }
 }
 
