@@ -1,6 +1,6 @@
 -- The length of an agent's code.
 use Rattle.agent_stock.proofs.Common.{Bool, IsAscii, List, arith, false, is_agent_code, length, list_all, nat_le, nat_tests, true, ℕ, ◌&&◌, ◌≡◌, ◌≤◌}
-use Rattle.awb_number.specs.Digits.{is_letter_or_digit}
+use Rattle.awb_number.specs.Number.{is_letter_or_digit}
 use Rattle.awb_number.proofs.Ascii.{IsAscii-tested, ascii-letter_or_digit}
 
 middle : (n : ℕ) (a b : Bool) → (a && nat_le n 11 && b) ≡ true → n ≤ 11

@@ -1,8 +1,7 @@
 -- The names that proofs of this crate cite, passed on from one place. Declares nothing.
-pub use Rattle.agent_stock.specs.Code.{is_agent_code}
+pub use Rattle.agent_stock.specs.Fields.{is_agent_code}
 pub use Rattle.agent_stock.specs.Plain.{holders_of}
-pub use Rattle.agent_stock.specs.Runs.{AreApart, AreRuns, AreStockRuns, GoesOn, IsMaximalRun, IsNoneFrom, IsRunRow, StandFrom, end_of, holders_by, with_run}
-pub use Rattle.agent_stock.specs.Stock.{Holders, after_order, is_among, is_run, lowest_failing, order_refusal, passes}
+pub use Rattle.agent_stock.specs.Stock.{AreApart, AreRuns, AreStockRuns, GoesOn, IsMaximalRun, IsNoneFrom, IsRunRow, StandFrom, end_of, holders_by, with_run, Holders, after_order, is_among, is_run, lowest_failing, order_refusal, passes}
 pub use Rattle.agent_stock.specs.declared.runs.StockRun.{StockRun}
 pub use Rattle.agent_stock.specs.declared.stock.Holder.{Holder}
 pub use Rattle.awb_number.specs.Number.{IsNumber, prefix_of, serial_of}

@@ -1,7 +1,3 @@
-pub mod Code
-pub mod Count
-pub mod Holder
-pub mod Plain
-pub mod Runs
+pub mod Fields
 pub mod Stock
-pub mod Refusing
+pub mod Plain

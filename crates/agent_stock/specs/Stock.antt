@@ -1,11 +1,10 @@
--- The stock of waybill numbers: a map from a number to its holder, and the effect of the four
--- orders.
-use Rattle.std.specs.Prelude.{ℕ, ◌≡◌, ◌+◌, Bool, true, false, not, ◌&&◌, nat_lt, nat_le, if◌then◌else◌, Option, Some, None}
-use Rattle.std.specs.List.{find, range_with_len}
+-- The stock of waybill numbers: its holders, orders and runs.
+use Rattle.std.specs.Prelude.{ℕ, ◌≡◌, ◌+◌, Bool, true, false, not, ◌&&◌, nat_lt, nat_le, if◌then◌else◌, Option, Some, None, List, ◌++◌, codes, ◌≢◌, ◌-◌, ◌≤◌, ◌⊎◌, IsTrue, IsSome, [], ◌∷◌, Result, Err}
+use Rattle.std.specs.List.{find, range_with_len, AllByRecursion, list_any}
 use Rattle.std.specs.Str.{bytes_eq}
-use Rattle.awb_number.specs.Number.{serial_of, serials}
+use Rattle.awb_number.specs.Number.{serial_of, serials, prefix_of}
 use Rattle.agent_stock.specs.declared.stock.Holder.{Holder}
-use Rattle.agent_stock.specs.declared.stock.Holder.TheVariants.{Desk, Agent, Void}
+use Rattle.agent_stock.specs.declared.stock.Holder.TheVariants.{Desk, Agent, Void, Used}
 use Rattle.agent_stock.specs.declared.stock.Run.{Run}
 use Rattle.agent_stock.specs.declared.stock.Test.{Test}
 use Rattle.agent_stock.specs.declared.stock.Test.TheVariants as is
@@ -13,6 +12,10 @@ use Rattle.agent_stock.specs.declared.stock.Order.{Order}
 use Rattle.agent_stock.specs.declared.stock.Order.TheVariants as order
 use Rattle.agent_stock.specs.declared.stock.StockFault.{StockFault}
 use Rattle.agent_stock.specs.declared.stock.StockFault.TheVariants as fault
+use Rattle.agent_stock.specs.declared.runs.StockRun.{StockRun}
+
+-- The stock of waybill numbers: a map from a number to its holder, and the effect of the four
+-- orders.
 
 -- the holder of each number; one that isn't in stock has none
 abbrev pub Holders : Type 0
@@ -99,3 +102,82 @@ RefusesOrder refusal before after (fault.Rows _) = Unit {0}
 abbrev pub UnlessRows : {F : Type 0} → Type 0 → StockFault F → Type 0
 UnlessRows P (fault.Refused number lowest) = P
 UnlessRows P (fault.Rows _) = Unit {0}
+
+-- Holders as texts.
+
+-- the holder of numbers, such as AGENT ACME
+abbrev pub holder_text : Holder → List ℕ
+holder_text Desk = codes "DESK"
+holder_text (Agent code) = codes "AGENT " ++ code
+holder_text Used = codes "USED"
+holder_text Void = codes "VOID"
+
+-- The runs of the stock: consecutive numbers of one holder.
+
+-- numbers of one prefix and one holder, whose neighbours have other holders
+pub record IsMaximalRun (holders : Holders) (row : StockRun) : Type 0 where
+  pub some : 1 ≤ row.count
+  pub one_prefix : serial_of row.first + row.count ≤ serials
+  pub one_holder : (q : ℕ) → IsTrue (is_among row.first row.count q) → holders q ≡ Some row.holder
+  pub none_before : (serial_of row.first ≡ 0) ⊎ (holders (row.first - 1) ≢ Some row.holder)
+  pub none_after : (serial_of row.first + row.count ≡ serials) ⊎ (holders (row.first + row.count) ≢ Some row.holder)
+
+-- each row begins after the one before it ends
+abbrev pub AreApart : List StockRun → Type 0
+AreApart [] = Unit {0}
+AreApart (row ∷ []) = Unit {0}
+AreApart (row ∷ next ∷ rows) = (row.first + row.count ≤ next.first) × AreApart (next ∷ rows)
+
+-- exactly the maximal runs of the stock, ascending
+pub record AreStockRuns (holders : Holders) (rows : List StockRun) : Type 0 where
+  pub maximal : AllByRecursion (IsMaximalRun holders) rows
+  pub rising : AreApart rows
+  pub complete : (q : ℕ) → IsSome (holders q) → IsTrue (list_any (λ row. is_among row.first row.count q) rows)
+
+-- the holder of each number by rows, each the run of one holder
+abbrev pub holders_by : List StockRun → Holders
+holders_by [] q = None
+holders_by (row ∷ rows) q = if is_among row.first row.count q then Some row.holder else holders_by rows q
+
+-- the number behind a row
+abbrev pub end_of : StockRun → ℕ
+end_of row = row.first + row.count
+
+-- a row has a number at least, and stays within its prefix
+pub record IsRunRow (row : StockRun) : Type 0 where
+  pub some : 1 ≤ row.count
+  pub one_prefix : serial_of row.first + row.count ≤ serials
+
+-- each row begins there at least, and behind the one before it
+abbrev pub StandFrom : ℕ → List StockRun → Type 0
+StandFrom low [] = Unit {0}
+StandFrom low (row ∷ rows) = (low ≤ row.first) × StandFrom (end_of row) rows
+
+-- rows that rise, and none has a number of another
+pub record AreRuns (rows : List StockRun) : Type 0 where
+  pub stand : StandFrom 0 rows
+  pub each : AllByRecursion IsRunRow rows
+
+-- the next run begins where this one ends, in its prefix and with its holder
+abbrev pub GoesOn : StockRun → StockRun → Type 0
+GoesOn row next = (prefix_of row.first ≡ prefix_of next.first) × (row.first + row.count ≡ next.first) × (row.holder ≡ next.holder)
+
+-- the stock with a run more
+abbrev pub with_run : Holders → StockRun → Holders
+with_run held row q = if is_among row.first row.count q then Some row.holder else held q
+
+-- nobody holds a number from here on
+abbrev pub IsNoneFrom : ℕ → Holders → Type 0
+IsNoneFrom from held = (q : ℕ) → from ≤ q → held q ≡ None
+
+-- Refusals of orders.
+
+-- a refusal that is returned is the one that is due
+abbrev pub RefusesBy : {F : Type 0} → Option (ℕ × Option ℕ) → StockFault F → Type 0
+RefusesBy due (fault.Refused number lowest) = due ≡ Some (number, lowest)
+RefusesBy due (fault.Rows _) = Unit {0}
+
+-- it holds if an order was refused
+abbrev pub OnRefused : {A F : Type 0} → Result A (StockFault F) → Type 0 → Type 0
+OnRefused (Err (fault.Refused number lowest)) P = P
+OnRefused _ P = Unit {0}

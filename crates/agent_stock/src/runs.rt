@@ -1,6 +1,5 @@
 ghost use Rattle.std.specs.Prelude.{◌≡◌, ◌↔◌, IsTrue, IfOk, OnOk};
-ghost use Rattle.agent_stock.specs.Stock.{Holders};
-ghost use Rattle.agent_stock.specs.Runs.{AreRuns, AreStockRuns, GoesOn, IsNoneFrom, IsRunRow, holders_by, with_run};
+ghost use Rattle.agent_stock.specs.Stock.{Holders, AreRuns, AreStockRuns, GoesOn, IsNoneFrom, IsRunRow, holders_by, with_run};
 
 use crate::stock::Holder;
 use awb_number::Awb;

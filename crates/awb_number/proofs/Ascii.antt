@@ -4,7 +4,7 @@ use Rattle.std.specs.Str.{IsAscii}
 use Rattle.std.specs.List.{list_all}
 use Rattle.std.proofs.lemmas.Bool.Decides.{nat_tests}
 use Rattle.std.proofs.lemmas.Str.Ascii.{IsAscii-nil, IsAscii-cons, IsAscii-push}
-use Rattle.awb_number.specs.Digits.{is_letter_or_digit, padded}
+use Rattle.awb_number.specs.Number.{is_letter_or_digit, padded}
 
 first : (a b : Bool) → (a && b) ≡ true → a ≡ true
 first true b h = refl

@@ -3,12 +3,11 @@ use Rattle.std.proofs.Common.{List, ℕ, Bool, Result}
 use Rattle.station_days.specs.Date.{LocalMinute}
 use Rattle.station_core.specs.Given.{Given}
 use Rattle.station_core.specs.Keeping.{Keeping}
-use Rattle.cli_run.specs.declared.fault.RunFault.{RunFault}
+use Rattle.cli_run.specs.declared.telling.RunFault.{RunFault}
 use Rattle.cli_words.specs.declared.line.LineCommand.{LineCommand}
 use Rattle.cli_words.specs.declared.line.LineCommand.TheVariants as command
-use Rattle.cli_run.specs.Done.{HasDone}
+use Rattle.cli_run.specs.Done.{HasDone, HasGivenReasons}
 use Rattle.cli_run.specs.Ends.{reached, Ends, Reached}
-use Rattle.cli_run.specs.Reasons.{HasGivenReasons}
 use Rattle.cli_call.specs.Ran.{by_printed}
 
 -- where a run has come, by what its output took

@@ -22,45 +22,36 @@ use Rattle.sqlite_trees.specs.Tree.{Trees}
 use Rattle.station_days.specs.Date.{LocalMinute}
 use Rattle.station_core.specs.declared.answer.Answer.{Answer}
 use Rattle.station_core.specs.declared.answer.ActFault.TheVariants as fault
-use Rattle.station_core.specs.declared.input.Input.{Input}
+use Rattle.station_core.specs.declared.answer.Input.{Input}
 use Rattle.station_core.specs.Keeping.{Keeping, KeepsSound}
 use Rattle.station_core.specs.Retries.{RetryEvent, World, after_events, world_after, ActsOnce}
 use Rattle.station_core.specs.Step.{State, IsLawfulState, step, after_all, opening}
 use Rattle.station_files.specs.Backing.{Backing, HasEnded, LeadsOn, LeavesKnown}
 use Rattle.station_schema.proofs.Owned.{owned, owned_old}
-use Rattle.station_schema.specs.Connection.{connection_view}
-use Rattle.station_schema.specs.Own.{IsOwn, LiesInOrder}
+use Rattle.station_schema.specs.Connection.{connection_view, IsOwn, LiesInOrder}
 use Rattle.station_schema.specs.Schema.{no_schema, old_schema, station_schema, waybill2}
-use Rattle.station_tables.specs.Attached.{connection_in, IsOldStateIn, IsStateIn, IsStateOf, IsTypedState}
+use Rattle.station_tables.specs.Attached.{connection_in, IsOldStateIn, IsStateIn, IsStateOf, IsTypedState, IsMigrated}
 use Rattle.station_tables.specs.Called.{GoesOn, HasFound, HasMade, HasMoved, HasReleased}
-use Rattle.station_tables.specs.Migrated.{IsMigrated}
 use Rattle.station_tables.specs.Lives.{Life, AreCounted, AreLives, Counts, in_order, IsAfterLife, IsAfterLives}
-use Rattle.station_tables.specs.declared.fault.AttachFault.{AttachFault}
-use Rattle.station_tables.specs.declared.fault.AttachFault.TheVariants as attach
+use Rattle.station_tables.specs.declared.attaching.AttachFault.{AttachFault}
+use Rattle.station_tables.specs.declared.attaching.AttachFault.TheVariants as attach
 use Rattle.station_tables.specs.declared.station.Station.{Station}
-use Rattle.cli_run.specs.declared.fault.RunFault.{RunFault}
+use Rattle.cli_run.specs.declared.telling.RunFault.{RunFault}
 use Rattle.table_audits.proofs.Declared.{each_lawful}
 use Rattle.table_audits.proofs.LawfulTables.{lawful_each}
-use Rattle.table_load.specs.Held.{waybill_columns, waybill_name}
-use Rattle.table_load.specs.Raw.{found, found_at, no_table, rows_of, table_by_name}
-use Rattle.table_load.specs.Reading.{Reading}
+use Rattle.table_load.specs.Held.{waybill_columns, waybill_name, found, found_at, no_table, rows_of, table_by_name, Reading}
 use Rattle.cli_words.specs.declared.line.LineCommand.{LineCommand}
 use Rattle.cli_words.specs.declared.line.LineCommand.TheVariants as command
-use Rattle.cli_run.specs.Done.{HasDone}
-use Rattle.cli_run.specs.Ends.{reached, Ends, Reached}
-use Rattle.cli_run.specs.Left.{station_fault, AsksAt, HasLeft}
-use Rattle.cli_run.specs.Place.{here_of, is_migration, is_new}
+use Rattle.cli_run.specs.Done.{HasDone, station_fault, AsksAt, HasLeft}
+use Rattle.cli_run.specs.Ends.{reached, Ends, Reached, here_of, is_migration, is_new}
 use Rattle.cli_words.specs.declared.line.Line.{Line}
-use Rattle.desk_server.specs.Asked.{store_fault, HasServedInputs}
-use Rattle.desk_server.specs.Served.{Exchange, GoesOn as ServesOn, HaveServed}
-use Rattle.cli_call.specs.declared.closing.FileEnd.{FileEnd}
+use Rattle.desk_server.specs.Served.{store_fault, HasServedInputs, Exchange, GoesOn as ServesOn, HaveServed}
+use Rattle.cli_call.specs.declared.run.FileEnd.{FileEnd}
 use Rattle.cli_call.specs.declared.ended.DeskFault.{DeskFault}
 use Rattle.cli_call.specs.declared.ended.DeskFault.TheVariants as told
-use Rattle.cli_call.specs.Service.{HasEndedService, HasServedStation}
-use Rattle.cli_call.specs.Ended.{run_ended, status_of, HasNoStation}
+use Rattle.cli_call.specs.Ran.{HasEndedService, HasServedStation, HasEndedCall, HasRunLine}
+use Rattle.cli_call.specs.Ended.{run_ended, status_of, HasNoStation, HasEndedMigration}
 use Rattle.line_opening.specs.Opened.{HasOpened}
-use Rattle.cli_call.specs.Migrated.{HasEndedMigration}
-use Rattle.cli_call.specs.Ran.{HasEndedCall, HasRunLine}
 use Rattle.cli_call.specs.OneFile.{life_events, makes_station, ran_in, with_station, after_upgrade, after_init, AreBetween, AreEventsOf, AreInputsOf, AreLivesOf, AreRuns, Begins, by_command, by_service, by_upgrade, CallOn, DidOver, FailsIn, FindsIn, HaveLed, IsAfterCalls, IsFailedInit, IsLifeOf, IsNext, IsUpgrade, IsVain, last_of, MayBegin, NoneLost, OpenedOn, Reopens, RunOn, UpgradesIn, WasTrue}
 
 abbrev Inputs : Type 0

@@ -1,12 +1,10 @@
 -- Calls of the program over one file, one after another.
 use Rattle.std.specs.Prelude.{◌≤◌, ◌≡◌, ◌≢◌, ◌⊎◌, ℕ, zero, suc, Bool, true, false, Result, Ok, Err, IfErr, OnErr, Option, Some, None, length, List, [], ◌∷◌, ◌++◌, All, Contains}
-use Rattle.cli_call.specs.Common.{AllByRecursion, state, Held, IsLive, Opens, Object, Ghosts, LocalMinute, Input, Keeping, RetryEvent, sent, cut_after, reopened, started, ActsOnce, committed, State, IsLawfulState, after_all, opening, Backing, IsVacant, IsOldOwn, IsOldStateIn, Life, IsAfterLives, AttachFault, Station, Line, Ends, Reached, AsksAt, here_of, is_migration, is_new, AreAskedBy, WasWritten}
+use Rattle.cli_call.specs.Common.{AllByRecursion, state, Held, IsLive, Opens, Object, Ghosts, LocalMinute, Input, Keeping, RetryEvent, sent, cut_after, reopened, started, ActsOnce, committed, State, IsLawfulState, after_all, opening, Backing, IsVacant, IsOldOwn, IsOldStateIn, Life, IsAfterLives, AttachFault, Station, Line, Ends, Reached, AsksAt, here_of, is_migration, is_new, AreAskedBy, WasWritten, FileEnd}
 use Rattle.station_core.specs.declared.answer.ActFault.TheVariants as fault
-use Rattle.station_tables.specs.declared.fault.AttachFault.TheVariants as attach
+use Rattle.station_tables.specs.declared.attaching.AttachFault.TheVariants as attach
 use Rattle.cli_words.specs.declared.line.LineCommand.TheVariants as command
-use Rattle.cli_call.specs.declared.closing.FileEnd.{FileEnd}
-use Rattle.cli_call.specs.Closed.{HasCalledFile}
-use Rattle.cli_call.specs.Service.{HasServedFile}
+use Rattle.cli_call.specs.Ran.{HasCalledFile, HasServedFile}
 
 module _ {S F L I W E : Type 0} {g : Ghosts S} (b : Backing (Held S) F L) (k : Keeping (Station S g)) (e : Ends I W E)
     (line : Line) (conn : Held S) (end : FileEnd F L) where

@@ -1,15 +1,19 @@
 //! The exit status of a call, and its fault line.
-ghost use Rattle.std.specs.Prelude.{◌≡◌, IfErr, OnOk};
+//! The output of `--version`.
+
+ghost use Rattle.std.specs.Prelude.{◌≡◌, IfErr, OnOk, IfOk, string_bytes};
 ghost use Rattle.cli_call.specs.Ended.{attach_status, run_ended, run_line, status_of, HasNoStation, HasTold, HasToldEnd};
 ghost use Rattle.cli_call.specs.Common.{reached};
-ghost use Rattle.cli_call.specs.Service.{HasWarned};
+ghost use Rattle.cli_call.specs.Ran.{HasWarned, kit, version_line};
 
 use cli_run::{RunFault, tell_line, tell_word};
 use cli_words::Line;
 use itoa::Buffer;
+use reports::{file_version, program_version};
 use sqlite::{Alter, Connection};
 use station_core::ByteOut;
 use station_tables::AttachFault;
+use std::alloc::{AllocError, Global};
 
 /// The warning about a file whose tables aren't declared as `init` declares them.
 const UNDECLARED: &str =
@@ -133,4 +137,20 @@ pub(crate) fn refuse_line<S: Alter, I, W, E: ByteOut>(
 {
     let (conn, fault) = none;
     (end(errors, Err(DeskFault::Attach(fault))), conn)
+}
+
+/// Returns the kit with which the program is proved, as `rt version` names it.
+fn kit() -> &'static str
+    ensures { result.now ≡ kit }
+{
+    "rattle-kit-13f"
+}
+
+/// Returns the line of `--version`: the program, its version, the version of its files, and the kit
+/// with which it is proved.
+pub fn version_line(alloc: Global) -> Result<String, AllocError>
+    ensures { IfOk result (λ line. string_bytes line ≡ version_line) }
+{
+    let (program, files, kit) = (program_version(), file_version(), kit());
+    format!(in alloc; "cargo_desk {program}, files of version {files}, proved with {kit}\n")
 }

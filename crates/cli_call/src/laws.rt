@@ -1,6 +1,6 @@
 //! Laws about the calls of the program over one file.
 ghost use Rattle.cli_call.specs.Common.{own_files, whole_files, EndsLeadOn, LiesInOrder, ends};
-ghost use Rattle.cli_call.specs.Leaving.{LeavesInputs, LeavesServed};
+ghost use Rattle.cli_call.specs.Ended.{LeavesInputs, LeavesServed};
 ghost use Rattle.cli_call.specs.OneFile.{CallsLead};
 
 use cli_run::{Inputs, left_law};

@@ -2,18 +2,13 @@
 //! and closes the file.
 #![tactic(auto)]
 
-mod closing;
 mod ended;
-mod filling;
 mod laws;
 mod migrating;
 mod run;
 mod serving;
-mod version;
 
-pub use closing::{FileEnd, close_file, run_file};
-pub use ended::{DeskFault, end, tell_undeclared};
+pub use ended::{DeskFault, end, tell_undeclared, version_line};
 pub use laws::{calls_beside_law, calls_over_file_law};
-pub use run::{run_gathered, run_kept, run_line};
+pub use run::{FileEnd, close_file, run_file, run_gathered, run_kept, run_line};
 pub use serving::{Service, serve_file, serve_kept, serve_line};
-pub use version::version_line;

@@ -1,6 +1,6 @@
 //! The upgrade of a file.
 ghost use Rattle.cli_call.specs.Common.{reached};
-ghost use Rattle.cli_call.specs.Migrated.{HasEndedMigration, HasMigrated, HasToldMoved, HasToldVersion};
+ghost use Rattle.cli_call.specs.Ended.{HasEndedMigration, HasMigrated, HasToldMoved, HasToldVersion};
 
 use crate::ended::{end_run, refuse_line};
 use cli_run::{RunFault, send_part};

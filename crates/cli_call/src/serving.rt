@@ -1,11 +1,11 @@
 //! The service of a command line, over a keeper or over a file.
+
 ghost use Rattle.std.specs.Prelude.{◌≡◌, true, false, List};
 ghost use Rattle.cli_call.specs.Common.{Exchange};
-ghost use Rattle.cli_call.specs.Service.{server_fault, HasEndedService, HasListened, HasServedFile, HasServedKept, HasServedLine, HasServedStation, HasWarned};
+ghost use Rattle.cli_call.specs.Ran.{server_fault, HasEndedService, HasListened, HasServedFile, HasServedKept, HasServedLine, HasServedStation, HasWarned};
 
-use crate::closing::{FileEnd, close_file};
 use crate::ended::{DeskFault, end, refuse_line, tell_undeclared};
-use crate::filling::fill_lists;
+use crate::run::{FileEnd, close_file, fill_lists};
 use cli_run::{RunFault, send_part};
 use cli_words::Line;
 use desk_server::{ServerFault, Setting, serve};

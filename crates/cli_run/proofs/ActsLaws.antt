@@ -1,6 +1,6 @@
 -- The lines of `acts`, one after another.
 use Rattle.cli_run.proofs.Common.{AreAnswered, Bool, Call, Given, HasAnsweredLine, Keeping, List, LocalMinute, Ok, Result, RunFault, State, [], ap, append-nil, append_assoc, ap₂, asked_after, false, inl, inr, refl, subst, sym, true, ℕ, ◌&&◌, ◌++◌, ◌+◌, ◌∙◌, ◌∷◌, ◌≡◌}
-use Rattle.cli_run.specs.ActsLaw.{acts_lines, AreAsked, HasRunActs}
+use Rattle.cli_run.specs.Lines.{acts_lines, AreAsked, HasRunActs}
 use Rattle.cli_run.proofs.Ran.{items_serve, line_service}
 
 module _ {K E : Type 0} (k : Keeping K) (at : LocalMinute) (taken : E → Given) where

@@ -1,9 +1,8 @@
 -- The history of a waybill that is written.
 use Rattle.cli_run.proofs.Common.{Bool, Err, Given, None, Ok, Option, Result, RunFault, Some, State, codes, refl, subst, sym, ℕ, ◌∙◌, ◌≡◌}
 use Rattle.station_core.specs.declared.rows.Waybill.{Waybill}
-use Rattle.cli_run.specs.declared.fault.RunFault.TheVariants as fault
-use Rattle.cli_run.specs.History.{HasToldHistory}
-use Rattle.cli_run.specs.Looked.{HasToldFound}
+use Rattle.cli_run.specs.declared.telling.RunFault.TheVariants as fault
+use Rattle.cli_run.specs.Done.{HasToldHistory, HasToldFound}
 
 -- that of an unknown waybill
 unknown_told : (s : State) (w : ℕ) (old new : Given) (r : Result Bool RunFault) → HasToldFound None old new r → HasToldHistory s w None old new r

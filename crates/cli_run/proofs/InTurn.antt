@@ -1,6 +1,6 @@
 -- One item more, and one input more.
 use Rattle.cli_run.proofs.Common.{AreAnswered, AreFirst, AreMade, Bool, Err, HasEndedAt, HaveBeenAnswered, HaveBeenMade, IfSome, IsErrAnd, List, None, Ok, Option, Result, RunFault, Some, [], ap, append-nil, arith, false, inl, inr, length, refl, subst, suc, sym, told_by, true, ℕ, ◌&&◌, ◌++◌, ◌+◌, ◌<◌, ◌∙◌, ◌∷◌, ◌≡◌}
-use Rattle.cli_run.specs.declared.fault.RunFault.TheVariants as fault
+use Rattle.cli_run.specs.declared.telling.RunFault.TheVariants as fault
 
 and_true : (b : Bool) → (b && true) ≡ b
 and_true true = refl

@@ -1,12 +1,11 @@
 -- What each command leaves is the state after some of what it asks.
 use Rattle.cli_run.proofs.Common.{AllByRecursion, AreAnswered, AreMade, Bool, Call, Ends, Err, Given, HasAnswered, HasAnsweredAsked, HasAnsweredAsks, HasAnsweredLine, HasAnsweredRow, HasEndedAt, HasNotReceived, HasReceived, HasTakenNext, HaveBeenAnswered, HaveBeenMade, Input, IsActAsked, IsCommandAsked, IsTelegramAsked, Keeping, List, LocalMinute, None, Ok, OnlyReads, Option, Order, Request, Result, Row, RunFault, Some, State, StaysInService, [], after_all, ap, arith, asked_after, call_to, false, inl, input_of, inr, kept_lines, length, length-append, refl, row_asks, step, stock_rows, subst, suc, sym, take-append-add, take-append_seam, take-length, zero, ℕ, ⊎_elim, ◌++◌, ◌+◌, ◌∙◌, ◌∷◌, ◌≡◌, ◌⊎◌}
-use Rattle.cli_run.specs.declared.fault.RunFault.TheVariants as fault
+use Rattle.cli_run.specs.declared.telling.RunFault.TheVariants as fault
 use Rattle.cli_words.specs.declared.line.LineCommand.{LineCommand}
 use Rattle.cli_words.specs.declared.line.LineCommand.TheVariants as command
 use Rattle.cli_run.specs.declared.request.Request.TheVariants as asked
-use Rattle.cli_run.specs.Done.{HasDone}
+use Rattle.cli_run.specs.Done.{HasDone, AsksAt, station_fault, HasLeft}
 use Rattle.cli_run.specs.Ends.{Reached}
-use Rattle.cli_run.specs.Left.{AsksAt, station_fault, HasLeft}
 use Rattle.cli_run.proofs.Ran.{always, items_serve, line_service, row_service, take_serves}
 
 abbrev Inputs : Type 0

@@ -1,7 +1,7 @@
 -- The rows of a stock list, one after another.
 use Rattle.cli_run.proofs.Common.{AreAnswered, Bool, Call, Given, HasAnsweredAsks, HasAnsweredRow, Keeping, List, LocalMinute, None, Ok, Option, Order, Result, Row, RunFault, Some, State, [], answers_of, ap, append-nil, append_assoc, ap₂, bad_line, false, input_of, is_some, list_all, map, refl, row_asks, step, subst, sym, true, ℕ, ◌&&◌, ◌++◌, ◌+◌, ◌∙◌, ◌∷◌, ◌≡◌}
 use Rattle.station_core.specs.Retries.{is_done}
-use Rattle.cli_run.specs.ListLaw.{inputs_of, answered_lines, HasRunList}
+use Rattle.cli_run.specs.Lines.{inputs_of, answered_lines, HasRunList}
 use Rattle.cli_run.proofs.Ran.{items_serve, row_service}
 
 move_in : (a b c : Bool) → (a && (b && c)) ≡ (b && (a && c))

@@ -1,6 +1,6 @@
 -- What is written of a telegram.
 use Rattle.cli_run.proofs.Common.{Bool, Err, Given, HasCome, HasSeen, HasStoppedLook, HasToldPart, HasToldWhy, IfErr, IfOk, IsSeen, List, None, Ok, OnOk, Result, RunFault, inr, most_bytes, subst, sym, telegram_head, ℕ, ◌++◌, ◌≡◌}
-use Rattle.cli_run.specs.declared.fault.RunFault.TheVariants as fault
+use Rattle.cli_run.specs.declared.telling.RunFault.TheVariants as fault
 
 pub ok_more : {A E : Type 0} (r : Result A E) (P Q : A → Type 0) → ((x : A) → P x → Q x) → IfOk r P → IfOk r Q
 ok_more (Ok x) P Q more p = more x p

@@ -1,8 +1,8 @@
 -- What goes to standard error, by what was asked.
 use Rattle.cli_run.proofs.Common.{Bool, Call, Err, Given, HasExplained, HasGivenReason, HasReason, HasToldWhy, Input, IsErrAnd, Keeping, List, LocalMinute, Ok, Option, Request, Result, RunFault, State, asked_unread, false, is_command, reason_head, refl, true, ℕ, ◌≡◌}
 use Rattle.station_core.specs.declared.answer.Answer.{Answer}
-use Rattle.station_core.specs.declared.input.Input.TheVariants.{Keyed, Wire}
-use Rattle.cli_run.specs.Explained.{answered_unread}
+use Rattle.station_core.specs.declared.answer.Input.TheVariants.{Keyed, Wire}
+use Rattle.cli_run.specs.Seen.{answered_unread}
 use Rattle.cli_run.specs.declared.request.Request.TheVariants as asked
 use Rattle.cli_run.proofs.Ran.{always}
 

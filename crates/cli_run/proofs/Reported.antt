@@ -2,15 +2,15 @@
 use Rattle.cli_run.proofs.Common.{ActFault, Err, Given, HasCause, List, Ok, OnOk, Result, State, [], run_fault, ℕ, ◌≡◌}
 use Rattle.station_core.specs.Keeping.{IsReadersFault}
 use Rattle.station_core.specs.declared.answer.ActFault.TheVariants as act
-use Rattle.reports.specs.Ended.{HasEnded, HasEndedBy, HasTold, IsCause, StopsBy, StopsWriting}
-use Rattle.reports.specs.declared.fault.ReportCause.{ReportCause}
-use Rattle.reports.specs.declared.fault.ReportCause.TheVariants as cause
-use Rattle.reports.specs.declared.fault.ReportFault.{ReportFault}
-use Rattle.cli_run.specs.declared.fault.RunFault.TheVariants as fault
-use Rattle.reports.specs.declared.form.Form.{Form}
-use Rattle.reports.specs.declared.listing.Listing.{Listing}
-use Rattle.reports.specs.Listings.{IsListing}
-use Rattle.cli_run.specs.Report.{cause_fault, run_ended, HasReported, StopsReport}
+use Rattle.reports.specs.Passes.{HasEnded, HasEndedBy, HasTold, IsCause, StopsBy, StopsWriting}
+use Rattle.reports.specs.declared.report.ReportCause.{ReportCause}
+use Rattle.reports.specs.declared.report.ReportCause.TheVariants as cause
+use Rattle.reports.specs.declared.report.ReportFault.{ReportFault}
+use Rattle.cli_run.specs.declared.telling.RunFault.TheVariants as fault
+use Rattle.reports.specs.declared.layout.Form.{Form}
+use Rattle.reports.specs.declared.report.Listing.{Listing}
+use Rattle.reports.specs.Reports.{IsListing}
+use Rattle.cli_run.specs.Done.{cause_fault, run_ended, HasReported, StopsReport}
 
 pub store_fails : (May : Type 0) (e : ActFault) → IsReadersFault May e → run_fault e ≡ fault.Store → May
 store_fails May act.Memory is told = cc

@@ -1,6 +1,6 @@
 -- A run that is told once it is known whether its reader has failed.
 use Rattle.cli_run.proofs.Common.{Bool, Err, Ok, OnOk, Result, RunFault, arith, false, false≢true, refl, suc, told_by, true, zero, ℕ, ◌<◌, ◌≡◌}
-use Rattle.cli_run.specs.declared.fault.RunFault.TheVariants as fault
+use Rattle.cli_run.specs.declared.telling.RunFault.TheVariants as fault
 
 -- `Read` only where the reader has failed
 pub told_read : (P : Type 0) (ended : Result Bool RunFault) (failed : Bool) → (failed ≡ true → P) → told_by ended failed ≡ Err fault.Read → P

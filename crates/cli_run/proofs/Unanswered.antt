@@ -1,9 +1,8 @@
 -- A request or a row that the keeper didn't answer, or wasn't asked.
 use Rattle.cli_run.proofs.Common.{ActFault, Answers, Bool, Err, Given, HasAnswered, HasToldUnread, IfErr, IfOk, Input, IsAnswered, IsBrokenAfter, IsMemoryOrStore, IsShutAfter, IsStopped, Keeping, Kept, List, LocalMinute, MayLeave, Ok, Option, Request, Result, RunFault, State, ap, asked_after, asked_unread, call, false, inl, inr, is_command, kept_at, kept_by, reason_head, refl, run_fault, step, subst, sym, take, ℕ, ⊎_elim, ◌++◌, ◌∙◌, ◌≡◌, ◌⊎◌}
 use Rattle.station_core.specs.declared.answer.ActFault.TheVariants as act
-use Rattle.cli_run.specs.declared.fault.RunFault.TheVariants as fault
-use Rattle.cli_run.specs.Requests.{asked_good, asked_line}
-use Rattle.cli_run.specs.Shut.{HasToldLine, IsAnsweredShut}
+use Rattle.cli_run.specs.declared.telling.RunFault.TheVariants as fault
+use Rattle.cli_run.specs.Requests.{asked_good, asked_line, HasToldLine, IsAnsweredShut}
 use Rattle.cli_run.proofs.Ran.{always}
 use Rattle.cli_run.proofs.Reasons.{explained_unasked}
 

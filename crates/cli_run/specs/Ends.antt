@@ -1,6 +1,9 @@
+-- The parts of a call that contracts see.
+use Rattle.std.specs.Prelude.{Option, List, ℕ, Bool, true, false, Some, None, codes, ◌≡◌, ◌⊎◌, ◌+◌, ◌<◌, ◌≤◌, ◌++◌, length}
+use Rattle.cli_run.specs.Common.{Given, LineCommand, most_bytes}
+use Rattle.cli_words.specs.declared.line.LineCommand.TheVariants as command
+
 -- The parts of a call that contracts see: its keeper's state, and what it reads and writes.
-use Rattle.std.specs.Prelude.{Option, List, ℕ}
-use Rattle.cli_run.specs.Common.{Given}
 
 -- the state of a call: its station, its output, and its errors
 pub record Call (K E : Type 0) : Type 0 where
@@ -45,3 +48,56 @@ call_to e at = call at.0 (e.printed at.1.output) at.1.errors
 -- the same for a command that reads nothing, and gives no reasons
 abbrev pub printed_to : {K I W E : Type 0} → Ends I W E → K × Reached I W E → Printed K
 printed_to e at = (at.0, e.printed at.1.output)
+
+-- The station of a command line.
+
+-- its airport: XXX if the line names none
+abbrev pub here_of : Option (List ℕ) → List ℕ
+here_of None = codes "XXX"
+here_of (Some here) = here
+
+-- true if it is new: `init` creates one, and so does each line without a file
+abbrev pub is_new : {A : Type 0} → Option A → LineCommand → Bool
+is_new None c = true
+is_new (Some path) command.Init = true
+is_new (Some path) _ = false
+
+-- true if its file is upgraded from version 1 to version 2
+abbrev pub is_migration : LineCommand → Bool
+is_migration command.Migrate = true
+is_migration _ = false
+
+-- The bytes received of a command's input.
+
+abbrev pub most_read : ℕ
+most_read = 4_096
+
+-- the largest size of an input: one read more than a telegram or a body
+abbrev pub most_come : ℕ
+most_come = most_bytes + most_read
+
+-- at most `most` more bytes were received
+abbrev pub IsWithin : ℕ → Given → Given → Type 0
+IsWithin most old new = length new.bytes ≤ length old.bytes + most
+
+-- further reads appended their bytes, and no read failed
+pub record HasGrown (old new : Given) (before after : List ℕ) : Type 0 where
+  pub part : List ℕ
+  pub bytes : after ≡ before ++ part
+  pub given : new.bytes ≡ old.bytes ++ part
+  pub failures : new.failures ≡ old.failures
+  pub idle : old.idle ≤ new.idle
+
+-- These bytes were received, and no read failed. The input ended, as a read with room returned
+-- nothing; or it has more than `most` bytes.
+pub record HasCome (most : ℕ) (old new : Given) (bytes : List ℕ) : Type 0 where
+  pub given : new.bytes ≡ old.bytes ++ bytes
+  pub failures : new.failures ≡ old.failures
+  pub ended : (old.idle < new.idle) ⊎ (most < length bytes)
+
+abbrev pub most_reads : ℕ
+most_reads = 18_446_744_073_709_551_615
+
+-- a read failed, or the limit of reads was reached before the end
+abbrev pub HasFailed : Given → Given → Type 0
+HasFailed old new = (old.failures < new.failures) ⊎ (old.calls + most_reads ≤ new.calls)

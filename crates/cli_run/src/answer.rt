@@ -1,15 +1,15 @@
 //! Answers to the input of a command.
+
 ghost use Rattle.std.specs.Prelude.{◌≡◌, ◌++◌, ◌∷◌, [], true, false, IfOk, codes, decimal, string_bytes};
 ghost use Rattle.cli_run.specs.Common.{refusal_text, is_unread};
 ghost use Rattle.cli_run.specs.Ends.{call};
 ghost use Rattle.cli_run.specs.Requests.{answer_text, keyed, named, numbered};
-ghost use Rattle.cli_run.specs.Answered.{HasAnswered, HasToldUnread};
-ghost use Rattle.cli_run.specs.Explained.{line_head, reason_head};
+ghost use Rattle.cli_run.specs.Lines.{HasAnswered, HasToldUnread};
+ghost use Rattle.cli_run.specs.Seen.{line_head, reason_head};
 
-use crate::fault::{RunFault, keeper_fault};
+use crate::answering::send_part;
 use crate::request::Request;
-use crate::sent::send_part;
-use crate::telling::{tell_answer, tell_bad_line, tell_body, tell_refusal};
+use crate::telling::{RunFault, keeper_fault, tell_answer, tell_bad_line, tell_body, tell_refusal};
 use desk_commands::Verb;
 use shipment_machine::Refusal;
 use station_core::{Answer, ByteOut, Input, Keeper, Key, answer_one, refusal_text, reply_text};

@@ -1,24 +1,26 @@
 //! The desk that answers the inputs of a command line: a station, or a service.
-ghost use Rattle.std.specs.Prelude.{◌≡◌, ℕ, Bool, Err, List, None, Option, Result};
-ghost use Rattle.cli_run.specs.Common.{fields_of};
+//! Reading the input of a command.
+//! Lines written in parts.
+
+ghost use Rattle.std.specs.Prelude.{◌≡◌, ℕ, Bool, Err, List, None, Option, Result, ◌⊎◌, ◌+◌, ◌<◌, true, IfOk, IfErr, OnOk, ◌++◌, ◌∷◌, [], OnErr};
+ghost use Rattle.cli_run.specs.Common.{fields_of, most_bytes, HasCause, HasSent, NoneFailed, SendsLine};
 ghost use Rattle.desk_commands.specs.declared.verb.Verb.{Verb as AnyVerb};
-ghost use Rattle.cli_run.specs.declared.fault.RunFault.{RunFault as Fault};
-ghost use Rattle.cli_run.specs.RowsAnswered.{HasAnsweredRow};
-ghost use Rattle.cli_run.specs.Ends.{call, Call};
-ghost use Rattle.cli_run.specs.Rows.{Row};
+ghost use Rattle.cli_run.specs.declared.telling.RunFault.{RunFault as Fault};
+ghost use Rattle.cli_run.specs.Lines.{HasAnsweredRow, Row, HasAnsweredLine, HasAnswered};
+ghost use Rattle.cli_run.specs.Ends.{call, Call, HasGrown, HasCome, HasFailed, IsWithin, most_come, most_read};
 ghost use Rattle.cli_run.specs.declared.request.Request.{Request as AnyRequest};
-ghost use Rattle.cli_run.specs.Acts.{HasAnsweredLine};
-ghost use Rattle.cli_run.specs.Answered.{HasAnswered};
+ghost use Rattle.cli_run.specs.Requests.{IsReadersFault};
 
 use crate::acts::answer_line;
 use crate::answer::answer_asked;
-use crate::by_line::LineCount;
-use crate::fault::RunFault;
 use crate::request::Request;
 use crate::rows::{RowPlace, answer_row};
+use crate::takes::LineCount;
+use crate::telling::RunFault;
 use csv::ByteRecord;
 use desk_commands::Verb;
-use station_core::{ByteOut, Keeper, Key};
+use imp_fields::MOST_BYTES;
+use station_core::{ByteIn, ByteOut, Keeper, Key, ReadFault, send};
 use station_days::Moment;
 use std::alloc::Global;
 
@@ -142,5 +144,118 @@ impl<K: Keeper, E: ByteOut> Answering<K, E> for ByStation {
         asked: &Request<'_>,
     ) -> Result<bool, RunFault> {
         answer_asked(alloc, desk, writer, errors, None, asked, self.at)
+    }
+}
+
+/// The size of one read.
+const CHUNK: usize = 4096;
+
+/// Reads once and appends the bytes. Returns true at the end of the input. An interrupted read
+/// appends nothing.
+#[tactic(auto, using(crate::proofs::Grown::read_within))]
+fn read_more<I: ByteIn>(reader: &mut I, bytes: &mut Vec<u8>) -> Result<bool, RunFault>
+    ensures come { OnOk result
+        (HasGrown (I.given reader.old) (I.given reader.new) bytes.old.items bytes.new.items) }
+    ensures calls { OnOk result ((I.given reader.new).calls ≡ (I.given reader.old).calls + 1) }
+    ensures ended { IfOk result (λ ended. ended ≡ true
+        → (I.given reader.old).idle < (I.given reader.new).idle) }
+    ensures fault { IfErr result IsReadersFault }
+    ensures failed { result ≡ Err RunFault.Read
+        → (I.given reader.old).failures < (I.given reader.new).failures }
+    ensures told { IfErr result (λ e. (e ≡ RunFault.Read)
+        ⊎ ((I.given reader.new).failures ≡ (I.given reader.old).failures)) }
+    ensures part { IsWithin most_read (I.given reader.old) (I.given reader.new) }
+{
+    let mut room = [0; CHUNK];
+    match reader.read(&mut room) {
+        Ok(0) => Ok(true),
+        Ok(n) => match bytes.extend_from_slice(&room[..n]) {
+            Ok(()) => Ok(false),
+            Err(_) => Err(RunFault::Memory),
+        },
+        Err(ReadFault::Interrupted) => Ok(false),
+        Err(ReadFault::Failed) => Err(RunFault::Read),
+    }
+}
+
+/// Reads an input to its end, or until it is longer than any telegram or body.
+///
+/// Returns [`RunFault::Read`] if the reader fails, and [`RunFault::Memory`] if memory runs out.
+#[tactic(auto, using(crate::proofs::Grown::more_within, crate::proofs::Grown::still_within))]
+pub fn read_input<I: ByteIn>(alloc: Global, reader: &mut I) -> Result<Vec<u8>, RunFault>
+    ensures come { IfOk result
+        (λ bytes. HasCome most_bytes (I.given reader.old) (I.given reader.new) bytes.items) }
+    ensures fault { IfErr result IsReadersFault }
+    ensures failed { result ≡ Err RunFault.Read
+        → HasFailed (I.given reader.old) (I.given reader.new) }
+    ensures told { IfErr result (λ e. (e ≡ RunFault.Read)
+        ⊎ ((I.given reader.new).failures ≡ (I.given reader.old).failures)) }
+    ensures most { IsWithin most_come (I.given reader.old) (I.given reader.new) }
+{
+    let mut bytes = Vec::new(alloc);
+    for _turn in 0..u64::MAX {
+        if read_more(reader, &mut bytes)? {
+            return Ok(bytes);
+        }
+        if bytes.len() > MOST_BYTES {
+            return Ok(bytes);
+        }
+    }
+    Err(RunFault::Read)
+}
+
+/// Writes a line, or a part of one.
+///
+/// Returns [`RunFault::Write`] if the writer fails or writes 0 bytes. A prefix is written.
+pub fn send_part<W: ByteOut>(writer: &mut W, part: &[u8]) -> Result<(), RunFault>
+    ensures all { OnOk result
+        ((W.taken writer.new).bytes ≡ (W.taken writer.old).bytes ++ part.now) }
+    ensures sent { HasSent part.now (W.taken writer.old) (W.taken writer.new) }
+    ensures untroubled { OnOk result (NoneFailed (W.taken writer.old) (W.taken writer.new)) }
+    ensures why { IfErr result (λ e. e ≡ RunFault.Write) }
+    ensures cause { OnErr result (HasCause (W.taken writer.old) (W.taken writer.new)) }
+{
+    match send(writer, part) {
+        Ok(()) => Ok(()),
+        Err(_sent) => Err(RunFault::Write),
+    }
+}
+
+/// Writes a line of a head and a word.
+///
+/// Returns [`RunFault::Write`] if the writer fails or writes 0 bytes. A prefix is written.
+#[tactic(auto, using(crate::proofs::Parts::cause_behind, crate::proofs::Parts::cause_behind_two))]
+pub fn send_word<W: ByteOut>(writer: &mut W, head: &str, word: &[u8]) -> Result<(), RunFault>
+    ensures all { OnOk result
+        ((W.taken writer.new).bytes ≡ (W.taken writer.old).bytes ++
+        (head.now ++ word.now ++ 10 ∷ [])) }
+    ensures sent { HasSent (head.now ++ word.now ++ 10 ∷ []) (W.taken writer.old)
+        (W.taken writer.new) }
+    ensures why { IfErr result (λ e. e ≡ RunFault.Write) }
+    ensures cause { OnErr result (HasCause (W.taken writer.old) (W.taken writer.new)) }
+{
+    send_part(writer, head.as_bytes())?;
+    send_part(writer, word)?;
+    send_part(writer, b"\n")
+}
+
+/// Writes a line, or as much of it as the writer takes. A failure can't be reported anywhere.
+pub fn tell_line<E: ByteOut>(errors: &mut E, line: &str)
+    ensures { SendsLine line.now (E.taken errors.old) (E.taken errors.new) }
+{
+    match send_part(errors, line.as_bytes()) {
+        Ok(()) => {}
+        Err(_unreported) => {}
+    }
+}
+
+/// Writes a line of a head and a word in the same way.
+pub fn tell_word<E: ByteOut>(errors: &mut E, head: &str, word: &str)
+    ensures { SendsLine (head.now ++ word.now ++ 10 ∷ []) (E.taken errors.old)
+        (E.taken errors.new) }
+{
+    match send_word(errors, head, word.as_bytes()) {
+        Ok(()) => {}
+        Err(_unreported) => {}
     }
 }

@@ -1,10 +1,9 @@
 //! Reports.
 ghost use Rattle.std.specs.Prelude.{◌≡◌};
 ghost use Rattle.cli_run.specs.Common.{StaysInService, IsListing};
-ghost use Rattle.cli_run.specs.Reported.{good_of, HasReportedGood, HasToldReport};
-ghost use Rattle.cli_run.specs.Report.{cause_fault, run_ended};
+ghost use Rattle.cli_run.specs.Done.{good_of, HasReportedGood, HasToldReport, cause_fault, run_ended};
 
-use crate::fault::{RunFault, keeper_fault};
+use crate::telling::{RunFault, keeper_fault};
 use reports::{Form, Listing, ReportCause, ReportFault, write_listing};
 use station_core::{ByteOut, Keeper};
 use std::alloc::Global;

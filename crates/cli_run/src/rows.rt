@@ -1,27 +1,131 @@
 //! The rows of a stock list, one after another.
-ghost use Rattle.std.specs.Prelude.{◌≡◌, ◌<◌, true, Err, IfOk, OnOk, string_bytes};
-ghost use Rattle.cli_run.specs.Common.{fields_of, HasReason, numbered_head};
+
+ghost use Rattle.std.specs.Prelude.{◌≡◌, ◌^◌, ◌<◌, ◌≤◌, length, Some, IfSome, true, Err, IfOk, OnOk, string_bytes};
+ghost use Rattle.cli_run.specs.Common.{fields_of, field_at, HasReason, numbered_head};
+ghost use Rattle.cli_run.specs.Lines.{digits_of, run_of, order_of, asked_by, row_asks, bad_line, row_head, stock_rows, HasAnsweredRow, HasToldUnread};
 ghost use Rattle.cli_run.specs.Ends.{call};
-ghost use Rattle.cli_run.specs.Answered.{HasToldUnread};
-ghost use Rattle.cli_run.specs.Faults.{IsReadToEnd};
-ghost use Rattle.cli_run.specs.InTurn.{HaveBeenAnswered};
-ghost use Rattle.cli_run.specs.Rows.{bad_line, row_head, stock_rows};
-ghost use Rattle.cli_run.specs.RowsAnswered.{HasAnsweredRow};
+ghost use Rattle.cli_run.specs.Requests.{IsReadToEnd};
+ghost use Rattle.cli_run.specs.Done.{HaveBeenAnswered};
 
 use crate::answer::answer_input;
-use crate::answering::Answering;
-use crate::by_line::{LineCount, line_by_line};
-use crate::fault::{RunFault, list_fault, told_by};
-use crate::inputs::Watched;
-use crate::row::read_row;
-use crate::sent::send_part;
+use crate::answering::{Answering, send_part};
+use crate::input::Watched;
+use crate::takes::{LineCount, line_by_line};
+use crate::telling::{RunFault, list_fault, told_by};
+use agent_stock::{AgentCode, Order, Run, RunCount};
+use awb_number::{Awb, decimal};
 use csv::{ByteRecord, ReaderBuilder};
 use desk_commands::Command;
 use input_reasons::{row_reason, tell_reason};
-use station_core::{ByteOut, Input, Keeper};
+use station_core::{ByteOut, Input, Keeper, Key};
 use station_days::Moment;
 use std::alloc::{AllocError, Global};
 use std::io::Read;
+
+fn digits(text: &[u8], least: usize, most: usize) -> Option<u32>
+    requires { most ≤ 9 }
+    ensures value { result ≡ digits_of least most text.now }
+    ensures bound { IfSome result (λ n. (n < 10 ^ length text.now) × (least ≤ length text.now)
+        × (length text.now ≤ most)) }
+{
+    if text.len() < least || text.len() > most {
+        return None;
+    }
+    decimal(text)
+}
+
+/// Reads a count of one to seven digits.
+fn read_count(text: &[u8]) -> Option<RunCount>
+    ensures { result ≡ digits_of 1 7 text.now }
+{
+    let number = digits(text, 1, 7)?;
+    RunCount::new(number)
+}
+
+fn run(prefix: &[u8], serial: &[u8], count: &[u8]) -> Option<Run>
+    ensures { result ≡ run_of prefix.now serial.now count.now }
+{
+    let prefix = digits(prefix, 3, 3)?;
+    let serial = digits(serial, 7, 7)?;
+    let count = read_count(count)?;
+    let first = Awb::new(prefix as u16, serial)?;
+    Some(Run { first, count })
+}
+
+/// Returns the order of a verb on a run. Only issue and return have an agent.
+fn order(verb: &[u8], run: Run, agent: &[u8]) -> Option<Order>
+    ensures { result ≡ order_of verb.now run agent.now }
+{
+    if verb == b"take-in".as_slice() {
+        if agent.is_empty() {
+            Some(Order::TakeIn(run))
+        } else {
+            None
+        }
+    } else if verb == b"void".as_slice() {
+        if agent.is_empty() {
+            Some(Order::Void(run))
+        } else {
+            None
+        }
+    } else if verb == b"issue".as_slice() {
+        match AgentCode::read(agent) {
+            Some(agent) => Some(Order::Issue(run, agent)),
+            None => None,
+        }
+    } else if verb == b"return".as_slice() {
+        match AgentCode::read(agent) {
+            Some(agent) => Some(Order::GiveBack(run, agent)),
+            None => None,
+        }
+    } else {
+        None
+    }
+}
+
+/// Returns the key and the order in six fields: key, verb, prefix, serial, count and agent.
+fn asked(
+    key: &[u8],
+    verb: &[u8],
+    prefix: &[u8],
+    serial: &[u8],
+    count: &[u8],
+    agent: &[u8],
+) -> Option<(Key, Order)>
+    ensures { result ≡ asked_by key.now verb.now prefix.now serial.now count.now agent.now }
+{
+    let key = Key::read(key)?;
+    let run = run(prefix, serial, count)?;
+    let order = order(verb, run, agent)?;
+    Some((key, order))
+}
+
+fn field(row: &ByteRecord, place: usize) -> &[u8]
+    requires { place < length (fields_of row.now) }
+    ensures { field_at (fields_of row.now) place ≡ Some result.now }
+{
+    match row.get(place) {
+        Some(field) => field,
+        None => unreachable!(),
+    }
+}
+
+/// Returns the key and the order of a row, if it is well formed.
+pub fn read_row(row: &ByteRecord) -> Option<(Key, Order)>
+    ensures { result ≡ row_asks (fields_of row.now) }
+{
+    if row.len() != 6 {
+        return None;
+    }
+    asked(
+        field(row, 0),
+        field(row, 1),
+        field(row, 2),
+        field(row, 3),
+        field(row, 4),
+        field(row, 5),
+    )
+}
 
 /// The position of a row in its list.
 #[derive(Clone, Copy)]

@@ -1,22 +1,23 @@
 //! Running a command over its station.
-ghost use Rattle.cli_run.specs.Common.{StaysInService};
-ghost use Rattle.cli_run.specs.Ends.{ends, reached};
-ghost use Rattle.cli_run.specs.Done.{HasDone, HasToldMade};
-ghost use Rattle.cli_run.specs.Place.{here_of};
-ghost use Rattle.cli_run.specs.Reasons.{HasGivenReasons};
+//! Laws about stock lists, the lines of `acts` together, and the inputs of each command.
+//! The station of a command line.
+
+ghost use Rattle.cli_run.specs.Common.{StaysInService, LocalMinute, State};
+ghost use Rattle.cli_run.specs.Ends.{ends, reached, here_of, Call, Reached, is_migration, is_new};
+ghost use Rattle.cli_run.specs.Done.{HasDone, HasToldMade, HasGivenReasons, AreAnswered, AsksAt, HasLeft};
+ghost use Rattle.std.specs.Prelude.{◌≡◌, ℕ, Bool, false, List, Result, map};
+ghost use Rattle.cli_run.specs.Lines.{HasRunList, Row, HasAnsweredRow, row_asks, HasAnsweredLine, HasRunActs};
+ghost use Rattle.cli_words.specs.declared.line.LineCommand.{LineCommand as Command};
+ghost use Rattle.cli_run.specs.declared.telling.RunFault.{RunFault};
 
 use crate::acts::answer_acts;
-use crate::answering::ByStation;
-use crate::fault::RunFault;
-use crate::history::do_history;
-use crate::input::answer_input;
-use crate::inputs::Inputs;
-use crate::look::{do_holder, do_waybill};
-use crate::place::airport_of_line;
+use crate::answering::{ByStation, send_word};
+use crate::input::{Inputs, answer_input};
+use crate::look::{do_history, do_holder, do_waybill};
 use crate::report::do_report;
 use crate::rows::answer_list;
-use crate::sent::send_word;
 use crate::takes::answer_takes;
+use crate::telling::RunFault;
 use cli_words::{Line, LineCommand};
 use imp_fields::Airport;
 use reports::{Listing, Report};
@@ -87,4 +88,64 @@ pub fn run_over<K: Keeper, I: Inputs + Read, W: ByteOut, E: ByteOut>(
         LineCommand::Holder(number) => do_holder(alloc, keeper, number, output),
         LineCommand::Read(_) | LineCommand::Serve { .. } | LineCommand::Migrate => Ok(true),
     }
+}
+
+/// The answered rows of a stock list are a run of the station over their orders: they leave the
+/// state after them all, the output is the lines of the answers, and the run is good if every row
+/// has an order and every answer accepts it.
+pub fn list_law<K: Keeper, E: ByteOut>()
+    ensures { (rows : List Row) (at : LocalMinute) (old new : Call K E) (good : Bool)
+        → AreAnswered (HasAnsweredRow K.keeping at E.taken) 1 rows old new good → (s : State)
+        → K.keeping.keeps old.keeper s → K.keeping.is_broken old.keeper ≡ false → K.keeping.is_sound
+        new.keeper → HasRunList 1 s at (map row_asks rows) old.sent.bytes new.sent.bytes
+        (K.keeping.keeps new.keeper) good }
+{}
+
+/// The answered lines of `acts` are a run of the station over their requests: they leave the state
+/// after all of them, the output is the lines of the answers, and the run is good exactly if each
+/// answer is.
+pub fn acts_law<K: Keeper, E: ByteOut>()
+    ensures { (lines : List (List ℕ)) (at : LocalMinute) (old new : Call K E) (good : Bool)
+        → AreAnswered (HasAnsweredLine K.keeping at E.taken) 1 lines old new good → (s : State)
+        → K.keeping.keeps old.keeper s → K.keeping.is_broken old.keeper ≡ false → K.keeping.is_sound
+        new.keeper → HasRunActs 1 s at lines old.sent.bytes new.sent.bytes
+        (K.keeping.keeps new.keeper) good }
+{}
+
+/// Whatever a command returns, reopening afterwards finds the state after the inputs that it
+/// answered and, if the store failed, perhaps one more.
+pub fn left_law<K: Keeper, I: Inputs + Read, W: ByteOut, E: ByteOut>()
+    ensures { (command : Command) (here : List ℕ) (at : LocalMinute) (s : State)
+        (old new : K × Reached I W E) (result : Result Bool RunFault) → K.keeping.keeps old.0 s
+        → K.keeping.is_broken old.0 ≡ false → K.keeping.is_sound new.0 → HasDone command here
+        K.keeping (ends I.remaining I.given I.turned W.taken E.taken) at old new result → HasLeft
+        (AsksAt command at) s (K.keeping.may_find new.0) result }
+{}
+
+/// Returns the airport of a command line's station, or `XXX` if the line names none.
+pub fn airport_of_line(line: &Line<'_>) -> Airport
+    ensures { result ≡ here_of line.now.station }
+{
+    match line.station {
+        Some(here) => here,
+        None => Airport::read(b"XXX").unwrap(),
+    }
+}
+
+/// Returns whether the command line starts with a new station: `init` creates one, and so does each
+/// line without a file.
+pub fn is_opening(line: &Line<'_>) -> bool
+    ensures { result ≡ is_new line.now.db line.now.command }
+{
+    match line.db {
+        None => true,
+        Some(_) => matches!(line.command, LineCommand::Init),
+    }
+}
+
+/// Returns whether the command line upgrades a file from version 1 to version 2.
+pub fn is_migration(line: &Line<'_>) -> bool
+    ensures { result ≡ is_migration line.now.command }
+{
+    matches!(line.command, LineCommand::Migrate)
 }

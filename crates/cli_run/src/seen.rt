@@ -1,17 +1,14 @@
 //! Dry runs of telegrams.
+
 ghost use Rattle.std.specs.Prelude.{◌≡◌, ◌⊎◌, ◌++◌, ◌∷◌, [], None, Some, false, not, Err, IfOk, IfErr, OnOk, OnErr, string_bytes};
 ghost use Rattle.cli_run.specs.Common.{refusal_text, NoneFailed, has_doubt, look_text};
-ghost use Rattle.cli_run.specs.Faults.{TellsWriting, WriteHasCause};
-ghost use Rattle.cli_run.specs.Came.{HasFailed, IsWithin, most_come};
-ghost use Rattle.cli_run.specs.Ended.{HasToldPart};
-ghost use Rattle.cli_run.specs.Explained.{telegram_head, HasToldWhy};
-ghost use Rattle.cli_run.specs.Seen.{has_reason, HasSeen, HasStoppedLook, IsSeen};
+ghost use Rattle.cli_run.specs.Requests.{TellsWriting, WriteHasCause, HasToldPart};
+ghost use Rattle.cli_run.specs.Ends.{HasFailed, IsWithin, most_come};
+ghost use Rattle.cli_run.specs.Seen.{telegram_head, HasToldWhy, has_reason, HasSeen, HasStoppedLook, IsSeen};
 
 use crate::answer::refusal_line;
-use crate::fault::RunFault;
-use crate::reading::read_input;
-use crate::sent::send_part;
-use crate::telling::tell_refusal;
+use crate::answering::{read_input, send_part};
+use crate::telling::{RunFault, tell_refusal};
 use input_reasons::{Look, look_at, look_text};
 use shipment_machine::Refusal;
 use station_core::{ByteIn, ByteOut};

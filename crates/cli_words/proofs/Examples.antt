@@ -1,10 +1,10 @@
 -- Words of `report`, by the definitions.
 use Rattle.std.proofs.Common.{◌≡◌, refl, true, false, Some, None, codes}
 use Rattle.reports.specs.Reports.{report_called}
-use Rattle.reports.specs.declared.listing.Listing.{Listing}
-use Rattle.reports.specs.declared.listing.Listing.TheVariants as listing
+use Rattle.reports.specs.declared.report.Listing.{Listing}
+use Rattle.reports.specs.declared.report.Listing.TheVariants as listing
 use Rattle.reports.specs.declared.report.Report.TheVariants as report
-use Rattle.cli_words.specs.Listed.{IsManifest, IsPart}
+use Rattle.cli_words.specs.Line.{IsManifest, IsPart}
 
 -- `report shed`
 whole : IsPart report.Shed None false None None None None (listing.All report.Shed)

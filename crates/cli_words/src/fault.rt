@@ -23,7 +23,7 @@ impl From<AllocError> for WordsFault {
 #[derive(Clone, Copy)]
 pub(crate) enum BadValue<'a> {
     /// A text that isn't valid in its place: the place, the text and what is expected.
-    Invalid(&'static str, &'a str, &'static str),
+    Invalid(&'a str, &'a str, &'a str),
     Verb(&'a str),
     /// The key of `act`, which reads a body.
     Key(&'a str),
@@ -31,7 +31,7 @@ pub(crate) enum BadValue<'a> {
     /// The report doesn't have this part.
     Part(&'a str),
     /// A call without an option that it needs before its command.
-    Lacks(&'static str),
+    Lacks(&'a str),
     /// `report manifest` without a flight.
     Manifest,
     /// `--at` with an option or a command that needs the station's own file.

@@ -5,7 +5,6 @@ mod commands;
 mod fault;
 mod help;
 mod line;
-mod number;
 mod part;
 mod read;
 mod refusals;

@@ -1,9 +1,10 @@
 //! The report, or the part of one, that the words of `report` request.
-ghost use Rattle.std.specs.Prelude.{◌≡◌, IfOk, IfSome};
-ghost use Rattle.cli_words.specs.Listed.{form_of, HasAgent, HasPart, HasManifest, IsAfter, IsFlightDay, IsLast, IsListed, IsOpen, IsOfWaybill};
+//! The numbers of `serve` and of a report's rows.
+
+ghost use Rattle.std.specs.Prelude.{◌≡◌, IfOk, IfSome, ◌≤◌};
+ghost use Rattle.cli_words.specs.Line.{form_of, HasAgent, HasPart, HasManifest, IsAfter, IsFlightDay, IsLast, IsListed, IsOpen, IsOfWaybill, IsNumber};
 
 use crate::fault::{BadValue, ROW};
-use crate::number::read_row;
 use crate::read::read_number;
 use crate::words::ReportWords;
 use agent_stock::AgentCode;
@@ -138,4 +139,33 @@ pub(crate) fn read_listing<'a>(words: ReportWords<'a>) -> Result<Listing, BadVal
     }
     let report = Report::read(words.name.as_bytes()).ok_or(BadValue::ReportName(words.name))?;
     read_part(report, words)
+}
+
+/// Reads a port: 1 to 65535.
+pub(crate) fn read_port(text: &str) -> Option<u16>
+    ensures value { IfSome result (IsNumber 16 text.now) }
+    ensures least { IfSome result (λ port. 1 ≤ port) }
+{
+    match text.parse::<u16>() {
+        Ok(port) if port >= 1 => Some(port),
+        _ => None,
+    }
+}
+
+/// Reads a count of connections: 1 to 4,294,967,295.
+pub(crate) fn read_count(text: &str) -> Option<u32>
+    ensures value { IfSome result (IsNumber 32 text.now) }
+    ensures least { IfSome result (λ count. 1 ≤ count) }
+{
+    match text.parse::<u32>() {
+        Ok(count) if count >= 1 => Some(count),
+        _ => None,
+    }
+}
+
+/// Reads the number of a row, or a number of rows: 0 to 4,294,967,295.
+pub(crate) fn read_row(text: &str) -> Option<u32>
+    ensures { IfSome result (IsNumber 32 text.now) }
+{
+    text.parse::<u32>().ok()
 }

@@ -1,12 +1,12 @@
 //! Reading the words of a call.
+
 ghost use Rattle.std.specs.Prelude.{◌≡◌, true, false, IfOk, Ok, IsSome, option_map};
 ghost use Rattle.awb_number.specs.Number.{number_of};
 ghost use Rattle.cli_words.specs.Line.{has_own, is_asked, IsAt, IsCalled, IsLine, IsMeant, IsStation, Means, rule_of};
 
 use crate::fault::{BadValue, KEY, ROW, WordsFault, value_fault};
 use crate::line::{Line, LineCommand};
-use crate::number::{read_count, read_port, read_row};
-use crate::part::{form_of, read_listing};
+use crate::part::{form_of, read_count, read_listing, read_port, read_row};
 use crate::refusals::refusal_help;
 use crate::words::{Request, Words, sort_words};
 use awb_number::{Awb, AwbFault};

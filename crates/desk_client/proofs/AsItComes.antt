@@ -1,10 +1,21 @@
 -- A report that is printed as it comes, read by read.
-use Rattle.desk_client.proofs.Common.{AskFault, Err, Form, Given, HasCause, HasGrown, HasPrintedBody, HasPrintedFront, HasPrintedLast, HasPrintedMore, HasPrintedSome, HasSent, HasStopped, HasTurned, IsErrAnd, IsFrontEnd, IsHeld, List, NoneFailed, Ok, PrintFault, Result, [], ap, append-nil, append_assoc, append_cancel_left, arith, cause_behind, drop, false, first_part, grown_more, has_end, inl, inr, length, length-append, length-drop, length-take, mark_of, next_part, refl, subst, suc, sym, take, take-append-drop, take-length, untroubled_more, zero, ℕ, ⊎_elim, ◌++◌, ◌-◌, ◌<◌, ◌∙◌, ◌∷◌, ◌≡◌, ◌≤◌}
-use Rattle.reports.specs.declared.form.Form.TheVariants as form
-use Rattle.desk_client.specs.Came.{HasGiven, IsReadersFault}
+use Rattle.desk_client.proofs.Common.{AskFault, Err, Form, Given, HasCause, HasGrown, HasPrintedBody, HasPrintedFront, HasPrintedLast, HasPrintedMore, HasSent, HasStopped, HasTurned, IsErrAnd, IsFrontEnd, IsHeld, List, NoneFailed, Ok, PrintFault, Result, [], ap, append-nil, append_assoc, append_cancel_left, arith, cause_behind, drop, false, first_part, grown_more, has_end, inl, inr, length, length-append, length-drop, length-take, mark_of, next_part, refl, subst, suc, sym, take, take-append-drop, take-length, untroubled_more, zero, ℕ, ⊎_elim, ◌++◌, ◌-◌, ◌<◌, ◌∙◌, ◌∷◌, ◌≡◌, ◌≤◌}
+use Rattle.reports.specs.declared.layout.Form.TheVariants as form
+use Rattle.desk_client.specs.Printed.{HasGiven, IsReadersFault}
 use Rattle.desk_client.specs.declared.ask.AskFault.TheVariants as fault
 use Rattle.desk_client.specs.declared.printing.PrintFault.TheVariants as print
 use Rattle.desk_client.proofs.Tails.{tail_decides}
+
+-- This much of a body had been received, and then more. All but the held text was printed.
+pub record HasPrintedSome (form : Form) (body held : List ℕ) (read_old read_new old new : Given) : Type 0 where
+  pub come : List ℕ
+  pub grown : HasGrown read_old read_new [] come
+  pub done : List ℕ
+  pub text_is : body ++ come ≡ done ++ held
+  pub held_so : IsHeld form held
+  pub printed : new.bytes ≡ old.bytes ++ (done ++ mark_of form ∷ [])
+  pub unended : has_end (done ++ mark_of form ∷ []) ≡ false
+  pub smooth : NoneFailed old new
 
 -- what follows a front
 

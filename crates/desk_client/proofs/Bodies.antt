@@ -1,6 +1,6 @@
 -- What a body is, by what its head tells of its length.
 use Rattle.desk_client.proofs.Common.{IsAsLong, IsExtent, IsExtentOf, IsOfRows, IsTooShort, List, None, Option, Some, [], ap, arith, codes, false, has_media, length, length-append, number_told, subst, sym, true, values_of, ℕ, ◌++◌, ◌<◌, ◌||◌, ◌∙◌, ◌∷◌, ◌≡◌}
-use Rattle.reports.specs.declared.form.Form.TheVariants as form
+use Rattle.reports.specs.declared.layout.Form.TheVariants as form
 use Rattle.desk_client.specs.declared.whole.Extent.{Extent}
 use Rattle.desk_client.specs.declared.whole.Extent.TheVariants as extent
 

@@ -1,6 +1,6 @@
 -- A whole answer is one, and no beginning of another.
 use Rattle.desk_client.proofs.Common.{Form, IsAsLong, IsCutShort, IsReport, IsTooShort, IsWhole, List, ReadsResponse-append, ResponseHead, [], ap, arith, codes, false, has_end, has_media, inl, inr, length, length-append, map, name_and_value, nil_from_length, or-true, response_unique, status_code, subst, sym, true, values_of, ℕ, ◌++◌, ◌||◌, ◌∙◌, ◌∷◌, ◌≡◌, ◌⊎◌}
-use Rattle.reports.specs.declared.form.Form.TheVariants as form
+use Rattle.reports.specs.declared.layout.Form.TheVariants as form
 use Rattle.desk_client.proofs.Bodies.{some_is}
 
 abbrev lengths_of : ResponseHead → List (List ℕ)

@@ -1,11 +1,11 @@
 -- What an input leaves that a service was asked for.
 use Rattle.desk_client.proofs.Common.{Call, Err, Given, HasAnsweredInput, HasHeard, HasUnderstoodLine, IsAnswered, List, Ok, Option, Response, Result, RunFault, Talk, [], ap, append-nil, inl, inr, is_late, named, refl, string_bytes, subst, sym, ℕ, ◌++◌, ◌∙◌, ◌∷◌, ◌≡◌}
-use Rattle.station_core.specs.declared.input.Input.{Input}
-use Rattle.cli_run.specs.declared.fault.RunFault.TheVariants as fault
+use Rattle.station_core.specs.declared.answer.Input.{Input}
+use Rattle.cli_run.specs.declared.telling.RunFault.TheVariants as fault
 use Rattle.cli_run.specs.declared.request.Request.TheVariants as asked
-use Rattle.cli_run.specs.Ended.{HasToldPart}
-use Rattle.cli_run.specs.Explained.{reason_head, HasToldWhy}
-use Rattle.desk_client.specs.declared.line.Heard.{Heard}
+use Rattle.cli_run.specs.Requests.{HasToldPart}
+use Rattle.cli_run.specs.Seen.{reason_head, HasToldWhy}
+use Rattle.desk_client.specs.declared.lines.Heard.{Heard}
 
 -- the service answered, and its answer tells that
 pub heard_by : (request : List ℕ) (most : ℕ) (old new : Talk) (a : Response) (r : Result Heard RunFault) → IsAnswered most request old new (Ok a)

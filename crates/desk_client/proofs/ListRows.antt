@@ -1,7 +1,7 @@
 -- An order that was sent.
 use Rattle.desk_client.proofs.Common.{Bool, Call, Given, HasAnsweredInput, IsOrderText, IsSaid, IsUtf8, List, Order, Result, RunFault, Some, Stock, Talk, Verb, command_request, inr, most_answer, order_data, order_verb, subst, word, ℕ, ◌∙◌, ◌≡◌}
-use Rattle.cli_run.specs.Rows.{input_of}
-use Rattle.desk_client.specs.ListRows.{HasAnsweredOrder}
+use Rattle.cli_run.specs.Lines.{input_of}
+use Rattle.desk_client.specs.Done.{HasAnsweredOrder}
 
 -- an order that was asked by its verb and its body
 pub ordered : {E : Type 0} (taken : E → Given) (number : ℕ) (key : List ℕ) (order : Order) (verb : Verb) (text body : List ℕ) (old new : Call Talk E) (r : Result Bool RunFault)

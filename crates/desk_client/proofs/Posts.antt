@@ -1,7 +1,7 @@
 -- What a line of `acts` has for a service.
 use Rattle.desk_client.proofs.Common.{Bool, Call, Data, Given, HasAnswered, HasHeardValue, IfSome, IsPosted, List, None, Option, Result, RunFault, Some, Talk, Verb, command_request, depth, inl, inr, max_depth, most_answer, read, refl, subst, sym, word, ℕ, ◌∙◌, ◌≡◌, ◌≤◌}
 use Rattle.cli_run.specs.declared.request.Request.{Request}
-use Rattle.cli_run.specs.ActLine.{IsActAsked, IsFrame, IsWritten}
+use Rattle.cli_run.specs.Lines.{IsActAsked, IsFrame, IsWritten}
 
 -- a command's line has its body for it
 pub framed : (d : Data) (verb : Verb) (key : List ℕ) (body : Data) (text request : List ℕ) → IsFrame d verb key body → (depth body ≤ max_depth → read text ≡ Some body)

@@ -10,11 +10,11 @@ use Rattle.http1.proofs.HeadLemmas.{request_text_is}
 use Rattle.http1.proofs.HeadRoundTrip.{RequestReadsBack, request_reads_back}
 use Rattle.imp_fields.proofs.WrittenLaws.{decimal_digits}
 use Rattle.desk_commands.proofs.Words.{of_every}
-use Rattle.station_core.specs.Key.{is_key, is_key_byte}
+use Rattle.station_core.specs.Readers.{is_key, is_key_byte}
 use Rattle.http_desk.proofs.Printed.{writes}
 use Rattle.http_desk.proofs.Segments.{all_weaker}
-use Rattle.http_desk.specs.Answer.{HasHead}
-use Rattle.desk_client.specs.Read.{IsRead}
+use Rattle.http_desk.specs.Reply.{HasHead}
+use Rattle.desk_client.specs.Printed.{IsRead}
 
 abbrev fields_of : List ℕ → List ℕ → List Header
 fields_of key count = (codes "Host", codes "127.0.0.1") ∷ (codes "Connection", codes "close") ∷ (codes "Request-Key", key) ∷ (codes "Content-Length", count) ∷ []

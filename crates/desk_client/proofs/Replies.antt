@@ -1,17 +1,17 @@
 -- What a reply tells is the line of its answer.
 use Rattle.desk_client.proofs.Common.{Bool, List, None, Some, [], answer_text, ap, arith, bytes_eq, check_digit, codes, decimal, decimal_nonempty, false, if◌then◌else◌, length, length-append, lt-ltb, nat_lt, number_text, option_and_then, option_map, padded, prefix_of, refl, serial_of, true, where_true, ℕ, ◌&&◌, ◌++◌, ◌<◌, ◌==◌, ◌^◌, ◌||◌, ◌∙◌, ◌∷◌, ◌≡◌}
-use Rattle.imp_fields.specs.Fault.{why_word}
+use Rattle.imp_fields.specs.Message.{why_word}
 use Rattle.serde_json.proofs.OnLiterals.{serde_json_on_literals}
 use Rattle.station_days.specs.Date.{day_line}
-use Rattle.imp_fields.specs.Flight.{flight_text}
+use Rattle.imp_fields.specs.Fields.{flight_text}
 use Rattle.shipment_machine.specs.declared.plans.Detail.{Detail}
 use Rattle.shipment_machine.specs.declared.plans.Detail.TheVariants as detail
-use Rattle.shipment_machine.specs.Texts.{detail_text, refused_with, flight_date_text}
+use Rattle.shipment_machine.specs.Effect.{detail_text, refused_with, flight_date_text}
 use Rattle.station_core.specs.declared.answer.Answer.{Answer}
 use Rattle.station_core.specs.declared.answer.Answer.TheVariants.{Done, Refused}
 use Rattle.http_desk.specs.Reply.{answer_reply, ok_data, refused_data}
 use Rattle.desk_client.specs.Content.{ok_line, refused_line, refused_told, refusal_told, count_of, count_told, told_line}
-use Rattle.desk_client.specs.Law.{AreFew, HasFew, reply_line}
+use Rattle.desk_client.specs.Printed.{AreFew, HasFew, reply_line}
 
 -- what an object of a desk has
 ok_named : (count : ℕ) → count_of (codes "count") (ok_data count) ≡ Some count

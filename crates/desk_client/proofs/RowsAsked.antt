@@ -1,7 +1,7 @@
 -- A question for rows, by the tries and by what was printed after them.
 use Rattle.desk_client.proofs.Common.{AskFault, Bool, Err, Form, Given, HasTaken, HasTalked, HasTried, HasTriedThrice, IsRefused, List, None, Ok, Option, Response, Result, RunFault, Some, Talk, ap, inl, inr, refl, service_fault, ℕ, ⊎_elim, ◌≡◌}
-use Rattle.cli_run.specs.declared.fault.RunFault.TheVariants as run
-use Rattle.desk_client.specs.Looks.{rows_request, shown, HasAskedRows, HasShownTaken, IsTakenRows}
+use Rattle.cli_run.specs.declared.telling.RunFault.TheVariants as run
+use Rattle.desk_client.specs.Done.{rows_request, shown, HasAskedRows, HasShownTaken, IsTakenRows}
 use Rattle.desk_client.specs.declared.ask.AskFault.TheVariants as fault
 use Rattle.desk_client.specs.declared.ask.Until.TheVariants as until
 use Rattle.desk_client.proofs.Asking.{asked}

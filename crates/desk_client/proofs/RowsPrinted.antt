@@ -1,7 +1,7 @@
 -- Rows that are printed as they come, after the tries that began them.
 use Rattle.desk_client.proofs.Common.{AskFault, Bool, Err, Form, Given, HasPrinted, HasPrintedBody, HasReadOn, List, PrintFault, Response, Result, RunFault, Talk, ap, body_of, by_time, call_ended, false, last_after, service_fault, subst, true, ℕ, ◌∙◌, ◌≡◌}
 use Rattle.desk_client.specs.declared.ask.AskFault.TheVariants as fault
-use Rattle.desk_client.specs.declared.connect.LastTry.TheVariants as last
+use Rattle.desk_client.specs.declared.reading.LastTry.TheVariants as last
 use Rattle.desk_client.specs.declared.printing.PrintFault.TheVariants as print
 
 -- a reader whose time ran out has failed

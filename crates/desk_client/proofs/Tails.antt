@@ -1,7 +1,7 @@
 -- Whether a text ends as a report does is decided by its tail.
 use Rattle.desk_client.proofs.Common.{Bool, Form, List, [], and-false, and_parts, ap, append_assoc, arith, before_digits, behind_digits, bytes_eq, codes, drop, drop-append_seam, ends_with, false, has_count, has_count_in, has_end, if◌then◌else◌, is_before_count, is_before_json_count, is_digit, length, length-append, length-drop, list_all, ltb-false, ltb-true, mark_of, nat_lt, nat_tests, not, refl, reverse, reverse-append, reverse-reverse, suc, sym, take, take-append-drop, take-append_seam, true, where_true, without, ℕ, ◌&&◌, ◌++◌, ◌-◌, ◌==◌, ◌||◌, ◌∙◌, ◌∷◌, ◌≡◌, ◌≤◌}
 use Rattle.std.specs.Cmp.Lexicographic.{pointwise, unequal}
-use Rattle.reports.specs.declared.form.Form.TheVariants as form
+use Rattle.reports.specs.declared.layout.Form.TheVariants as form
 
 -- a byte isn't among these
 abbrev lacks : ℕ → List ℕ → Bool

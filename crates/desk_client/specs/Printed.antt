@@ -1,18 +1,28 @@
 -- Reports printed as they arrive.
-use Rattle.std.specs.Prelude.{◌≡◌, ◌⊎◌, ◌<◌, ◌≤◌, ℕ, Bool, true, false, List, [], ◌∷◌, ◌++◌, drop, length, Result, Ok, Err, ⊤}
-use Rattle.desk_client.specs.Common.{HasCause, HasSent, NoneFailed, Given, RunFault, Form, HasFailed, HasGrown}
-use Rattle.cli_run.specs.declared.fault.RunFault.TheVariants as run
-use Rattle.desk_client.specs.Again.{Talk}
-use Rattle.desk_client.specs.Ended.{has_end}
-use Rattle.desk_client.specs.Front.{mark_of, IsFront}
-use Rattle.desk_client.specs.Heard.{body_of, service_fault}
-use Rattle.desk_client.specs.declared.ask.Response.{Response}
-use Rattle.desk_client.specs.declared.ask.AskFault.{AskFault}
+use Rattle.std.specs.Prelude.{◌≡◌, ℕ, List, ◌++◌, Result, Ok, Err, ⊤, ◌⊎◌, ◌<◌, ◌≤◌, Bool, true, false, [], ◌∷◌, drop, length, ◌^◌, Option, None}
+use Rattle.desk_client.specs.Common.{Given, HasCause, HasSent, NoneFailed, RunFault, Form, HasFailed, Detail, Answer, Done, Refused, Reply, history_reply, json_reply, look_reply, report_reply, RequestHead, print_request, HeadAsks, head_asks, key_of, head_of, HasHead, AskFault, Response, LastTry}
+use Rattle.cli_run.specs.declared.telling.RunFault.TheVariants as run
+use Rattle.shipment_machine.specs.declared.plans.Detail.TheVariants as detail
+use Rattle.desk_client.specs.Try.{Talk}
+use Rattle.desk_client.specs.Whole.{has_end, mark_of, IsFront}
+use Rattle.desk_client.specs.Content.{body_of, service_fault, told_line}
 use Rattle.desk_client.specs.declared.ask.AskFault.TheVariants as fault
-use Rattle.desk_client.specs.declared.connect.LastTry.{LastTry}
-use Rattle.desk_client.specs.declared.connect.LastTry.TheVariants as last
+use Rattle.desk_client.specs.declared.reading.LastTry.TheVariants as last
 use Rattle.desk_client.specs.declared.printing.PrintFault.{PrintFault}
 use Rattle.desk_client.specs.declared.printing.PrintFault.TheVariants as print
+
+-- The bytes received of an answer.
+
+-- some bytes were read, or none
+abbrev pub HasGiven : Given → Given → Type 0
+HasGiven old new = (part : List ℕ) × (new.bytes ≡ old.bytes ++ part)
+
+-- a reader stops if it fails, or if memory runs out
+abbrev pub IsReadersFault : {T : Type 0} → Result T AskFault → Type 0
+IsReadersFault (Ok x) = ⊤
+IsReadersFault (Err fault.Read) = ⊤
+IsReadersFault (Err fault.Memory) = ⊤
+IsReadersFault (Err _) = ⊥
 
 -- the held text of a report: the byte that was printed last, and at least two that aren't printed
 pub record IsHeld (form : Form) (held : List ℕ) : Type 0 where
@@ -46,17 +56,6 @@ HasPrintedLast held old new (Ok x) = (has_end held ≡ true) × (new.bytes ≡ o
 HasPrintedLast held old new (Err print.Write) = HasSent (drop 1 held) old new × HasCause old new
 HasPrintedLast held old new (Err (print.Rest fault.Cut)) = (has_end held ≡ false) × (new ≡ old)
 HasPrintedLast held old new (Err (print.Rest _)) = ⊥
-
--- This much of a body had been received, and then more. All but the held text was printed.
-pub record HasPrintedSome (form : Form) (body held : List ℕ) (read_old read_new old new : Given) : Type 0 where
-  pub come : List ℕ
-  pub grown : HasGrown read_old read_new [] come
-  pub done : List ℕ
-  pub text_is : body ++ come ≡ done ++ held
-  pub held_so : IsHeld form held
-  pub printed : new.bytes ≡ old.bytes ++ (done ++ mark_of form ∷ [])
-  pub unended : has_end (done ++ mark_of form ∷ []) ≡ false
-  pub smooth : NoneFailed old new
 
 -- a printable prefix of a text was printed, and no write failed
 pub record HasPrintedFront (form : Form) (text : List ℕ) (old new : Given) : Type 0 where
@@ -112,3 +111,30 @@ pub record HasPrinted (form : Form) (a : Response) (talk_old talk_new : Talk) (o
   pub same : HasReadOn talk_old talk_new
   pub last_is : talk_new.last ≡ last_after ended talk_old.last
   pub result_is : result ≡ call_ended ended
+
+-- The line in a reply.
+
+abbrev pub reply_line : Reply → Option (List ℕ)
+reply_line (json_reply status allow d) = told_line status d
+reply_line (look_reply seen) = None
+reply_line (history_reply w known) = None
+reply_line (report_reply name) = None
+
+-- the number of pieces fits into 64 bits, and a count into 32
+abbrev pub AreFew : Detail → Type 0
+AreFew (detail.Pieces pieces) = pieces < 2 ^ 64
+AreFew _ = ⊤
+
+abbrev pub HasFew : Answer → Type 0
+HasFew (Done reply) = reply.count < 2 ^ 32
+HasFew (Refused refusal) = AreFew refusal.detail
+
+-- A desk's reading of a request.
+
+-- the bytes begin with a head of this request and this key, and this body follows
+pub record IsRead (bytes : List ℕ) (asks : HeadAsks) (key : Option (List ℕ)) (body : List ℕ) : Type 0 where
+  pub head : RequestHead
+  pub has : HasHead bytes head
+  pub asks_is : head_asks (head_of head) ≡ asks
+  pub key_is : key_of (head_of head).fields ≡ key
+  pub body_is : drop (length (print_request head)) bytes ≡ body

@@ -1,12 +1,58 @@
--- Whole answers.
-use Rattle.std.specs.Prelude.{◌≡◌, ◌⊎◌, ◌≤◌, ◌<◌, ◌==◌, ◌||◌, ℕ, Bool, true, false, Option, Some, None, List, [], ◌∷◌, ◌++◌, drop, length, map, codes}
-use Rattle.desk_client.specs.Common.{ResponseHead, ReadsResponse, HasNoResponse, MayBecomeResponse, status_code, name_and_value, number_told, media_type, values_of, Form}
-use Rattle.reports.specs.declared.form.Form.TheVariants as form
-use Rattle.desk_client.specs.Ended.{behind, has_end}
+-- Whole answers, and the ends of reports.
+use Rattle.std.specs.Prelude.{◌==◌, ◌||◌, ◌&&◌, ◌-◌, ℕ, Bool, false, nat_lt, List, [], ◌∷◌, length, take, drop, reverse, codes, Option, Some, None, if◌then◌else◌, ◌≡◌, ◌⊎◌, ◌≤◌, ◌<◌, true, ◌++◌, map, ◌+◌}
+use Rattle.desk_client.specs.Common.{ends_with, pointwise, bytes_eq, where_true, is_digit, Form, ResponseHead, ReadsResponse, HasNoResponse, MayBecomeResponse, status_code, name_and_value, number_told, media_type, values_of}
+use Rattle.reports.specs.declared.layout.Form.TheVariants as form
 use Rattle.desk_client.specs.declared.whole.Extent.{Extent}
 use Rattle.desk_client.specs.declared.whole.Extent.TheVariants as extent
 use Rattle.desk_client.specs.declared.whole.Found.{Found}
 use Rattle.desk_client.specs.declared.whole.Found.TheVariants as found
+
+-- The end of a report: the line with the number of its rows, or the end of the JSON object.
+
+-- the text after the leading digits
+abbrev pub behind_digits : List ℕ → List ℕ
+behind_digits [] = []
+behind_digits (b ∷ bs) = if is_digit b then behind_digits bs else b ∷ bs
+
+abbrev pub before_digits : List ℕ → List ℕ
+before_digits text = reverse (behind_digits (reverse text))
+
+-- the text ends with digits, and with this before them
+abbrev pub has_count : (List ℕ → Bool) → List ℕ → Bool
+has_count is_front text = nat_lt (length (before_digits text)) (length text) && is_front (before_digits text)
+
+-- a text without `end`, if it ends with it
+abbrev pub without : List ℕ → List ℕ → Option (List ℕ)
+without end text =
+    where_true (pointwise ◌==◌ (drop (length text - length end) text) end) (take (length text - length end) text)
+
+-- the text after this prefix, if it begins with it
+abbrev pub behind : List ℕ → List ℕ → Option (List ℕ)
+behind front text =
+    where_true (bytes_eq (take (length front) text) front) (drop (length front) text)
+
+abbrev pub has_count_in : (List ℕ → Bool) → Option (List ℕ) → Bool
+has_count_in is_front None = false
+has_count_in is_front (Some text) = has_count is_front text
+
+-- the word of the last line, at the start of a line
+abbrev pub is_before_count : List ℕ → Bool
+is_before_count front = bytes_eq front (codes "END ") || ends_with ◌==◌ front (codes "\nEND ")
+
+-- the end of the rows in JSON
+abbrev pub is_before_json_count : List ℕ → Bool
+is_before_json_count front = ends_with ◌==◌ front (codes "],\"count\":")
+
+-- the end of a report in a form: a line such as `END 12`, or `],"count":12}` and the line's end
+abbrev pub ends_in : Form → List ℕ → Bool
+ends_in form.Text text = has_count_in is_before_count (without (codes "\n") text)
+ends_in form.Json text = has_count_in is_before_json_count (without (codes "}\n") text)
+
+-- the text ends as a report does, in one of the forms
+abbrev pub has_end : List ℕ → Bool
+has_end text = ends_in form.Text text || ends_in form.Json text
+
+-- Whole answers.
 
 abbrev pub most_fields : ℕ
 most_fields = 16
@@ -119,3 +165,29 @@ abbrev pub IsFound : List ℕ → Found → Type 0
 IsFound bytes (found.Whole place) = (place.start ≤ length bytes) × IsWhole bytes place.status (drop place.start bytes)
 IsFound bytes found.Cut = IsNotWhole bytes × IsCutShort bytes
 IsFound bytes found.Foreign = IsNeverWhole bytes
+
+-- The prefix of a report that can be printed before the rest is received.
+
+-- the byte that ends a row: of its line, and in JSON of its object
+abbrev pub mark_of : Form → ℕ
+mark_of form.Text = 10
+mark_of form.Json = 125
+
+-- A printable prefix of a report ends with a row, and not like a whole report.
+pub record IsFront (form : Form) (front : List ℕ) : Type 0 where
+  pub before : List ℕ
+  pub ends : front ≡ before ++ mark_of form ∷ []
+  pub unended : has_end front ≡ false
+
+-- a text has a printable prefix up to `end`, and more after it
+pub record IsFrontEnd (form : Form) (text : List ℕ) (end : ℕ) : Type 0 where
+  pub some : 3 ≤ end
+  pub more : end + 2 ≤ length text
+  pub ends : take end text ≡ take (end - 1) text ++ mark_of form ∷ []
+  pub unended : has_end (take end text) ≡ false
+
+-- the bytes are a report's, whose body starts at `start` and has this printable prefix
+pub record IsBegun (form : Form) (bytes : List ℕ) (start end : ℕ) : Type 0 where
+  pub within : start ≤ length bytes
+  pub report : IsReport form bytes (drop start bytes)
+  pub front : IsFrontEnd form (drop start bytes) end

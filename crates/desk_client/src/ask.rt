@@ -1,16 +1,14 @@
 //! Sending a question, in up to three tries.
+
 ghost use Rattle.std.specs.Prelude.{◌≡◌};
-ghost use Rattle.desk_client.specs.Try.{by_time, HasAsked, HasRead, HasSent, HasUnderstood};
-ghost use Rattle.desk_client.specs.Again.{is_vain, last_of, talk, Talk, IsRefusedOrTalked, HasTried, HasTriedTwice, HasTriedThrice, IsAnswered};
-ghost use Rattle.desk_client.specs.Looks.{shown, HasAskedRows};
-ghost use Rattle.desk_client.specs.Request.{most_of, request_of};
+ghost use Rattle.desk_client.specs.Try.{by_time, HasAsked, HasRead, HasSent, HasUnderstood, is_vain, last_of, talk, Talk, IsRefusedOrTalked, HasTried, HasTriedTwice, HasTriedThrice, IsAnswered, most_of, request_of};
+ghost use Rattle.desk_client.specs.Done.{shown, HasAskedRows};
 ghost use Rattle.desk_client.specs.Common.{rows_path};
 
-use crate::connect::{Connect, LastTry, RemoteDesk};
-use crate::front::begun_in;
-use crate::line::service_fault;
+use crate::ended::begun_in;
+use crate::lines::service_fault;
 use crate::question::{Question, most_of, request_of};
-use crate::reading::{read_all, read_more};
+use crate::reading::{Connect, LastTry, RemoteDesk, read_all, read_more};
 use crate::report::show_answer;
 use crate::whole::{Found, found_in};
 use cli_run::RunFault;

@@ -1,12 +1,12 @@
 //! Look-ups of numbers, and histories of waybills.
 ghost use Rattle.std.specs.Prelude.{◌≡◌, ◌++◌, []};
 ghost use Rattle.desk_client.specs.Common.{list_all, is_printable};
-ghost use Rattle.desk_client.specs.Looks.{has_found, has_object_front, history_look, is_text_byte, is_unknown, object_look, shown, HasLooked, HasShownFound, HasShownUnknown};
-ghost use Rattle.desk_client.specs.Request.{get_request, history_path, most_of, most_row_bytes, request_of};
+ghost use Rattle.desk_client.specs.Done.{has_found, has_object_front, history_look, is_text_byte, is_unknown, object_look, shown, HasLooked, HasShownFound, HasShownUnknown};
+ghost use Rattle.desk_client.specs.Try.{get_request, history_path, most_of, most_row_bytes, request_of};
 
 use crate::ask::{Ask, Response};
 use crate::ended::behind;
-use crate::line::service_fault;
+use crate::lines::service_fault;
 use crate::question::Question;
 use awb_number::Awb;
 use cli_run::{RunFault, send_part, send_word};

@@ -1,7 +1,7 @@
 //! The JSON body of a stock order.
 ghost use Rattle.std.specs.Prelude.{◌≡◌, IfOk, IsTrue, string_bytes};
 ghost use Rattle.desk_client.specs.Common.{view, is_agent_code, order_verb, IsRun};
-ghost use Rattle.desk_client.specs.Orders.{agents_data, agents_object, run_data, run_object, IsOrderText, IsTextOf};
+ghost use Rattle.desk_client.specs.Done.{agents_data, agents_object, run_data, run_object, IsOrderText, IsTextOf};
 
 use agent_stock::{AgentCode, Order, Run};
 use awb_number::ascii_text;

@@ -1,11 +1,11 @@
 //! Printing a report as it arrives.
+
 ghost use Rattle.std.specs.Prelude.{◌≡◌};
-ghost use Rattle.desk_client.specs.Front.{IsFrontEnd};
+ghost use Rattle.desk_client.specs.Whole.{IsFrontEnd};
 ghost use Rattle.desk_client.specs.Printed.{HasPrintedBody, HasPrintedLast, HasTurned, IsHeld};
 
 use crate::ask::AskFault;
-use crate::ended::has_end;
-use crate::front::front_end;
+use crate::ended::{front_end, has_end};
 use crate::reading::read_more;
 use cli_run::send_part;
 use reports::Form;

@@ -1,13 +1,21 @@
 //! Questions to a service, and their requests.
+//! A service as what answers the inputs of a command line.
+
 ghost use Rattle.std.specs.Prelude.{◌≡◌, ◌++◌, [], IfOk, length, string_bytes};
 ghost use Rattle.desk_client.specs.Common.{rows_path};
-ghost use Rattle.desk_client.specs.Request.{command_lines, key_line, command_head, get_request, history_path, holder_path, length_line, most_of, request_of, telegram_head, waybill_path};
+ghost use Rattle.desk_client.specs.Try.{command_lines, key_line, command_head, get_request, history_path, holder_path, length_line, most_of, request_of, telegram_head, waybill_path, talked};
+ghost use Rattle.desk_client.specs.Done.{HasAnsweredRow, HasAnsweredLine, HasAnsweredText};
 
+use crate::ask::Ask;
+use crate::lines::{answer_asked, answer_line, question_by};
+use crate::rows::answer_row;
 use awb_number::Awb;
+use cli_run::{Answering, LineCount, Request, RowPlace, RunFault};
+use csv::ByteRecord;
 use desk_commands::Verb;
 use http_desk::rows_path;
 use reports::{Form, Listing};
-use station_core::Key;
+use station_core::{ByteOut, Key};
 use std::alloc::{AllocError, Global};
 
 /// The largest size of an answer that is one JSON object.
@@ -133,5 +141,61 @@ pub(crate) fn request_of(alloc: Global, question: &Question<'_>) -> Result<Vec<u
             let path = rows_path(alloc, listing, *form)?;
             get_request(alloc, path.as_str())
         }
+    }
+}
+
+/// The way of a service: each input is sent as a question.
+#[derive(Clone, Copy)]
+pub(crate) struct ByService;
+
+impl<S: Ask, E: ByteOut> Answering<S, E> for ByService {
+    ghost answered_row = { λ way number row old new result.
+        HasAnsweredRow E.taken number row (talked S.talk old) (talked S.talk new) result };
+
+    ghost answered_line = { λ way number line old new result.
+        HasAnsweredLine E.taken number line (talked S.talk old) (talked S.talk new) result };
+
+    ghost answered = { λ way head text asked old new result.
+        HasAnsweredText S.talk E.taken head text asked old new result };
+
+    fn answer_row<W: ByteOut>(
+        &self,
+        alloc: Global,
+        desk: &mut S,
+        writer: &mut W,
+        errors: &mut E,
+        number: u64,
+        lines: &LineCount,
+        row: &ByteRecord,
+    ) -> Result<bool, RunFault> {
+        let line = lines.first_line(row);
+        let place = RowPlace { number, line };
+        answer_row(alloc, desk, writer, errors, place, row)
+    }
+
+    fn answer_line<W: ByteOut>(
+        &self,
+        alloc: Global,
+        desk: &mut S,
+        writer: &mut W,
+        errors: &mut E,
+        number: u64,
+        line: &[u8],
+    ) -> Result<bool, RunFault> {
+        answer_line(alloc, desk, writer, errors, number, line)
+    }
+
+    fn answer<W: ByteOut>(
+        &self,
+        alloc: Global,
+        desk: &mut S,
+        writer: &mut W,
+        errors: &mut E,
+        head: Option<(Verb, Key)>,
+        text: &[u8],
+        asked: &Request<'_>,
+    ) -> Result<bool, RunFault> {
+        let question = question_by(head, text);
+        answer_asked(alloc, desk, writer, errors, None, asked, &question)
     }
 }

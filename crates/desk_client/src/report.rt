@@ -1,15 +1,15 @@
 //! Printing the answer to a question for rows.
 ghost use Rattle.std.specs.Prelude.{◌≡◌};
-ghost use Rattle.desk_client.specs.Again.{talk};
-ghost use Rattle.desk_client.specs.Front.{IsBegun};
-ghost use Rattle.desk_client.specs.Looks.{HasShownRows, HasShownTaken, IsTakenRows};
+ghost use Rattle.desk_client.specs.Try.{talk};
+ghost use Rattle.desk_client.specs.Whole.{IsBegun};
+ghost use Rattle.desk_client.specs.Done.{HasShownRows, HasShownTaken, IsTakenRows};
 ghost use Rattle.desk_client.specs.Printed.{HasPrinted};
 
 use crate::ask::Response;
-use crate::connect::{Connect, LastTry, RemoteDesk};
 use crate::ended::ends_in;
-use crate::line::service_fault;
+use crate::lines::service_fault;
 use crate::printing::{PrintFault, print_report};
+use crate::reading::{Connect, LastTry, RemoteDesk};
 use crate::whole::is_of_form;
 use cli_run::{RunFault, send_part};
 use reports::Form;

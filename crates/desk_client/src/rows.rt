@@ -1,10 +1,10 @@
 //! The rows of a stock list.
 ghost use Rattle.std.specs.Prelude.{◌≡◌, Err};
 ghost use Rattle.desk_client.specs.Common.{fields_of, call};
-ghost use Rattle.desk_client.specs.ListRows.{HasAnsweredOrder, HasAnsweredRow};
+ghost use Rattle.desk_client.specs.Done.{HasAnsweredOrder, HasAnsweredRow};
 
 use crate::ask::Ask;
-use crate::line::answer_input;
+use crate::lines::answer_input;
 use crate::order::{order_body, verb_of};
 use crate::question::Question;
 use agent_stock::Order;

@@ -1,11 +1,16 @@
 //! Running a command of the command line with a service.
-ghost use Rattle.desk_client.specs.Common.{call};
-ghost use Rattle.desk_client.specs.Done.{HasDone};
+//! Laws of the lines, and of whole answers.
 
-use crate::answering::ByService;
+ghost use Rattle.desk_client.specs.Common.{call, Answer, answer_text, answer_reply, number_of, number_text, IsNumber, word, Verb, looks_up, sends, most_bytes, IsListed, report_path, rows_path, Form, Listing, Report, as_text, in_form, posted_command, posted_telegram, got_history, got_holder, got_report, got_waybill, is_key};
+ghost use Rattle.desk_client.specs.Done.{HasDone};
+ghost use Rattle.std.specs.Prelude.{◌≡◌, ◌⊎◌, ◌++◌, ◌≤◌, [], ℕ, List, Some, None, length, true, false};
+ghost use Rattle.desk_client.specs.Printed.{HasFew, reply_line, IsRead};
+ghost use Rattle.desk_client.specs.Whole.{has_end, IsCutShort, IsReport, IsWhole};
+ghost use Rattle.desk_client.specs.Try.{command_head, telegram_head, get_request, history_path, holder_path, waybill_path};
+
 use crate::ask::Ask;
 use crate::looks::{ask_history, ask_number};
-use crate::question::Question;
+use crate::question::{ByService, Question};
 use cli_run::{Inputs, RunFault, answer_acts, answer_input, answer_list, answer_takes};
 use cli_words::LineCommand;
 use reports::{Listing, Report};
@@ -64,4 +69,53 @@ pub fn ask_command<S: Ask, I: Inputs + Read, W: ByteOut, E: ByteOut>(
         | LineCommand::Read(_)
         | LineCommand::Serve { .. } => Ok(true),
     }
+}
+
+/// The reply of a desk to an input has the line that the command line prints for the same answer.
+pub fn lines_law()
+    ensures { (a : Answer) → HasFew a → reply_line (answer_reply a) ≡ Some (answer_text a) }
+{}
+
+/// The received bytes are at most one whole answer, so the result is a function of them. A whole
+/// answer isn't a prefix of another, unless its body ends with a report's last line: so no answer
+/// with a length is taken as whole if it was cut. A report of which a prefix was received becomes a
+/// whole answer with its rest if that ends like a report, and is cut otherwise.
+pub fn whole_law()
+    ensures one { (bytes : List ℕ) (s t : ℕ) (b c : List ℕ) → IsWhole bytes s b → IsWhole bytes t c
+        → (s ≡ t) × (b ≡ c) }
+    ensures cut { (front more : List ℕ) (s t : ℕ) (b c : List ℕ) → IsWhole front s b
+        → IsWhole (front ++ more) t c → (more ≡ []) ⊎ (has_end b ≡ true) }
+    ensures begun { (f : Form) (bytes body more : List ℕ) → IsReport f bytes body
+        → has_end (body ++ more) ≡ true → IsWhole (bytes ++ more) 200 (body ++ more) }
+    ensures broken { (f : Form) (bytes body more : List ℕ) → IsReport f bytes body
+        → has_end (body ++ more) ≡ false → IsCutShort (bytes ++ more) }
+{}
+
+/// A desk reads each request as intended. A command is read as a post of the verb with this key and
+/// this body, a telegram as its post with this text and without a key, a waybill, a history and a
+/// number as the look-up of that number, and a report, or a part of one, as those rows in that
+/// form.
+pub fn request_law()
+    ensures command { (verb : Verb) (key body : List ℕ) → is_key key ≡ true
+        → length body ≤ most_bytes → IsRead (command_head (word verb) key (length body) ++ body)
+        (sends (posted_command verb) (length body)) (Some key) body }
+    ensures telegram { (text : List ℕ) → length text ≤ most_bytes
+        → IsRead (telegram_head (length text) ++ text) (sends posted_telegram (length text)) None
+        text }
+    ensures report { (name : Report)
+        → IsRead (get_request (report_path name) ++ []) (looks_up (got_report (as_text name)))
+        None [] }
+    ensures waybill { (w : ℕ) → IsNumber w
+        → IsRead (get_request (waybill_path w) ++ []) (looks_up (got_waybill (number_text w)))
+        None [] × (number_of (number_text w) ≡ Ok w) }
+    ensures history { (w : ℕ) → IsNumber w
+        → IsRead (get_request (history_path w) ++ []) (looks_up (got_history (number_text w)))
+        None [] × (number_of (number_text w) ≡ Ok w) }
+    ensures holder { (w : ℕ) → IsNumber w
+        → IsRead (get_request (holder_path w) ++ []) (looks_up (got_holder (number_text w)))
+        None [] × (number_of (number_text w) ≡ Ok w) }
+    ensures rows { (l : Listing) (f : Form) → IsListed l
+        → IsRead (get_request (rows_path l f) ++ []) (looks_up (got_report (in_form f l))) None [] }
+{
+    http_desk::routes_law();
 }

@@ -1,10 +1,10 @@
 //! The exit status of a call to a service, and its fault line.
 ghost use Rattle.std.specs.Prelude.{◌≡◌, ◌++◌, ◌∷◌, [], Some, decimal, IfErr, OnOk, option_map};
 ghost use Rattle.desk_client.specs.Common.{SendsLine};
-ghost use Rattle.desk_client.specs.Status.{fault_line, fault_text, fault_why, last_why, service_text, status_of};
+ghost use Rattle.desk_client.specs.Content.{fault_line, fault_text, fault_why, last_why, service_text, status_of};
 
 use crate::ask::AskFault;
-use crate::connect::LastTry;
+use crate::reading::LastTry;
 use cli_run::{RunFault, send_part, tell_line, tell_word};
 use itoa::Buffer;
 use station_core::ByteOut;

@@ -5,7 +5,7 @@ use Rattle.jiff_core.specs.Calendar.{days_in_month, is_leap_year}
 use Rattle.station_days.proofs.DateLaws.{year_high}
 use Rattle.station_days.proofs.DateOnLaws.{IsDateAfter, date_of_moment, date_names_day}
 use Rattle.desk_commands.proofs.Steps.{some_is, passed, passes}
-use Rattle.desk_commands.specs.Day.{day_line, day_of}
+use Rattle.desk_commands.specs.Command.{day_line, day_of}
 
 -- ---- the day of a text
 

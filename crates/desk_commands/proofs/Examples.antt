@@ -1,7 +1,7 @@
 -- Commands and their texts, computed.
 use Rattle.desk_commands.proofs.Common.{Book, Cargo, Depart, FlightDate, Issue, List, Missing, None, Some, Stock, [], codes, command_text, refl, ℕ, ◌++◌, ◌∷◌, ◌≡◌}
 use Rattle.std.specs.Fmt.{digits}
-use Rattle.desk_commands.specs.Day.{day_line}
+use Rattle.desk_commands.specs.Command.{day_line}
 
 -- a text and a line behind it
 infixl 10 ◌⏎◌

@@ -1,7 +1,7 @@
 -- What fields hold fits their kinds.
 use Rattle.desk_commands.proofs.Common.{Absent, Field, FieldValue, Flight, IsCount, IsDesignator, IsPieces, IsTenths, Kind, List, Number, Text, [], arith, kind_of, length, suc, true, zero, ℕ, ⊤, ◌<◌, ◌∷◌, ◌≡◌, ◌≤◌}
 use Rattle.desk_commands.specs.declared.verb.Kind.TheVariants as kind
-use Rattle.desk_commands.specs.Day.{day_line}
+use Rattle.desk_commands.specs.Command.{day_line}
 use Rattle.desk_commands.proofs.Free.{free}
 
 -- texts without an end of a line, numbers and flights in their ranges, and what may be left out

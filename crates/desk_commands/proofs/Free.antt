@@ -1,7 +1,7 @@
 -- Texts that hold no end of a line.
 use Rattle.desk_commands.proofs.Common.{Bool, Designator, IsDesignator, List, [], and_from, and_parts, ap, arith, check_digit, date_on, decimal, digits-padded, false, flight_code, flight_text, is_agent_code, is_airport, is_carrier, is_digit, is_end, is_goods, is_letter, is_letter_or_digit, is_name, is_printable, list_all, list_all-append, ne_eqb, not, not_from_false, number_text, padded, prefix_of, refl, serial_of, sym, true, year_of, ℕ, ◌++◌, ◌<◌, ◌^◌, ◌∙◌, ◌∷◌, ◌≡◌}
 use Rattle.imp_fields.proofs.WrittenLaws.{all_weaker, decimal_digits}
-use Rattle.desk_commands.specs.Day.{day_line}
+use Rattle.desk_commands.specs.Command.{day_line}
 
 abbrev pub free : List ℕ → Bool
 free text = list_all (λ b. not (is_end b)) text

@@ -3,12 +3,12 @@
 ghost use Rattle.std.specs.Prelude.{◌≡◌, Ok, IfOk, IfErr, count_by};
 ghost use Rattle.desk_commands.specs.Common.{view};
 ghost use Rattle.desk_commands.specs.Body.{IsBodyOf, member_says, field_says, fields_say, body_says};
-ghost use Rattle.desk_commands.specs.FieldValue.{is_present};
+ghost use Rattle.desk_commands.specs.Command.{is_present};
 ghost use Rattle.desk_commands.specs.declared.command.Command.{Command as AnyCommand};
 
 use crate::command::{Command, command_of};
+use crate::day::Text;
 use crate::field_value::FieldValue;
-use crate::text::Text;
 use crate::verb::{Field, Kind, Verb, places};
 use imp_fields::Flight;
 use serde_json::Value;

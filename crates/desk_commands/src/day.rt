@@ -2,10 +2,40 @@
 
 ghost use Rattle.std.specs.Prelude.{◌≡◌, ◌≤◌, option_map, IfSome};
 ghost use Rattle.desk_commands.specs.Common.{IsAscii, decimal_value, where_true};
-ghost use Rattle.desk_commands.specs.Day.{is_calendar_day, day_line, date_in, year_part, if_written, day_of};
+ghost use Rattle.desk_commands.specs.Command.{is_calendar_day, day_line, date_in, year_part, if_written, day_of};
 
 use awb_number::decimal;
 use station_days::{DayMonth, LocalDay, day_in_year};
+use std::marker::Model;
+
+/// A borrowed text.
+#[derive(Drop)]
+pub(crate) struct Text<'a> {
+    bytes: &'a [u8],
+}
+
+impl<'a> Model for Text<'a> {
+    ghost use Rattle.std.specs.Prelude.{List, ℕ};
+
+    ghost Value = { List ℕ };
+
+    ghost view = { λ a. a.bytes.now };
+}
+
+impl<'a> Text<'a> {
+    /// Wraps borrowed bytes.
+    pub(crate) fn new(bytes: &'a [u8]) -> Text<'a>
+        ensures { result ≡ bytes.now }
+    {
+        Text { bytes }
+    }
+
+    pub(crate) fn as_bytes(&self) -> &'a [u8]
+        ensures { result.now ≡ self.now }
+    {
+        self.bytes
+    }
+}
 
 /// Returns a day like `2026-01-12`, as in texts of commands and refusals.
 pub fn day_text(day: LocalDay) -> [u8; 10]
@@ -61,7 +91,7 @@ fn if_written(day: u32, text: &[u8]) -> Option<LocalDay>
 /// Reads a day such as `2026-01-12`, as `day_text` writes it.
 ///
 /// Returns `None` for any other text, and for a day before 2000-01-01 or after 2099-12-31.
-#[tactic(auto, unfolding(crate::specs::Day::day_of))]
+#[tactic(auto, unfolding(crate::specs::Command::day_of))]
 pub fn read_day(text: &[u8]) -> Option<LocalDay>
     ensures { result ≡ day_of text.now }
 {

@@ -2,10 +2,9 @@
 
 ghost use Rattle.std.specs.Prelude.{◌≡◌, ◌≤◌, ◌<◌, ◌^◌, IfSome, option_map};
 ghost use Rattle.desk_commands.specs.Common.{result_ok, number_of};
-ghost use Rattle.desk_commands.specs.FieldValue.{text_in, number_in, digits_of, digits_in, awb_of, awb_in, airport_in, airline_in, pieces_in, tenths_in, name_in, goods_in, agent_in, counted_in, count_in, flight_in, day_in, flight_date_in, flight_if_any_in, run_in};
+ghost use Rattle.desk_commands.specs.Command.{text_in, number_in, digits_of, digits_in, awb_of, awb_in, airport_in, airline_in, pieces_in, tenths_in, name_in, goods_in, agent_in, counted_in, count_in, flight_in, day_in, flight_date_in, flight_if_any_in, run_in};
 
-use crate::day::read_day;
-use crate::text::Text;
+use crate::day::{Text, read_day};
 use agent_stock::{AgentCode, Run, RunCount};
 use awb_number::{Awb, decimal};
 use imp_fields::{Airport, Flight, Goods, Name, Pieces, Tenths};

@@ -2,7 +2,7 @@
 
 ghost use Rattle.std.specs.Prelude.{◌≡◌, IfSome, option_map};
 ghost use Rattle.desk_commands.specs.Common.{find};
-ghost use Rattle.desk_commands.specs.Verb.{is_word, kind_of, name, places, row, verb_called, word};
+ghost use Rattle.desk_commands.specs.Command.{is_word, kind_of, name, places, row, verb_called, word};
 ghost use Rattle.desk_commands.specs.declared.verb.Verb.{Verb};
 
 use Field::{

@@ -2,7 +2,7 @@
 use Rattle.std.proofs.Common.{ℤ, Option, Some, None, IfSome}
 use Rattle.jiff_core.specs.declared.civil.datetime.DateTime.{DateTime}
 use Rattle.station_days.specs.Date.{LocalMinute}
-use Rattle.desk_server.specs.Clock.{IsMinuteOf, Shows}
+use Rattle.desk_server.specs.Served.{IsMinuteOf, Shows}
 use Rattle.desk_server.specs.declared.zone.Zone.{Zone}
 
 pub at_instant : (zone : Zone) (instant : ℤ) (P : DateTime → Type 0) (r : Option LocalMinute) → (local : DateTime) × Shows zone instant local × P local × IfSome r (IsMinuteOf local)

@@ -8,20 +8,15 @@ use Rattle.httparse.specs.Grammar.{RequestHead, print_request}
 use Rattle.station_days.specs.Date.{LocalMinute}
 use Rattle.station_core.specs.Given.{Given, nothing_given}
 use Rattle.station_core.specs.declared.answer.ActFault.TheVariants as act
-use Rattle.station_core.specs.declared.input.Input.{Input}
+use Rattle.station_core.specs.declared.answer.Input.{Input}
 use Rattle.station_core.specs.Keeping.{Keeping, IsAfterAnswered}
 use Rattle.station_core.specs.Step.{State, step, after_all}
 use Rattle.http_desk.specs.declared.serve.Served.{Served}
 use Rattle.http_desk.specs.declared.serve.ServeFault.{ServeFault}
 use Rattle.http_desk.specs.declared.serve.ServeFault.TheVariants as serve
-use Rattle.http_desk.specs.Answer.{head_room, most_fields, head_of, HasHead, SendsWhole, Replied, IsAnsweredAs, Answers}
-use Rattle.http_desk.specs.Reply.{body_reply, body_state}
-use Rattle.http_desk.specs.Request.{HeadAsks, refuses, looks_up, sends, head_asks, BodyAsks, bad_body, unreadable, looks_at, for_station}
-use Rattle.http_desk.specs.Routes.{Posted}
-use Rattle.http_desk.specs.Serving.{AsksInput, HasServed, IsAnswer, IsBrokenAt, IsPartOut}
-use Rattle.http_desk.specs.StationAfter.{StationAfter, station_after, WorksAt}
-use Rattle.desk_server.specs.Asked.{store_fault, AreAskedBy, HasServedInputs, WasWritten, IsWritten}
-use Rattle.desk_server.specs.Served.{Exchange, GoesOn, HasServedOne, HaveServed}
+use Rattle.http_desk.specs.Reply.{head_room, most_fields, head_of, HasHead, SendsWhole, Replied, IsAnsweredAs, Answers, body_reply, body_state, AsksInput, HasServed, IsAnswer, IsBrokenAt, IsPartOut, StationAfter, station_after, WorksAt}
+use Rattle.http_desk.specs.Request.{HeadAsks, refuses, looks_up, sends, head_asks, BodyAsks, bad_body, unreadable, looks_at, for_station, Posted}
+use Rattle.desk_server.specs.Served.{store_fault, AreAskedBy, HasServedInputs, WasWritten, IsWritten, Exchange, GoesOn, HasServedOne, HaveServed}
 use Rattle.desk_server.proofs.HeadFound.{Decided, head_found}
 
 abbrev Inputs : Type 0

@@ -5,8 +5,7 @@ use Rattle.std.proofs.lemmas.List.{length-append}
 use Rattle.std.proofs.lemmas.List.Elements.{All-nil, All-cons, All-append}
 use Rattle.station_core.specs.Given.{Given, nothing_given}
 use Rattle.station_core.specs.Keeping.{Keeping, IfWorks, KeepsSound, StaysIfBroken}
-use Rattle.http_desk.specs.StationAfter.{station_after}
-use Rattle.http_desk.specs.Serving.{HasServed}
+use Rattle.http_desk.specs.Reply.{station_after, HasServed}
 use Rattle.desk_server.specs.Served.{AtMost, Exchange, GoesOn, HasServedOne, HaveServed}
 
 -- over a writer that was fresh

@@ -1,3 +1,1 @@
 pub mod Served
-pub mod Asked
-pub mod Clock

@@ -3,11 +3,9 @@
 
 mod connections;
 mod held;
-mod laws;
 mod paced;
 mod server;
 mod zone;
 
-pub use laws::served_law;
-pub use server::{ServerFault, Setting, listen, serve};
+pub use server::{ServerFault, Setting, listen, serve, served_law};
 pub use zone::{Zone, moment_now, moment_of};

@@ -1,6 +1,9 @@
 //! Connections, which are read side by side and answered one after another.
+//! A law about the inputs of a service.
+
 ghost use Rattle.std.specs.Prelude.{◌≡◌, ◌≤◌, ℕ, ⊤, false, Ok, Err, IfOk, IsOk, MatchOption, length, List, All};
-ghost use Rattle.desk_server.specs.Served.{AtMost, Exchange, GoesOn, HasExplained, HasServedOne, HaveServed};
+ghost use Rattle.desk_server.specs.Served.{AtMost, Exchange, GoesOn, HasExplained, HasServedOne, HaveServed, HasServedInputs};
+ghost use Rattle.station_core.specs.Step.{State};
 
 use crate::connections::Connections;
 use crate::held::{Arrival, Held};
@@ -223,3 +226,12 @@ pub fn serve<N: Net, C: Clock, K: Keeper, E: ByteOut>(
     }
     Ok(())
 }
+
+/// However a service ends, reopening its station finds the state after the inputs that it answered
+/// and, if the station broke, perhaps one more. Each input was asked by a connection, at its
+/// moment.
+pub fn served_law<K: Keeper>()
+    ensures { (all : List Exchange) (s : State) (old new : K) → HaveServed K.keeping all old new
+        → K.keeping.keeps old s → K.keeping.is_broken old ≡ false → K.keeping.is_sound new
+        → HasServedInputs all s (K.keeping.is_broken new) (K.keeping.may_find new) }
+{}

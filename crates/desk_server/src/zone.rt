@@ -1,7 +1,7 @@
 ghost use Rattle.std.specs.Prelude.{◌≡◌, ◌↔◌, ◌+◌, ◌*◌, ◌<◌, ℤ, IsSome, IfSome};
 ghost use Rattle.jiff_core.specs.declared.civil.datetime.DateTime.{DateTime as AnyDateTime};
 ghost use Rattle.jiff_tz.specs.PosixReader.{read_whole};
-ghost use Rattle.desk_server.specs.Clock.{FollowsRule, Shows, IsMinuteOf, IsWithinDays};
+ghost use Rattle.desk_server.specs.Served.{FollowsRule, Shows, IsMinuteOf, IsWithinDays};
 
 use jiff::Timestamp;
 use jiff::civil::DateTime;

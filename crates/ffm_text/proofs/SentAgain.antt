@@ -2,7 +2,7 @@
 use Rattle.ffm_text.proofs.Common.{AreLoads, Bool, CalendarDay, Designator, IfSome, IsCalendarDay, IsCode, IsDesignator, IsLoad, IsPieces, List, Load, None, Ok, Option, ShipmentCode, Some, [], airport_code, amount_text, and_from, and_parts, ap, append-nil, arith, cargo_of, check_digit, code_letter, codes, date_code, date_text, decimal, digits-padded, eqb-true, false, ffm_lines, flight_code, flight_line_text, flight_text, goods_text, is_airport, is_blank, is_digit, is_letter_or_digit, is_printable, is_unread, leb-true, length, length-append, length-map, list_all, load_line, map, nat_le, normal_lines, not, number_text, padded, prefix_of, quantity_text, quantity_unread, refl, route_text, sent_text, serial_of, total_text, true, weight_text, ℕ, ◌%◌, ◌&&◌, ◌*◌, ◌++◌, ◌+◌, ◌/◌, ◌<◌, ◌∙◌, ◌∷◌, ◌≡◌, ◌≤◌}
 use Rattle.std.proofs.lemmas.Bool.Decides.{nat_tests}
 use Rattle.std.proofs.lemmas.List.Folds.{list_all-append}
-use Rattle.imp_fields.specs.Name.{is_goods, ends_in_blank}
+use Rattle.imp_fields.specs.Message.{is_goods, ends_in_blank}
 use Rattle.imp_fields.proofs.PutLaws.{length_decimal_short, length_decimal_five}
 use Rattle.imp_fields.proofs.SentLaws.{IsPlain, ArePlain, sent_normal, plain_line, ends_as_last, ends_in_none}
 use Rattle.imp_fields.proofs.WrittenLaws.{all_weaker}

@@ -5,7 +5,7 @@ use Rattle.imp_fields.specs.declared.amount.Quantity.{Quantity}
 use Rattle.imp_fields.specs.declared.fault.Why.TheVariants as why
 use Rattle.ffm_text.proofs.Laws.{cargo_has_no_fault}
 use Rattle.std.proofs.Math.Seq.{drop-cons}
-use Rattle.station_days.specs.Steps.{or_else}
+use Rattle.station_days.specs.Date.{or_else}
 
 -- a fault of the text, and not of the memory
 abbrev pub IsOfText : Why → Type 0

@@ -1,11 +1,14 @@
--- Flight manifest messages: a head, a flight line, lines of cargo, and a last line.
-use Rattle.std.specs.Prelude.{filter, ◌≡◌, ℕ, Bool, false, ◌&&◌, ◌||◌, ◌==◌, not, nat_eq, is_some, if◌then◌else◌, MatchBool, List, [], ◌∷◌, ◌++◌, length, take, drop, map, filter_map, slice_get, slice_index, slice_range, Option, Some, None, Result, Ok, Err, IsTrue, codes, option_and_then}
-use Rattle.ffm_text.specs.Common.{AllZip, list_all, list_any, starts_with, last_or, bytes_eq, is_digit, fields, count_of, written_code, Designator, flight_of, flight_text, is_airport, airport_of, CalendarDay, optional_time_of, two_digits_of, month_of, date_text, Shipment, WrittenLine, consignment_of, consignment_text, shipment_written, shipment_of, HasSpans, is_head, unless_true, err_of, fault_in, ◌>>=◌, need, Why, TextFault}
+-- Flight manifest messages.
+use Rattle.std.specs.Prelude.{filter, ◌≡◌, ℕ, Bool, false, ◌&&◌, ◌||◌, ◌==◌, not, nat_eq, is_some, if◌then◌else◌, MatchBool, List, [], ◌∷◌, ◌++◌, length, take, drop, map, filter_map, slice_get, slice_index, slice_range, Option, Some, None, Result, Ok, Err, IsTrue, codes, option_and_then, ◌≤◌, true}
+use Rattle.ffm_text.specs.Common.{AllZip, list_all, list_any, starts_with, last_or, bytes_eq, is_digit, fields, count_of, written_code, Designator, flight_of, flight_text, is_airport, airport_of, CalendarDay, optional_time_of, two_digits_of, month_of, date_text, Shipment, WrittenLine, consignment_of, consignment_text, shipment_written, shipment_of, HasSpans, is_head, unless_true, err_of, fault_in, ◌>>=◌, need, Why, TextFault, Token, IsNumber, number_text, IsPieces, IsBookTenths, is_goods, IsDesignator, most_waybills, IsCalendarDay, quantity_text}
 use Rattle.imp_fields.specs.declared.fault.Why.TheVariants as why
 use Rattle.ffm_text.specs.declared.Ffm.{Ffm}
 use Rattle.ffm_text.specs.declared.FfmLine.{FfmLine}
 use Rattle.ffm_text.specs.declared.Load.{Load}
 use Rattle.ffm_text.specs.declared.flight_line.Part.{Part}
+use Rattle.ffm_text.specs.declared.cargo.ManifestScan.{ManifestScan}
+
+-- Flight manifest messages: a head, a flight line, lines of cargo, and a last line.
 
 -- the part and the flight of a manifest, and the airport of loading
 pub record FlightLine : Type 0 where
@@ -160,3 +163,59 @@ manifest_written flight date here unload loads = record {
 -- the fields of each consignment are in its line
 abbrev pub HasFfmSpans : List (List ℕ) → Ffm → Type 0
 HasFfmSpans lines m = AllZip HasSpans (filter is_cargo_line (drop 2 lines)) (map (λ l. l.consignment) m.cargo.items)
+
+-- The state of a scan over the lines after a manifest's flight line.
+
+abbrev pub texts_of : List Token → List (List ℕ)
+texts_of tokens = map (λ t. t.text.now) tokens
+
+-- exactly the consignment lines among some lines, with their fields
+pub record AreCargo (lines : List (List ℕ)) (cargo : List FfmLine) : Type 0 where
+  pub read : IsCargo [] lines (map unloaded_of cargo)
+  pub spans : AllZip HasSpans (filter is_cargo_line lines) (map (λ l. l.consignment) cargo)
+
+-- the state after these lines
+pub record IsScan (lines : List (List ℕ)) (s : ManifestScan) : Type 0 where
+  pub point : s.point ≡ last_point lines
+  pub cargo : AreCargo lines s.cargo.items
+
+-- The text that writing a manifest appends.
+
+-- the first text is a prefix of the second
+abbrev pub Begins : List ℕ → List ℕ → Type 0
+Begins front text = take (length front) text ≡ front
+
+abbrev pub line_text : List ℕ → List ℕ
+line_text line = line ++ (13 ∷ 10 ∷ [])
+
+abbrev pub load_line : Load → List ℕ
+load_line l = consignment_text (cargo_of l)
+
+abbrev pub route_text : Load → List ℕ
+route_text l = number_text l.awb ++ l.origin ++ l.destination ++ (47 ∷ [])
+
+abbrev pub amount_text : Load → List ℕ
+amount_text l = quantity_text (cargo_of l).code l.pieces l.tenths (cargo_of l).total
+
+-- a load that the types of its fields allow
+pub record IsLoad (l : Load) : Type 0 where
+  pub awb : IsNumber l.awb
+  pub origin : is_airport l.origin ≡ true
+  pub destination : is_airport l.destination ≡ true
+  pub pieces : IsPieces l.pieces
+  pub tenths : IsBookTenths l.tenths
+  pub declared : IsPieces l.declared
+  pub goods : is_goods l.goods ≡ true
+
+abbrev pub AreLoads : List Load → Type 0
+AreLoads [] = Unit {0}
+AreLoads (l ∷ loads) = IsLoad l × AreLoads loads
+
+-- the values of a written manifest, as the types allow them
+pub record AreWritten (flight : Designator) (date : CalendarDay) (here unload : List ℕ) (loads : List Load) : Type 0 where
+  pub designator : IsDesignator flight
+  pub calendar_day : IsCalendarDay date
+  pub from : is_airport here ≡ true
+  pub to : is_airport unload ≡ true
+  pub each : AreLoads loads
+  pub few : length loads ≤ most_waybills

@@ -1,4 +1,2 @@
 pub mod Common
 pub mod Ffm
-pub mod Scan
-pub mod Written

@@ -2,11 +2,10 @@
 
 ghost use Rattle.std.specs.Prelude.{◌≡◌, ◌∷◌, ◌++◌, ◌≤◌, ◌<◌, ◌^◌, ℕ, List, [], length, map, Some, Ok, IfOk, IfErr, OnOk, option_map};
 ghost use Rattle.ffm_text.specs.Common.{consignment_of, shipment_of, HasSpans, fault_at, first_fault, IsFaultOf, most_lines};
-ghost use Rattle.ffm_text.specs.Ffm.{is_cargo_line, ordered_fault, cargo_fault, cargo_faults};
-ghost use Rattle.ffm_text.specs.Scan.{IsScan, AreCargo, texts_of};
+ghost use Rattle.ffm_text.specs.Ffm.{is_cargo_line, ordered_fault, cargo_fault, cargo_faults, IsScan, AreCargo, texts_of};
 
 use crate::FfmLine;
-use crate::point::unloading_point;
+use crate::reading::unloading_point;
 use imp_fields::{Airport, TextFault, Token, Why, fault_at, read_consignment};
 use std::alloc::{AllocError, Global};
 

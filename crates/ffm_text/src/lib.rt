@@ -7,15 +7,12 @@ ghost use Rattle.ffm_text.specs.Ffm.{Manifest, IsFfm, ffm_fault};
 
 mod cargo;
 mod flight_line;
-mod known;
-mod point;
 mod reading;
 mod writing;
 
 use awb_number::Awb;
 use imp_fields::{Airport, BookTenths, Consignment, Flight, Goods, PartNumber, Pieces};
-pub use point::unloading_point;
-pub use reading::read;
+pub use reading::{read, unloading_point};
 use station_days::DayMonth;
 pub use writing::write_ffm;
 

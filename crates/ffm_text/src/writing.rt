@@ -2,12 +2,11 @@
 
 ghost use Rattle.std.specs.Prelude.{◌≡◌, ◌≤◌, ◌++◌, ℕ, List, Ok, length, take, map, OnOk, OnErr};
 ghost use Rattle.ffm_text.specs.Common.{normal_lines, sent_text, goods_text, consignment_text, Designator, most_waybills, CalendarDay};
-ghost use Rattle.ffm_text.specs.Ffm.{IsFfm, cargo_of, flight_line_text, ffm_lines, manifest_written};
+ghost use Rattle.ffm_text.specs.Ffm.{IsFfm, cargo_of, flight_line_text, ffm_lines, manifest_written, AreWritten, Begins, line_text, load_line, route_text, amount_text};
 ghost use Rattle.ffm_text.specs.declared.Load.{Load};
-ghost use Rattle.ffm_text.specs.Written.{AreWritten, Begins, line_text, load_line, route_text, amount_text};
 
 use crate::Load;
-use crate::known::written_known;
+use crate::reading::written_known;
 use imp_fields::{Airport, Flight, Goods, ShipmentCode, put_quantity};
 use station_days::DayMonth;
 use std::alloc::AllocError;

@@ -4,8 +4,8 @@ use Rattle.std.specs.Fmt.{digits}
 use Rattle.imp_fields.specs.declared.fault.Why.TheVariants as why
 use Rattle.fsu_text.specs.declared.status.Handling.TheVariants.{ReceivedFromShipper, Notified, Delivered}
 use Rattle.fsu_text.specs.declared.status.Carriage.TheVariants.{Manifested, Departed}
-use Rattle.imp_fields.specs.declared.discrepancy.Discrepancy.TheVariants.{Offloaded, Missing, Found}
-use Rattle.imp_fields.specs.declared.waybill_summary.WaybillSummary.{WaybillSummary}
+use Rattle.imp_fields.specs.declared.line.Discrepancy.TheVariants.{Offloaded, Missing, Found}
+use Rattle.imp_fields.specs.declared.line.WaybillSummary.{WaybillSummary}
 use Rattle.fsu_text.specs.declared.sent.SentStatus.TheVariants as sent
 use Rattle.fsu_text.specs.declared.sent.SentCarriage.TheVariants as leaving
 

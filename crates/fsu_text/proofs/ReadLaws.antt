@@ -1,13 +1,13 @@
 -- What the lines of a message say, once they were read one by one.
 use Rattle.fsu_text.proofs.Common.{Bool, Err, IsFaultOf, IsFsu, List, None, Ok, Option, Quantity, Result, Some, Why, [], and_parts, ap, arith, codes, cond, consignment_by, consignment_of, drop, err_of, false, fault_at, first_fault, fsu_fault, get_or, has_consignment_shape, is_head, length, list_all, map, nat_le, number_of, or_else, quantity_of, quantity_part, refl, shipment_of, subst, take, true, unless_true, unless_true-holds, ℕ, ◌&&◌, ◌∙◌, ◌∷◌, ◌≡◌, ◌≤◌}
 use Rattle.awb_number.specs.declared.awb.AwbFault.{AwbFault}
-use Rattle.imp_fields.specs.Token.{is_line_token}
-use Rattle.imp_fields.specs.declared.token.Token.{Token}
+use Rattle.imp_fields.specs.Fields.{is_line_token}
+use Rattle.imp_fields.specs.declared.line.Token.{Token}
 use Rattle.imp_fields.specs.declared.fault.Why.TheVariants as why
 use Rattle.imp_fields.specs.declared.fault.TextFault.{TextFault}
 use Rattle.imp_fields.specs.declared.line.Consignment.{Consignment}
 use Rattle.fsu_text.specs.declared.status.StatusLine.{StatusLine}
-use Rattle.fsu_text.specs.Trail.{is_plain}
+use Rattle.fsu_text.specs.Sent.{is_plain}
 
 abbrev texts : List Token → List (List ℕ)
 texts tokens = map (λ t. t.text.now) tokens

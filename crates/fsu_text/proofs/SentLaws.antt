@@ -1,7 +1,7 @@
 -- What is sent is read again.
 use Rattle.fsu_text.proofs.Common.{CalendarDay, Carriage, Carried, Day, Designator, Differs, Discrepancy, Handled, Handling, IsCalendarDay, IsCode, IsSent, IsUpdate, List, None, Option, Quantity, Reading, ReceivedFromFlight, SentCarriage, SentStatus, SentUpdate, Some, When, [], airport_code, all_weaker, amount_of, and_from, and_parts, ap, append-nil, append_assoc, arith, carriage_of, carried_by, carried_of, codes, cond-false, cond-true, date_again, date_code, date_of, date_text, date_time_of, day_of, differs_by, differs_of, digits-padded, discrepancy_code, discrepancy_of, drop, drop_at, eqb-true, false, fields, flight_again, flight_code, flight_of, flight_text, handled_by, handled_of, handling_code, handling_of, is_digit, is_letter_or_digit, is_name, is_slash, is_unread, join_with_byte, join_with_byte-slice_split, length, length-append, list_all, list_all-append, minute_again, minute_of, name_of, name_tail, ne_eqb, not, not-true, onto_first, option_map, optional_time_again, optional_time_of, or_else, or_left, or_right, padded, quantity_again, quantity_of, quantity_unread, received_by, received_of, refl, route_of, sent_status_reading, sent_status_text, status_of, take, take_at, time_text, true, unread_is_no_slash, when_text, written_code, written_quantity, ℕ, ◌%◌, ◌++◌, ◌/◌, ◌<◌, ◌==◌, ◌>>=◌, ◌∙◌, ◌∷◌, ◌≡◌}
-use Rattle.imp_fields.specs.Airport.{is_airport, airport_of}
-use Rattle.imp_fields.specs.declared.discrepancy.Discrepancy.TheVariants as discrepancy
+use Rattle.imp_fields.specs.Fields.{is_airport, airport_of}
+use Rattle.imp_fields.specs.declared.line.Discrepancy.TheVariants as discrepancy
 use Rattle.fsu_text.specs.declared.status.Handling.TheVariants as handling
 use Rattle.fsu_text.specs.declared.status.Carriage.TheVariants as carriage
 use Rattle.fsu_text.specs.declared.sent.SentCarriage.TheVariants as leaving

@@ -1,7 +1,7 @@
 -- The lines that are sent are normal lines.
 use Rattle.fsu_text.proofs.Common.{Discrepancy, Handling, IsCode, IsFsu, IsSent, IsUpdate, List, None, Ok, SentCarriage, SentStatus, SentUpdate, ShipmentCode, Total, [], airport_code, all_weaker, amount_of, and_from, and_parts, append-nil, arith, carriage_code, check_digit, code_letter, codes, consignment_again, consignment_text, date_code, date_text, decimal, declared_cargo, digits-padded, discrepancy_code, ends_in_blank, eqb-true, false, flight_code, flight_text, fsu_lines, handling_code, inl, inr, is_blank, is_digit, is_digit_bounds, is_letter, is_letter_or_digit, is_name, is_point, is_printable, is_unread, le-leb, leb-true, length, length-append, length-padded, list_all, list_all-append, name_tail, ne_eqb, normal_lines, not-true, number_text, or_cases, padded, prefix_of, quantity_text, quantity_unread, refl, sent_status_text, sent_text, serial_of, subst, sym, told_as, true, update_written, when_text, written_code, ℕ, ◌%◌, ◌++◌, ◌+◌, ◌/◌, ◌<◌, ◌∙◌, ◌∷◌, ◌≡◌, ◌≤◌}
-use Rattle.imp_fields.specs.Amount.{IsPieces}
-use Rattle.imp_fields.specs.declared.discrepancy.Discrepancy.TheVariants as discrepancy
+use Rattle.imp_fields.specs.Fields.{IsPieces}
+use Rattle.imp_fields.specs.declared.line.Discrepancy.TheVariants as discrepancy
 use Rattle.imp_fields.proofs.PutLaws.{length_decimal_short, length_decimal_five}
 use Rattle.imp_fields.proofs.SentLaws.{IsPlain, sent_normal, plain_line, ends_as_last, ends_in_none}
 use Rattle.fsu_text.specs.declared.status.Handling.TheVariants as handling

@@ -1,18 +1,15 @@
 -- Status update messages: a head, a consignment line, and at least one further line.
 use Rattle.std.specs.Prelude.{unwrap_or, slice_get, drop, All, ◌≡◌, ℕ, nat_le, List, [], ◌∷◌, ◌++◌, length, map, option_map, Option, Some, None, Ok, IsTrue, codes}
-use Rattle.fsu_text.specs.Common.{join_with_byte, written_code, flight_text, when_text, date_text, Shipment, WrittenLine, consignment_of, consignment_text, shipment_written, shipment_of, HasSpans, line_texts, Lines, is_head, unless_true, err_of, fault_in, Why, TextFault, Total, Quantity, WaybillSummary}
+use Rattle.fsu_text.specs.Common.{join_with_byte, written_code, flight_text, when_text, date_text, Shipment, WrittenLine, consignment_of, consignment_text, shipment_written, shipment_of, HasSpans, line_texts, Lines, is_head, unless_true, err_of, fault_in, Why, TextFault, Total, Quantity, WaybillSummary, SentStatus, Carriage, SentUpdate}
 use Rattle.imp_fields.specs.declared.fault.Why.TheVariants as why
-use Rattle.fsu_text.specs.declared.sent.SentStatus.{SentStatus}
 use Rattle.fsu_text.specs.declared.sent.SentStatus.TheVariants as sent
 use Rattle.fsu_text.specs.declared.sent.SentCarriage.{SentCarriage}
 use Rattle.fsu_text.specs.declared.sent.SentCarriage.TheVariants as leaving
-use Rattle.fsu_text.specs.declared.status.Carriage.{Carriage}
 use Rattle.fsu_text.specs.declared.status.Carriage.TheVariants as carriage
-use Rattle.fsu_text.specs.declared.sent.SentUpdate.{SentUpdate}
 use Rattle.fsu_text.specs.declared.status.Status.{Status}
 use Rattle.fsu_text.specs.declared.status.Status.TheVariants as status
 use Rattle.fsu_text.specs.declared.status.StatusLine.{StatusLine}
-use Rattle.fsu_text.specs.declared.message.Fsu.{Fsu}
+use Rattle.fsu_text.specs.declared.sent.Fsu.{Fsu}
 use Rattle.fsu_text.specs.Status.{Reading, Handled, ReceivedFromFlight, Carried, Differs, status_of, handling_code, carriage_code, discrepancy_code, amount_text, name_tail}
 
 -- a message: the shipment, and the unchanged lines for its trail

@@ -1,5 +1,4 @@
 pub mod Common
 pub mod Status
-pub mod Trail
-pub mod Fsu
 pub mod Sent
+pub mod Fsu

@@ -1,9 +1,8 @@
 -- Status lines: `RCS/12JAN1030/FRA/T10K100.0/ACME`.
 use Rattle.std.specs.Prelude.{ℕ, List, [], ◌∷◌, take, drop, Option, Some, None, codes, option_map}
-use Rattle.fsu_text.specs.Common.{join_with_byte, bytes_eq, ◌>>=◌, where_true, or_else, fields, quantity_of, quantity_text, written_code, Designator, flight_of, airport_of, is_name, CalendarDay, When, date_time_of, optional_time_of, Quantity, Discrepancy, Offloaded, Missing, Found}
+use Rattle.fsu_text.specs.Common.{join_with_byte, bytes_eq, ◌>>=◌, where_true, or_else, fields, quantity_of, quantity_text, written_code, Designator, flight_of, airport_of, is_name, CalendarDay, When, date_time_of, optional_time_of, Quantity, Discrepancy, Offloaded, Missing, Found, Carriage}
 use Rattle.fsu_text.specs.declared.status.Handling.{Handling}
 use Rattle.fsu_text.specs.declared.status.Handling.TheVariants.{ReceivedFromShipper, Notified, Delivered}
-use Rattle.fsu_text.specs.declared.status.Carriage.{Carriage}
 use Rattle.fsu_text.specs.declared.status.Carriage.TheVariants.{Booked, Manifested, Departed}
 
 -- a date with an optional time

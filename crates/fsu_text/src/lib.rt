@@ -5,15 +5,13 @@
 ghost use Rattle.std.specs.Prelude.{◌≡◌, ℕ, List, None};
 ghost use Rattle.fsu_text.specs.Fsu.{StatusUpdate, IsFsu, fsu_fault};
 
-mod message;
 mod reading;
 mod sent;
 mod status;
 mod writing;
 
-pub use message::Fsu;
 pub use reading::read;
-pub use sent::{SentCarriage, SentStatus, SentUpdate};
+pub use sent::{Fsu, SentCarriage, SentStatus, SentUpdate};
 pub use status::{Carriage, FlightDay, Handling, Status, StatusLine};
 pub use writing::write_fsu;
 

@@ -6,7 +6,7 @@ ghost use Rattle.fsu_text.specs.Common.{fields, line_texts, IsFaultOf};
 ghost use Rattle.fsu_text.specs.Status.{day_of, handling_of, carriage_of, discrepancy_of, handled_by, handled_of, received_by, received_of, route_of, carried_by, carried_of, differs_by, differs_of, status_of};
 ghost use Rattle.fsu_text.specs.Fsu.{IsFsu, fsu_fault, reading_of, update_of, HasFsuSpans, IsRead, AreRead};
 
-use crate::message::Fsu;
+use crate::sent::Fsu;
 use crate::status::{Carriage, FlightDay, Handling, Status, StatusLine};
 use imp_fields::{
     Airport, Discrepancy, Flight, Lines, Name, TextFault, Token, Why, cut_at_slash, fault_at,

@@ -1,9 +1,13 @@
 //! Status updates that are sent.
 
-ghost use Rattle.fsu_text.specs.Sent.{IsSent, IsDeclared, IsUpdate};
+ghost use Rattle.fsu_text.specs.Sent.{IsSent, IsDeclared, IsUpdate, is_plain};
+ghost use Rattle.std.specs.Prelude.{IsTrue};
+ghost use Rattle.fsu_text.specs.Common.{list_all};
 
-use crate::status::Handling;
-use imp_fields::{Airport, BookTenths, Discrepancy, Flight, Name, Pieces, WaybillSummary};
+use crate::status::{Handling, StatusLine};
+use imp_fields::{
+    Airport, BookTenths, Consignment, Discrepancy, Flight, Name, Pieces, WaybillSummary,
+};
 use station_days::{DayMonth, DayTime};
 
 /// An event of goods and a flight that leaves here.
@@ -106,4 +110,14 @@ pub(crate) fn update_known(update: &SentUpdate)
     let _here = update.here.letters();
     let _pieces = update.pieces.number();
     let _tenths = update.tenths.number();
+}
+
+/// A status update message: its consignment line, and at least one line after it. The source of the
+/// consignment's tokens is its line; that of a status line's token is the telegram. Each line of
+/// the trail has at most 255 bytes of printable ASCII.
+#[derive(Drop)]
+pub struct Fsu<'a> {
+    pub consignment: Consignment<'a>,
+    pub trail: Vec<StatusLine<'a>>,
+    pub ghost printable: { IsTrue (list_all is_plain trail.items) },
 }

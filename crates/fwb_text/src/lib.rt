@@ -3,7 +3,7 @@
 #![tactic(auto)]
 
 ghost use Rattle.std.specs.Prelude.{◌≡◌, ℕ, List, None};
-ghost use Rattle.imp_fields.specs.Consignment.{Shipment};
+ghost use Rattle.imp_fields.specs.Message.{Shipment};
 ghost use Rattle.fwb_text.specs.Fwb.{IsFwb, fwb_fault};
 
 mod reading;

@@ -1,8 +1,7 @@
 //! The reader of waybill data messages.
 
 ghost use Rattle.std.specs.Prelude.{◌≡◌, ℕ, List, Some, Ok, Err, IfOk, IfErr, IsTrue, is_some};
-ghost use Rattle.imp_fields.specs.Consignment.{consignment_of, shipment_of, HasSpans};
-ghost use Rattle.imp_fields.specs.NormalText.{line_texts};
+ghost use Rattle.imp_fields.specs.Message.{consignment_of, shipment_of, HasSpans, line_texts};
 ghost use Rattle.fwb_text.specs.Fwb.{IsFwb, weighed_fault, fwb_fault, fwb_shipment, HasFwbSpans};
 
 use crate::Fwb;

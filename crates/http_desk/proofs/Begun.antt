@@ -1,6 +1,6 @@
 -- Once a 200 to a POST has begun.
 use Rattle.http_desk.proofs.Common.{BeginsAs200, BodyAsks, Bool, Err, Fault, GetsReport, Given, Got, HasHead, HasServed, Head, HeadAsks, IsAfterStep, IsAnswer, IsAnsweredAs, IsAskedUnder, IsPartOut, IsPosted, IsWritten, List, LocalMinute, None, Ok, Option, Place, Posted, Printout, Refusal, Replied, RequestHead, Result, SendsWhole, ServeFault, Served, Some, State, StationAfter, [], accepted, added, answer_reply, ap, arith, bad_body, body_length, body_reply, body_state, bytes_eq, codes, compact_text, drop, false, fault, for_station, gets, head_asks, head_of, if◌then◌else◌, inl, inr, is_dry, is_foreign, key_of, length, length_among, length_beside, looks_at, looks_up, nat_le, number_told, own_asks, place_asks, place_of, posted_check, posted_command, posted_look, posted_telegram, posts, print_request, refl, refusal_status, refused_data, refuses, sends, sends_body, step, subst, sym, take, true, unreadable, values_of, within_length, wrong_method, ℕ, ◌++◌, ◌==◌, ◌||◌, ◌∙◌, ◌∷◌, ◌≡◌}
-use Rattle.station_core.specs.Texts.{detail_text}
+use Rattle.station_core.specs.Step.{detail_text}
 use Rattle.station_core.specs.declared.answer.Answer.{Answer}
 use Rattle.station_core.specs.declared.answer.Answer.TheVariants as answer
 use Rattle.http_desk.specs.declared.serve.ServeFault.TheVariants as serve

@@ -1,6 +1,6 @@
 -- What the check of a body answers.
 use Rattle.http_desk.proofs.Common.{IsCheckAsked, IsSaid, IsTrue, List, Verb, ap, bad_data, compact_text, good_data, inl, inr, list_all, looks_at, refl, ℕ, ◌≡◌}
-use Rattle.imp_fields.specs.Characters.{is_printable}
+use Rattle.imp_fields.specs.Fields.{is_printable}
 use Rattle.desk_commands.specs.declared.command.Command.{Command}
 
 pub good_asked : (verb : Verb) (bytes text : List ℕ) (command : Command) → IsSaid verb bytes command → text ≡ compact_text good_data → IsCheckAsked verb bytes (looks_at text)

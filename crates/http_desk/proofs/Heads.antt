@@ -1,8 +1,8 @@
 -- Bytes that have no head.
 use Rattle.http_desk.proofs.Common.{Err, Given, HasCome, HasEndedAfter, HasEndedEarly, HasGrown, HasHead, HasMore, HasNoHead, HasNoRequest, HeaderSpan, IsErrAnd, IsRequestAt, IsRequestWithin, List, Ok, ReadsRequest, ReadsRequest-append, RequestHead, RequestOverflows, Result, [], ap, append_assoc, arith, drop, header_bytes, inl, inr, length, length-map, length-take-le, most_fields, name_and_value, print_blank, print_request-append, refl, subst, sym, take, take-append-add, take_all, ℕ, ⊎_elim, ◌++◌, ◌+◌, ◌-◌, ◌<◌, ◌∙◌, ◌∷◌, ◌≡◌, ◌≤◌, ◌⊎◌}
 use Rattle.httparse.specs.declared.spans.RequestSpans.{RequestSpans}
-use Rattle.http_desk.specs.declared.reading.ReadEnd.{ReadEnd}
-use Rattle.http_desk.specs.declared.reading.ReadEnd.TheVariants as end
+use Rattle.http_desk.specs.declared.serve.ReadEnd.{ReadEnd}
+use Rattle.http_desk.specs.declared.serve.ReadEnd.TheVariants as end
 
 nothing_behind : (xs : List ℕ) → xs ++ [] ≡ xs
 nothing_behind [] = refl

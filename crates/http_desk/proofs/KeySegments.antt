@@ -2,7 +2,7 @@
 use Rattle.http_desk.proofs.Common.{Bool, List, None, Option, Some, [], agree_below_at, and_then, ap, append_assoc, arith, cases_Bool, decoded, false, if◌then◌else◌, is_key, is_key_byte, is_unescaped, key_in, key_segment, length, length-append, length-take, list_all, ltb-true, nat_le, nat_lt, nat_tests, not, option_and_then, option_map, printed_byte, refl, set, sym, take, take_more_set, true, where_true, ℕ, ⊎_elim, ◌&&◌, ◌++◌, ◌+◌, ◌<◌, ◌∙◌, ◌∷◌, ◌≡◌}
 use Rattle.percent_encoding.specs.AsciiSet.{should_percent_encode}
 use Rattle.percent_encoding.specs.Percent.{encode_byte, percent_encode, percent_encode_byte}
-use Rattle.http_desk.specs.declared.keys.TheConstants.{ESCAPED}
+use Rattle.http_desk.specs.declared.route.TheConstants.{ESCAPED}
 
 -- A segment is printed by the set of the escaped bytes.
 

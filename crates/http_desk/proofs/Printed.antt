@@ -2,15 +2,15 @@
 use Rattle.std.proofs.Common.{arith, ◌≡◌, ◌∙◌, ap, sym, refl, ℕ, ◌+◌, ◌-◌, ◌*◌, ◌/◌, ◌%◌, ◌<◌, ◌≤◌, ◌^◌, Bool, true, false, Some, None, Option, List, [], ◌∷◌, ◌++◌, length, take, drop, codes, decimal, length-append, append_assoc, take-append-drop}
 use Rattle.http_desk.proofs.Common.{HasPath, IsListed, IsNumber, IsPage, IsPathOf, Place, Posted, and_from, and_parts, asked_place, bytes_eq, bytes_eq-true, check_digit, date_on, decimal_by_steps, decimal_nonempty, decimal_value, decimal_value-last, digit_glyph, digits-padded, drop-append_seam, flight_on, gets, got_history, got_holder, got_report, got_waybill, if◌then◌else◌, in_form, is_ascii_graphic, is_digit, is_json, is_key, is_letter_or_digit, is_number, is_path_byte, is_slash, is_unescaped, joined, key_segment, le-leb, leb-true, length-decimal-le, length-padded, list_all, list_all-append, listing_path, lt-ltb, nat_le, nat_lt, nat_tests, not, number_text, number_told, numbered_rows, of_every, option_and_then, option_map, padded, page_at, page_named, page_part, page_word, path_text, posted_check, posted_command, posted_look, posted_telegram, posts, prefix_of, result_ok, row_number, rows_at, rows_named, rows_part, rows_path, rows_segments, rows_word, segments, serial_of, take-append_seam, waybill_rows, where_true, year_of, ◌&&◌, ◌==◌}
 use Rattle.awb_number.proofs.NumberLaws.{number_again}
-use Rattle.agent_stock.specs.Code.{is_agent_code}
-use Rattle.imp_fields.specs.Flight.{Designator, flight_text, IsDesignator}
+use Rattle.agent_stock.specs.Fields.{is_agent_code}
+use Rattle.imp_fields.specs.Fields.{Designator, flight_text, IsDesignator}
 use Rattle.imp_fields.proofs.FieldLaws.{flight_again, flight_code}
 use Rattle.imp_fields.proofs.WrittenLaws.{decimal_digits}
 use Rattle.station_days.specs.Date.{day_line}
-use Rattle.reports.specs.declared.form.Form.{Form}
-use Rattle.reports.specs.declared.form.Form.TheVariants as form
-use Rattle.reports.specs.declared.listing.Listing.{Listing}
-use Rattle.reports.specs.declared.listing.Listing.TheVariants as listing
+use Rattle.reports.specs.declared.layout.Form.{Form}
+use Rattle.reports.specs.declared.layout.Form.TheVariants as form
+use Rattle.reports.specs.declared.report.Listing.{Listing}
+use Rattle.reports.specs.declared.report.Listing.TheVariants as listing
 use Rattle.reports.specs.declared.report.Report.TheVariants as report
 use Rattle.http_desk.proofs.KeyPrinted.{key_again, segment_all, segment_few}
 use Rattle.http_desk.proofs.Paths.{page_there, place_is}

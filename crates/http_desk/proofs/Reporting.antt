@@ -1,7 +1,7 @@
 -- How an answer with a report ends, by how the report ended.
 use Rattle.http_desk.proofs.Common.{ActFault, Bool, Err, Given, HasBegun, HasCause, HasEndedBy, HasReported, HasSent, HasTold, HaveGone, IsBegun, IsCause, IsPrinted, IsReadersFault, List, NoneFailed, Ok, OneFailed, Printout, ReportCause, Result, Sent, ServeFault, Served, SomeOrEach, State, StopsBy, StopsServing, [], ap, arith, false, inl, inr, length, length-take-le, refl, report_head, subst, take, unavailable, ℕ, ⊎_elim, ◌++◌, ◌+◌, ◌<◌, ◌∙◌, ◌∷◌, ◌≡◌, ◌⊎◌}
-use Rattle.reports.specs.declared.fault.ReportCause.TheVariants as cause
-use Rattle.reports.specs.declared.fault.ReportFault.{ReportFault}
+use Rattle.reports.specs.declared.report.ReportCause.TheVariants as cause
+use Rattle.reports.specs.declared.report.ReportFault.{ReportFault}
 use Rattle.http_desk.specs.declared.serve.ServeFault.TheVariants as serve
 use Rattle.station_core.specs.declared.answer.ActFault.TheVariants as act
 

@@ -4,8 +4,8 @@ use Rattle.std.specs.Array.{IsWholeChunk}
 use Rattle.awb_number.specs.declared.awb.AwbFault.{AwbFault}
 use Rattle.station_core.specs.Readers.{waybill_of}
 use Rattle.http_desk.specs.declared.wanted.Wanted.TheVariants as wanted
-use Rattle.http_desk.specs.declared.head.Asks.{Asks}
-use Rattle.http_desk.specs.HeadTold.{asks_meant}
+use Rattle.http_desk.specs.declared.request.Asks.{Asks}
+use Rattle.http_desk.specs.Came.{asks_meant}
 use Rattle.http_desk.specs.declared.wanted.HeadWants.TheVariants as wants
 
 option_of : {A : Type 0} → Option A → A → A

@@ -1,7 +1,7 @@
 -- The four parts of a waybill's members are its text.
 use Rattle.http_desk.proofs.Common.{List, Waybill, ap, append_assoc, boolean, codes, compact_text, number_text, pair_data, string, waybill_data, ℕ, ◌++◌, ◌∙◌, ◌≡◌}
 use Rattle.serde_json.proofs.OnLiterals.{serde_json_on_literals}
-use Rattle.http_desk.specs.Members.{first_members, second_members, third_members, last_members}
+use Rattle.http_desk.specs.Came.{first_members, second_members, third_members, last_members}
 
 three_more : (j a k b l c m x : List ℕ) → (j ++ (a ++ (k ++ (b ++ (l ++ (c ++ m)))))) ++ x ≡ j ++ (a ++ (k ++ (b ++ (l ++ (c ++ (m ++ x))))))
 three_more j a k b l c m x = simp append_assoc

@@ -1,19 +1,22 @@
 //! The bytes of an answer.
+//! Histories of waybills.
+
 ghost use Rattle.std.specs.Prelude.{◌≡◌, ◌++◌, length, IfOk, string_bytes, option_map};
-ghost use Rattle.http_desk.specs.Common.{IsStatusCode, view, compact_text, boolean, string};
+ghost use Rattle.http_desk.specs.Common.{IsStatusCode, view, compact_text, boolean, string, IsListing, given_of, inner_of, Given, nothing_given};
 ghost use Rattle.http_desk.specs.Request.{good_data, bad_data};
-ghost use Rattle.http_desk.specs.Reply.{status_line, allow_line, history_head, json_fields, json_answer, media_type, report_head, refused_data, pair_data, holding_data, holder_data, waybill_data};
-ghost use Rattle.http_desk.specs.Members.{first_members, second_members, third_members, stored_members, last_members};
+ghost use Rattle.http_desk.specs.Reply.{status_line, allow_line, history_head, json_fields, json_answer, media_type, report_head, refused_data, pair_data, holding_data, holder_data, waybill_data, IsHistory, record_line};
+ghost use Rattle.http_desk.specs.Came.{first_members, second_members, third_members, stored_members, last_members, IsBehind, ReadsText, act_fault};
 
 use crate::printout::Printout;
 use agent_stock::Holder;
 use awb_number::{Awb, ascii_text};
 use http::StatusCode;
-use reports::{Form, holder_name, holder_word, since_text};
+use reports::{Form, Listing, ReportCause, holder_name, holder_word, since_text, write_listing};
 use serde_json::{Value, json};
 use shipment_machine::Amount;
-use station_core::Waybill;
+use station_core::{ActFault, ByteOut, Counted, Keeper, Waybill, WriteFault};
 use std::alloc::{AllocError, Global};
+use std::marker::Model;
 
 /// Returns a line such as `HTTP/1.1 409 Conflict`.
 fn status_line(alloc: Global, status: u16) -> Result<String, AllocError>
@@ -228,4 +231,102 @@ pub fn waybill_text(alloc: Global, number: &Awb, known: &Waybill) -> Result<Stri
     let third = third_members(alloc, known)?;
     let last = last_members(alloc, known)?;
     format!(in alloc; "{first}{second}{third}{last}")
+}
+
+/// A writer into memory.
+#[derive(Drop)]
+struct Page {
+    counted: Counted<Vec<u8>>,
+}
+
+impl Model for Page {
+    ghost Value = { Given };
+
+    ghost view = { λ page. given_of page.counted };
+
+    ghost invariant = { λ page. (inner_of page.counted).items ≡ (given_of page.counted).bytes };
+}
+
+impl Page {
+    fn new(alloc: Global) -> Page
+        ensures { result ≡ nothing_given }
+    {
+        Page {
+            counted: Counted::new(Vec::new(alloc)),
+        }
+    }
+
+    /// Returns the bytes that were written.
+    fn into_bytes(self) -> Vec<u8>
+        ensures { result.items ≡ self.bytes }
+    {
+        let Page { counted } = self;
+        counted.into_inner()
+    }
+}
+
+impl ByteOut for Page {
+    ghost taken = { λ page. page };
+
+    fn write(&mut self, buf: &[u8]) -> Result<usize, WriteFault> {
+        self.counted.write(buf)
+    }
+}
+
+/// Returns the fault of a report that was written into memory.
+fn act_fault(cause: ReportCause) -> ActFault
+    ensures { result ≡ act_fault cause }
+{
+    match cause {
+        ReportCause::Write | ReportCause::Act(ActFault::Memory) => ActFault::Memory,
+        ReportCause::Act(_) => ActFault::Store,
+    }
+}
+
+/// Returns a text and then a listing.
+fn with_listing<K: Keeper>(
+    alloc: Global,
+    keeper: &mut K,
+    front: &[u8],
+    listing: &Listing,
+) -> Result<Vec<u8>, ActFault>
+    ensures { ReadsText K.keeping keeper.old keeper.new result
+        (λ s bytes. IsBehind front.now (IsListing Form.Text s listing.now) bytes.items) }
+{
+    let mut page = Page::new(alloc);
+    match write_listing(alloc, keeper, listing, Form::Text, &mut page, front) {
+        Ok(()) => Ok(page.into_bytes()),
+        Err(fault) => Err(act_fault(fault.cause)),
+    }
+}
+
+fn record_line(alloc: Global, number: &Awb, known: &Waybill) -> Result<String, AllocError>
+    ensures { IfOk result (λ line. string_bytes line ≡ record_line number.now known.now) }
+{
+    let object = waybill_text(alloc, number, known)?;
+    format!(in alloc; "{object}\n")
+}
+
+/// Returns the history of a waybill with this record: the line of the record, the moves, the lines
+/// of the trail, and the status messages. The keeper works.
+///
+/// # Errors
+///
+/// - [`ActFault::Memory`]: memory runs out.
+/// - [`ActFault::Store`]: the keeper's store fails.
+pub fn history_text<K: Keeper>(
+    alloc: Global,
+    keeper: &mut K,
+    number: &Awb,
+    known: &Waybill,
+) -> Result<Vec<u8>, ActFault>
+    ensures { ReadsText K.keeping keeper.old keeper.new result
+        (λ s bytes. IsHistory s number.now known.now bytes.items) }
+{
+    let Ok(line) = record_line(alloc, number, known) else {
+        return Err(ActFault::Memory);
+    };
+    let text = with_listing(alloc, keeper, line.as_bytes(), &Listing::Movements(*number))?;
+    let text = with_listing(alloc, keeper, text.as_slice(), &Listing::Trail(*number))?;
+    with_listing(alloc, keeper, text.as_slice(), &Listing::Sent(*number))
 }

@@ -1,23 +1,30 @@
 //! Calling the station for a request.
-ghost use Rattle.std.specs.Prelude.{◌≡◌, true, false, IfOk, Option, Some, string_bytes, option_map};
-ghost use Rattle.http_desk.specs.Common.{IsStatusCode, Data, compact_text, IfSound, IfWorks, KeepsSound, OnlyReads, StaysIfBroken, State, LocalMinute, detail_text};
-ghost use Rattle.http_desk.specs.StationAfter.{station_after};
-ghost use Rattle.http_desk.specs.Told.{IsHistoryTold, IsToldAs, HasAsked, HasAskedShut, IsUnavailable, TellsHistory, tells_reopen};
-ghost use Rattle.http_desk.specs.Fields.{meant};
-ghost use Rattle.http_desk.specs.Reply.{refused_data, json_reply, look_reply, fault_reply, refusal_status, refusal_reply, waybill_reply, holder_reply};
+//! Reading the body of a request.
 
-use crate::answer::{history_answer, holder_text, json_answer, refused_text, waybill_text};
-use crate::fault::FaultTold;
-use crate::head::NOT_FOUND;
-use crate::history::history_text;
+ghost use Rattle.std.specs.Prelude.{◌≡◌, true, false, IfOk, Option, Some, string_bytes, option_map, ℕ, IsTrue, List, MatchOption};
+ghost use Rattle.http_desk.specs.Common.{IsStatusCode, Data, compact_text, IfSound, IfWorks, KeepsSound, OnlyReads, StaysIfBroken, State, LocalMinute, detail_text, list_all, is_printable, look_object};
+ghost use Rattle.http_desk.specs.Reply.{station_after, IsHistoryTold, IsToldAs, HasAsked, HasAskedShut, IsUnavailable, TellsHistory, tells_reopen, refused_data, json_reply, look_reply, fault_reply, refusal_status, refusal_reply, waybill_reply, holder_reply};
+ghost use Rattle.http_desk.specs.Request.{meant, body_meant, IsCheckAsked, IsCommandAsked, IsLookAsked, IsSaid, IsTelegramAsked, bad_data, looks_at};
+ghost use Rattle.desk_commands.specs.declared.command.Command.{Command as AnyCommand};
+
+use crate::answer::{
+    bad_text, good_text, history_answer, history_text, holder_text, json_answer, refused_text,
+    waybill_text,
+};
 use crate::printout::Printout;
+use crate::request::NOT_FOUND;
+use crate::serve::FaultTold;
 use crate::wanted::Wanted;
 use agent_stock::Holder;
 use awb_number::Awb;
+use desk_commands::{BadBody, Command, Verb, read_command};
+use input_reasons::{Look, body_fault, look_at, look_object};
+use serde_json::Value;
 use shipment_machine::Refusal;
-use station_core::{ActFault, Answer, Input, Keeper, Waybill, answer_one, detail_text};
+use station_core::{ActFault, Answer, Input, Keeper, Key, Waybill, answer_one, detail_text};
 use station_days::Moment;
 use std::alloc::{AllocError, Global};
+use telegrams::{TelegramFault, read_telegram};
 
 /// An answer to write.
 #[derive(Drop)]
@@ -226,5 +233,114 @@ pub(crate) fn ask<K: Keeper>(
         Wanted::Holder(number) => ask_holder(alloc, keeper, number),
         Wanted::Report(printout) => Response::Report(*printout),
         Wanted::Input(input) => ask_input(alloc, keeper, input, at),
+    }
+}
+
+/// The content of a body.
+#[derive(Drop)]
+pub(crate) enum Body<'a> {
+    /// The key is missing, or the body isn't one of the verb. The word names the fault.
+    Bad(&'static str),
+    /// The body isn't a telegram.
+    Unreadable(Refusal),
+    /// A dry run, as JSON.
+    Look(String),
+    /// An input for the station.
+    Input(Input<'a>),
+}
+
+/// Returns the command of a verb that a body is, or `None` for another body.
+fn said(alloc: Global, verb: Verb, bytes: &[u8]) -> Result<Option<Command>, AllocError>
+    ensures { IfOk result (λ said. MatchOption said
+        ((command : AnyCommand) → ¬ (IsSaid verb bytes.now command))
+        (λ command. IsSaid verb bytes.now command)) }
+{
+    match Value::from_slice(alloc, bytes) {
+        Ok(value) => match read_command(verb, &value) {
+            Ok(command) => Ok(Some(command)),
+            Err(BadBody) => Ok(None),
+        },
+        Err(e) => {
+            if e.is_memory() {
+                Err(AllocError)
+            } else {
+                Ok(None)
+            }
+        }
+    }
+}
+
+pub(crate) fn command_asked(
+    alloc: Global,
+    verb: Verb,
+    key: Option<Key>,
+    bytes: &[u8],
+) -> Result<Body<'static>, AllocError>
+    ensures { IfOk result (λ body. IsCommandAsked verb key bytes.now (body_meant body)) }
+{
+    let Some(key) = key else {
+        return Ok(Body::Bad("key"));
+    };
+    match said(alloc, verb, bytes)? {
+        Some(command) => Ok(Body::Input(Input::Keyed(key, command))),
+        None => Ok(Body::Bad("body")),
+    }
+}
+
+/// Returns the reason why a body isn't a command of its verb, as JSON.
+fn bad_checked(alloc: Global, verb: Verb, bytes: &[u8]) -> Result<String, AllocError>
+    ensures { IfOk result (λ text. (reason : List ℕ) × IsTrue (list_all is_printable reason)
+        × (string_bytes text ≡ compact_text (bad_data reason))) }
+{
+    let reason = body_fault(alloc, verb, bytes)?;
+    bad_text(alloc, reason.as_str())
+}
+
+/// Returns whether a body is a command of its verb, as the content of a body for a dry run.
+pub(crate) fn check_asked(
+    alloc: Global,
+    verb: Verb,
+    bytes: &[u8],
+) -> Result<Body<'static>, AllocError>
+    ensures { IfOk result (λ body. IsCheckAsked verb bytes.now (body_meant body)) }
+{
+    match said(alloc, verb, bytes)? {
+        Some(_) => {
+            let text = good_text(alloc)?;
+            Ok(Body::Look(text))
+        }
+        None => {
+            let text = bad_checked(alloc, verb, bytes)?;
+            Ok(Body::Look(text))
+        }
+    }
+}
+
+pub(crate) fn telegram_asked<'a>(alloc: Global, bytes: &'a [u8]) -> Result<Body<'a>, AllocError>
+    ensures { IfOk result (λ body. IsTelegramAsked bytes.entry.now (body_meant body)) }
+{
+    match read_telegram(alloc, bytes) {
+        Ok(telegram) => Ok(Body::Input(Input::Wire(telegram))),
+        Err(TelegramFault::Refused(refusal)) => Ok(Body::Unreadable(refusal)),
+        Err(TelegramFault::Memory) => Err(AllocError),
+    }
+}
+
+/// Returns a dry run as the content of a body.
+fn look_seen<'a>(alloc: Global, look: &Look<'_>) -> Result<Body<'a>, AllocError>
+    ensures { IfOk result (λ body. body_meant body ≡ looks_at (look_object look.now)) }
+{
+    let seen = look_object(alloc, look)?;
+    Ok(Body::Look(seen))
+}
+
+/// Returns the content of a body for a dry run.
+pub(crate) fn look_asked<'a>(alloc: Global, bytes: &'a [u8]) -> Result<Body<'a>, AllocError>
+    ensures { IfOk result (λ body. IsLookAsked bytes.entry.now (body_meant body)) }
+{
+    match look_at(alloc, bytes) {
+        Ok(look) => look_seen(alloc, &look),
+        Err(TelegramFault::Refused(refusal)) => Ok(Body::Unreadable(refusal)),
+        Err(TelegramFault::Memory) => Err(AllocError),
     }
 }

@@ -1,11 +1,10 @@
 //! The paths of rows, as read and as printed.
 ghost use Rattle.std.specs.Prelude.{◌≡◌, IfOk, option_map, string_bytes};
 ghost use Rattle.http_desk.specs.Common.{result_ok, number_of};
-ghost use Rattle.http_desk.specs.Paths.{report_path, listing_path, rows_path};
-ghost use Rattle.http_desk.specs.Printouts.{agent_code, agent_rows, flight_date, in_form, numbered_rows, printout_at, row_number, rows_at, rows_named, rows_part, rows_word, waybill_rows};
+ghost use Rattle.http_desk.specs.Request.{report_path, listing_path, rows_path, agent_code, agent_rows, flight_date, in_form, numbered_rows, printout_at, row_number, rows_at, rows_named, rows_part, rows_word, waybill_rows};
 
-use crate::fields::number_told;
-use crate::keys::{key_in, key_segment};
+use crate::request::number_told;
+use crate::route::{key_in, key_segment};
 use agent_stock::AgentCode;
 use awb_number::Awb;
 use desk_commands::read_day;

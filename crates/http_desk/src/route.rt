@@ -1,10 +1,16 @@
 //! The desk's routes.
-ghost use Rattle.std.specs.Prelude.{◌≡◌, option_map};
-ghost use Rattle.http_desk.specs.Common.{verb_called};
-ghost use Rattle.http_desk.specs.Routes.{asked_place, page_at, page_named, page_part, page_word, place_told};
+//! Keys as segments of paths, percent-encoded.
+//! A law of the routes.
+
+ghost use Rattle.std.specs.Prelude.{◌≡◌, option_map, ◌≤◌, ◌∷◌, IfSome, MatchOption, None, Some, length, ◌↔◌, ℕ, List, ◌++◌};
+ghost use Rattle.http_desk.specs.Common.{verb_called, encoded_text, number_text, Form, Listing};
+ghost use Rattle.http_desk.specs.Request.{asked_place, page_at, page_named, page_part, page_word, place_told, HasPath, IsListed, IsPath, IsPathOf, LeadsTo, rows_path, in_form, Place, Posted, gets, got_history, got_holder, got_report, got_waybill, place_of, posts};
+ghost use Rattle.http_desk.specs.Keys.{and_then, decoded, escaped_byte, key_in, key_segment};
 
 use crate::printout::{Printout, printout_at};
 use desk_commands::Verb;
+use percent_encoding::{AsciiSet, NON_ALPHANUMERIC, PercentEncode, ascii_set, percent_encode};
+use station_core::Key;
 
 /// A route. A waybill, its history and a number in stock have their name in the path.
 #[derive(Clone, Copy)]
@@ -84,3 +90,74 @@ pub(crate) fn route_of(path: &str) -> Option<Route<'_>>
         },
     }
 }
+
+/// The ASCII bytes that are escaped: all but letters, digits, `-`, `_` and `~`. A dot is escaped,
+/// so that `.json` at the end of a printed path isn't part of the key.
+const ESCAPED: AsciiSet = ascii_set!(NON_ALPHANUMERIC.remove(b'-').remove(b'_').remove(b'~'));
+
+/// Returns the segment of a key.
+#[tactic(auto, using(crate::proofs::KeySegments::segment_is))]
+pub(crate) fn key_segment(key: &Key) -> PercentEncode<'_>
+    ensures { encoded_text result ≡ key_segment key.now }
+{
+    percent_encode(key.as_bytes(), ESCAPED)
+}
+
+/// Returns the byte that two hexadecimal digits stand for.
+fn escaped_byte(high: u8, low: u8) -> Option<u8>
+    ensures { result ≡ escaped_byte high low }
+{
+    let high = char::from(high).to_digit(16)?;
+    let low = char::from(low).to_digit(16)?;
+    Some((16 * high + low) as u8)
+}
+
+/// Returns the first byte of `first` and `rest`, decoded, and the text after it.
+fn next_byte<'a>(first: u8, rest: &'a [u8]) -> Option<(u8, &'a [u8])>
+    ensures byte { MatchOption result (decoded (first ∷ rest.now) ≡ None)
+        (λ next. decoded (first ∷ rest.now) ≡ and_then (Some next.0) (decoded next.1.now)) }
+    ensures shorter { IfSome result (λ next. length next.1.now ≤ length rest.now) }
+{
+    if first != b'%' {
+        return Some((first, rest));
+    }
+    let [high, low, later @ ..] = rest else {
+        return None;
+    };
+    Some((escaped_byte(*high, *low)?, later))
+}
+
+/// Returns the key that a segment stands for.
+pub(crate) fn key_in(segment: &str) -> Option<Key>
+    ensures { result ≡ key_in segment.now }
+{
+    // A key has at most 40 bytes.
+    let mut bytes = [0; 40];
+    let mut len = 0;
+    let mut rest = segment.as_bytes();
+    while let Some((first, later)) = rest.split_first() {
+        let (byte, later) = next_byte(*first, later)?;
+        if len == bytes.len() {
+            return None;
+        }
+        bytes[len] = byte;
+        len += 1;
+        rest = later;
+    }
+    Key::read(&bytes[..len])
+}
+
+/// States where each path leads, and that no other path leads anywhere. A query after a question
+/// mark isn't part of the path. A printed path leads to the place that it was printed for.
+pub fn routes_law()
+    ensures leads { (path : List ℕ) (place : Place) → IsPath path
+        → (place_of path ≡ Some place) ↔ LeadsTo path place }
+    ensures query { (path query : List ℕ) → IsPath path
+        → place_of (path ++ 63 ∷ query) ≡ place_of path }
+    ensures posted { (p : Posted) → HasPath (posts p) }
+    ensures waybill { (w : ℕ) → HasPath (gets (got_waybill (number_text w))) }
+    ensures history { (w : ℕ) → HasPath (gets (got_history (number_text w))) }
+    ensures holder { (w : ℕ) → HasPath (gets (got_holder (number_text w))) }
+    ensures rows { (l : Listing) (f : Form) → IsListed l
+        → IsPathOf (rows_path l f) (gets (got_report (in_form f l))) }
+{}

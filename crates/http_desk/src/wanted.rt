@@ -1,22 +1,22 @@
 //! Decoding a request.
-ghost use Rattle.std.specs.Prelude.{◌≡◌, IfOk, option_map};
-ghost use Rattle.http_desk.specs.Common.{RequestHead, IsRequestAt, IsRequestOf, IsRequestWithin};
-ghost use Rattle.http_desk.specs.Answer.{head_of};
-ghost use Rattle.http_desk.specs.Asked.{body_meant};
-ghost use Rattle.http_desk.specs.HeadTold.{asks_meant, got_at};
-ghost use Rattle.http_desk.specs.Request.{head_asks, looks_up, own_asks, IsAskedUnder};
-ghost use Rattle.http_desk.specs.Routes.{got_history, got_holder, got_waybill, path_of, place_told};
-ghost use Rattle.http_desk.specs.Wanted.{WantsNow, HasWants, WantsAsked, BodyWants, posted_of};
+//! The answer to an accepted input. It is written into an array on the stack, so that nothing is
+//! allocated between the act and the first byte of the 200.
 
-use crate::asked::{Body, check_asked, command_asked, look_asked, telegram_asked};
-use crate::fault::FaultTold;
-use crate::fields::is_foreign;
-use crate::head::{Asks, NOT_FOUND, head_asks};
+ghost use Rattle.std.specs.Prelude.{◌≡◌, IfOk, option_map, ◌+◌, ◌≤◌, ◌<◌, ◌++◌, ◌∷◌, [], length, take, decimal};
+ghost use Rattle.http_desk.specs.Common.{RequestHead, IsRequestAt, IsRequestOf, IsRequestWithin, compact_text};
+ghost use Rattle.http_desk.specs.Reply.{head_of, WantsNow, HasWants, WantsAsked, BodyWants, posted_of, ok_data, ok_answer};
+ghost use Rattle.http_desk.specs.Request.{body_meant, head_asks, looks_up, own_asks, IsAskedUnder, got_history, got_holder, got_waybill, path_of, place_told};
+ghost use Rattle.http_desk.specs.Came.{asks_meant, got_at};
+
+use crate::asking::{Body, check_asked, command_asked, look_asked, telegram_asked};
 use crate::printout::{Printout, number_in};
+use crate::request::{Asks, NOT_FOUND, head_asks, is_foreign};
 use crate::route::{Route, route_of};
+use crate::serve::FaultTold;
 use awb_number::Awb;
 use desk_commands::Verb;
 use httparse::spans::{HeaderSpan, RequestSpans};
+use imp_fields::put_decimal;
 use shipment_machine::Refusal;
 use station_core::{Input, Key};
 use std::alloc::{AllocError, Global};
@@ -221,4 +221,50 @@ pub(crate) fn body_wants<'a>(
 {
     let body = asked(alloc, post, key, body)?;
     Ok(wanted_of(body))
+}
+
+/// The size of the longest body, `{"count":4294967295,"reply":"ok"}`.
+const BODY_ROOM: usize = 33;
+
+/// The size of the buffer for the answer.
+pub(crate) const ROOM: usize = 128;
+
+/// The text before the body's length.
+const FRONT: &str = "HTTP/1.1 200 OK\r\nContent-Type: application/json\r\nContent-Length: ";
+
+/// The text between the body's length and the body.
+const BEHIND: &str = "\r\nConnection: close\r\n\r\n";
+
+/// Writes bytes at `at`, and returns the index after them.
+fn put(out: &mut [u8], at: usize, bytes: &[u8]) -> usize
+    requires { at + length bytes.now ≤ length out.old }
+    ensures place { result ≡ at + length bytes.now }
+    ensures text { take result out.new ≡ take at out.old ++ bytes.now }
+{
+    let end = at + bytes.len();
+    out[at..end].copy_from_slice(bytes);
+    end
+}
+
+/// Writes the body to the start of a buffer, and returns its length.
+fn put_body(out: &mut [u8; BODY_ROOM], count: u32) -> usize
+    ensures bound { result ≤ 33 }
+    ensures text { take result out.new ≡ compact_text (ok_data count) }
+{
+    let at = put(out, 0, b"{\"count\":");
+    let at = put_decimal(out, at, count);
+    put(out, at, b",\"reply\":\"ok\"}")
+}
+
+/// Writes the answer to an accepted input to the start of a buffer, and returns its length.
+pub(crate) fn put_accepted(out: &mut [u8; ROOM], count: u32) -> usize
+    ensures bound { result ≤ 128 }
+    ensures text { take result out.new ≡ ok_answer count }
+{
+    let mut body = [0; BODY_ROOM];
+    let len = put_body(&mut body, count);
+    let at = put(out, 0, FRONT.as_bytes());
+    let at = put_decimal(out, at, len as u32);
+    let at = put(out, at, BEHIND.as_bytes());
+    put(out, at, &body[..len])
 }

@@ -1,18 +1,8 @@
 -- The names that proofs of this crate cite, passed on from one place. Declares nothing.
 pub use Rattle.awb_number.proofs.Padded.{decimal_value-last, decimal_value-padded, digits-padded, is_digit_bounds, is_digit_from, length-padded}
-pub use Rattle.awb_number.specs.Digits.{decimal_value, is_digit, is_letter, is_letter_or_digit, padded}
-pub use Rattle.awb_number.specs.Number.{IsNumber, has_number_shape, key_of, number_of}
-pub use Rattle.imp_fields.specs.Airport.{airport_of, is_airport}
-pub use Rattle.imp_fields.specs.Amount.{IsPieces, IsTenths, book_weight_of, count_of, denominator_of, is_digit_or_point, is_weight_numeral, numerator_of, rounded_tenths, share_of, tenths_of}
-pub use Rattle.imp_fields.specs.Characters.{NoneInFront, before_last_while, drop_while, fields, is_blank, is_line, is_point, is_printable, is_slash, last_while}
-pub use Rattle.imp_fields.specs.Consignment.{Shipment, WrittenLine, consignment_by, consignment_of, consignment_text, goods_part, goods_text, has_consignment_shape, quantity_part, shipment_written}
-pub use Rattle.imp_fields.specs.Flight.{Designator, IsDesignator, flight_of, flight_text, is_carrier, same_flight, same_letter, suffix_of, suffix_text}
-pub use Rattle.imp_fields.specs.Message.{err_of, fault_in, is_head, sent_text, unless_true}
-pub use Rattle.imp_fields.specs.Name.{ends_in_blank, is_goods, is_name, kept_goods, trimmed}
-pub use Rattle.imp_fields.specs.NormalText.{BeginLines, IsFaultOf, fault_at, fault_of, first_fault, first_kind, from_line, from_message_line, is_empty, is_message_line, is_newline, kind_of, line_fault, line_starts, line_without_end, lines_of, normal_lines, normal_text, starts_from, unless_fault}
-pub use Rattle.imp_fields.specs.Quantity.{AreTenths, IsQuantity, IsTotal, IsWeight, code_letter, code_of, ends_in_t, is_unread, left_in, left_of_weight, quantity_after, quantity_of, quantity_text, total_at_end, total_text, unit_of, weight_at_front, weight_in, weight_text, written_code}
-pub use Rattle.imp_fields.specs.Scan.{AreKept, AreSlicesBefore, IsScanned, IsScannedTo, Sees, pieces_from}
-pub use Rattle.imp_fields.specs.Token.{AreSlices, AreSlicesFrom, IsSlice, is_line_token}
+pub use Rattle.awb_number.specs.Number.{decimal_value, is_digit, is_letter, is_letter_or_digit, padded, IsNumber, has_number_shape, key_of, number_of}
+pub use Rattle.imp_fields.specs.Fields.{airport_of, is_airport, IsPieces, IsTenths, book_weight_of, count_of, denominator_of, is_digit_or_point, is_weight_numeral, numerator_of, rounded_tenths, share_of, tenths_of, NoneInFront, before_last_while, drop_while, fields, is_blank, is_line, is_point, is_printable, is_slash, last_while, Designator, IsDesignator, flight_of, flight_text, is_carrier, same_flight, same_letter, suffix_of, suffix_text, AreSlices, AreSlicesFrom, IsSlice, is_line_token}
+pub use Rattle.imp_fields.specs.Message.{Shipment, WrittenLine, consignment_by, consignment_of, consignment_text, goods_part, goods_text, has_consignment_shape, quantity_part, shipment_written, err_of, fault_in, is_head, sent_text, unless_true, ends_in_blank, is_goods, is_name, kept_goods, trimmed, BeginLines, IsFaultOf, fault_at, fault_of, first_fault, first_kind, from_line, from_message_line, is_empty, is_message_line, is_newline, kind_of, line_fault, line_starts, line_without_end, lines_of, normal_lines, normal_text, starts_from, unless_fault, AreTenths, IsQuantity, IsTotal, IsWeight, code_letter, code_of, ends_in_t, is_unread, left_in, left_of_weight, quantity_after, quantity_of, quantity_text, total_at_end, total_text, unit_of, weight_at_front, weight_in, weight_text, written_code, AreKept, AreSlicesBefore, IsScanned, IsScannedTo, Sees, pieces_from}
 pub use Rattle.imp_fields.specs.declared.amount.Quantity.{Quantity}
 pub use Rattle.imp_fields.specs.declared.amount.ShipmentCode.TheVariants.{Divided, Multi, Part, Split, Total}
 pub use Rattle.imp_fields.specs.declared.amount.ShipmentCode.{ShipmentCode}
@@ -20,8 +10,8 @@ pub use Rattle.imp_fields.specs.declared.fault.TextFault.{TextFault}
 pub use Rattle.imp_fields.specs.declared.fault.Why.{Why}
 pub use Rattle.imp_fields.specs.declared.line.MessageKind.{MessageKind}
 pub use Rattle.imp_fields.specs.declared.normal.Scan.{Scan}
-pub use Rattle.imp_fields.specs.declared.token.Token.{Token}
-pub use Rattle.station_days.specs.Steps.{or_else, where_true, ◌>>=◌}
+pub use Rattle.imp_fields.specs.declared.line.Token.{Token}
+pub use Rattle.station_days.specs.Date.{or_else, where_true, ◌>>=◌}
 pub use Rattle.std.proofs.Common.{Bool, List, None, Option, Some, [], ap, append-nil, append_assoc, arith, cond, drop, false, get_or, inl, inr, length, map, refl, subst, suc, sym, take, true, true≢false, zero, ℕ, ◌*◌, ◌++◌, ◌+◌, ◌-◌, ◌<◌, ◌^◌, ◌∙◌, ◌∷◌, ◌≡◌, ◌≤◌, ◌⊎◌}
 pub use Rattle.std.proofs.Math.ListN.{get_or-append, get_or-eq_default}
 pub use Rattle.std.proofs.Math.Nat.{div-le_of_le-mul, div-lt_iff_lt-mul, one-le-pow, pow-le-pow_right}

@@ -1,16 +1,4 @@
 pub mod Common
-pub mod Characters
-pub mod TextSize
-pub mod Amount
-pub mod Quantity
-pub mod Flight
-pub mod Airport
-pub mod Padding
-pub mod Name
-pub mod Token
-pub mod Consignment
-pub mod NormalText
-pub mod Scan
+pub mod Fields
 pub mod Message
 pub mod Checks
-pub mod Fault

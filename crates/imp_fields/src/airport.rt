@@ -1,5 +1,5 @@
 ghost use Rattle.std.specs.Prelude.{◌≡◌, ℕ, List, length, IsTrue, Some};
-ghost use Rattle.imp_fields.specs.Airport.{is_airport, airport_of};
+ghost use Rattle.imp_fields.specs.Fields.{is_airport, airport_of};
 
 use awb_number::ascii_text;
 use std::fmt;

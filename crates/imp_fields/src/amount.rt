@@ -1,5 +1,5 @@
 ghost use Rattle.std.specs.Prelude.{◌≡◌, ℕ, ◌+◌, ◌-◌, ◌*◌, ◌/◌, ◌<◌, ◌≤◌, ◌^◌, ◌↔◌, max, IsSome, IfSome, Some, decimal};
-ghost use Rattle.imp_fields.specs.Amount.{IsPieces, IsPartNumber, IsTenths, IsBookTenths, count_of, share_of};
+ghost use Rattle.imp_fields.specs.Fields.{IsPieces, IsPartNumber, IsTenths, IsBookTenths, count_of, share_of};
 
 use crate::run;
 use std::fmt;

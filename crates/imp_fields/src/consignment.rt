@@ -2,14 +2,13 @@
 
 ghost use Rattle.std.specs.Prelude.{◌≡◌, ◌≤◌, length, slice_range, IsSome, IfOk};
 ghost use Rattle.imp_fields.specs.Common.{has_number_shape, where_true};
-ghost use Rattle.imp_fields.specs.Consignment.{has_consignment_shape, consignment_of, plain, HasSpans};
+ghost use Rattle.imp_fields.specs.Message.{has_consignment_shape, consignment_of, plain, HasSpans};
 
 use crate::airport::Airport;
 use crate::fault::Why;
-use crate::line::Consignment;
+use crate::line::{Consignment, Token};
 use crate::quantity::read_quantity;
 use crate::run;
-use crate::token::Token;
 use awb_number::Awb;
 
 /// Returns whether twelve bytes are three digits, a hyphen and eight digits.

@@ -1,7 +1,6 @@
 //! Faults of texts.
 ghost use Rattle.std.specs.Prelude.{◌≡◌, Some};
-ghost use Rattle.imp_fields.specs.Fault.{why_word};
-ghost use Rattle.imp_fields.specs.NormalText.{fault_at};
+ghost use Rattle.imp_fields.specs.Message.{why_word, fault_at};
 
 use std::fmt;
 

@@ -1,8 +1,8 @@
 ghost use Rattle.std.specs.Prelude.{◌≡◌, ◌+◌, ◌≤◌, ◌++◌, ℕ, List, Option, IsTrue, IfSome, Some, length, take, nat_lt, if◌then◌else◌};
 ghost use Rattle.imp_fields.specs.Common.{is_letter, padded};
-ghost use Rattle.imp_fields.specs.Flight.{Designator, IsDesignator, flight_of, flight_text, is_carrier, same_flight, same_letter, suffix_of};
+ghost use Rattle.imp_fields.specs.Fields.{Designator, IsDesignator, flight_of, flight_text, is_carrier, same_flight, same_letter, suffix_of};
 
-use crate::put::put;
+use crate::field::put;
 use crate::run;
 use awb_number::ascii_text;
 use std::fmt;

@@ -1,10 +1,9 @@
 //! Laws about the definitions.
 
 ghost use Rattle.std.specs.Prelude.{◌≡◌, ◌↔◌, ◌≤◌, ◌-◌, ℕ, List, Some, IsTrue};
-ghost use Rattle.imp_fields.specs.Amount.{share_of};
-ghost use Rattle.imp_fields.specs.Flight.{Designator, IsDesignator, flight_text, same_flight};
+ghost use Rattle.imp_fields.specs.Fields.{share_of, Designator, IsDesignator, flight_text, same_flight};
 ghost use Rattle.imp_fields.specs.declared.amount.Quantity.{Quantity};
-ghost use Rattle.imp_fields.specs.Quantity.{quantity_of, IsQuantity};
+ghost use Rattle.imp_fields.specs.Message.{quantity_of, IsQuantity};
 
 /// A text is read as a quantity exactly if its parts make that quantity.
 pub fn quantity_law()

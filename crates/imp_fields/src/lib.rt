@@ -4,7 +4,6 @@
 mod airport;
 mod amount;
 mod consignment;
-mod discrepancy;
 mod fault;
 mod field;
 mod flight;
@@ -12,11 +11,8 @@ mod laws;
 mod line;
 mod name;
 mod normal;
-mod put;
 mod quantity;
 mod run;
-mod token;
-mod waybill_summary;
 
 pub use airport::Airport;
 pub use amount::{
@@ -24,15 +20,11 @@ pub use amount::{
     ShipmentCode, Tenths, WeightUnit, book_weight, share,
 };
 pub use consignment::read_consignment;
-pub use discrepancy::Discrepancy;
 pub use fault::{TextFault, Why, fault_at};
-pub use field::{cut_at_slash, first_field};
+pub use field::{cut_at_slash, first_field, put_decimal};
 pub use flight::Flight;
 pub use laws::{flight_law, quantity_law, share_law};
-pub use line::{Consignment, Lines, MessageKind};
+pub use line::{Consignment, Discrepancy, Lines, MessageKind, Token, WaybillSummary};
 pub use name::{Goods, Name};
 pub use normal::{MOST_BYTES, MOST_LINES, is_head, normal_text};
-pub use put::put_decimal;
 pub use quantity::{put_quantity, read_quantity, weight_of};
-pub use token::Token;
-pub use waybill_summary::WaybillSummary;

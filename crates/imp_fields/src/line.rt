@@ -1,12 +1,59 @@
-ghost use Rattle.std.specs.Prelude.{◌≤◌, IsTrue, length};
+ghost use Rattle.std.specs.Prelude.{◌≡◌, ◌≤◌, length, IsTrue};
+ghost use Rattle.imp_fields.specs.Fields.{IsSlice, is_line_token, most_lines};
 ghost use Rattle.imp_fields.specs.Common.{list_all};
-ghost use Rattle.imp_fields.specs.Token.{is_line_token};
-ghost use Rattle.imp_fields.specs.TextSize.{most_lines};
 
 use crate::airport::Airport;
-use crate::amount::Quantity;
-use crate::token::Token;
+use crate::amount::{BookTenths, Pieces, Quantity};
 use awb_number::Awb;
+
+/// A slice of a source text, with its position. The end is exclusive.
+///
+/// The source of a line of `Lines` is the telegram; that of a field is its line.
+#[derive(Clone, Copy, Debug)]
+pub struct Token<'a> {
+    pub start: usize,
+    pub end: usize,
+    pub text: &'a [u8],
+}
+
+impl<'a> Token<'a> {
+    /// Returns the slice of a source from `start` to `end`.
+    pub fn new(source: &'a [u8], start: usize, end: usize) -> Token<'a>
+        requires ordered { start ≤ end }
+        requires within { end ≤ length source.now }
+        ensures slice { IsSlice source.now result }
+        ensures start { result.start ≡ start }
+        ensures end { result.end ≡ end }
+    {
+        Token {
+            start,
+            end,
+            text: &source[start..end],
+        }
+    }
+}
+
+/// A discrepancy between goods and documents.
+#[derive(Clone, Copy, Debug)]
+pub enum Discrepancy {
+    /// OFLD, offloaded.
+    Offloaded,
+    /// MSCA, missing.
+    Missing,
+    /// FDCA, found.
+    Found,
+}
+
+/// A waybill as written messages name it: its number and route, and the declared pieces and weight,
+/// without the goods.
+#[derive(Clone, Copy)]
+pub struct WaybillSummary {
+    pub awb: Awb,
+    pub origin: Airport,
+    pub destination: Airport,
+    pub pieces: Pieces,
+    pub tenths: BookTenths,
+}
 
 /// The kind of a message.
 #[derive(Clone, Copy, Debug)]

@@ -1,9 +1,7 @@
-ghost use Rattle.std.specs.Prelude.{◌≡◌, ◌++◌, ◌-◌, ◌↔◌, ℕ, ◌≤◌, List, length, take, IsTrue, IsSome, IfSome, Some};
+ghost use Rattle.std.specs.Prelude.{◌≡◌, ◌++◌, ◌-◌, ◌↔◌, ℕ, ◌≤◌, List, length, take, IsTrue, IsSome, IfSome, Some, replicate};
 ghost use Rattle.imp_fields.specs.Common.{list_all};
-ghost use Rattle.std.specs.Prelude.{replicate};
-ghost use Rattle.imp_fields.specs.Characters.{is_printable};
-ghost use Rattle.imp_fields.specs.Padding.{IsPadded, padding_bytes, padding_length};
-ghost use Rattle.imp_fields.specs.Name.{is_short_text, is_name, is_goods, kept_goods};
+ghost use Rattle.imp_fields.specs.Fields.{is_printable, IsPadded, padding_bytes, padding_length};
+ghost use Rattle.imp_fields.specs.Message.{is_short_text, is_name, is_goods, kept_goods};
 
 use crate::run;
 use awb_number::ascii_text;

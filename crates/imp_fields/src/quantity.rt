@@ -2,12 +2,11 @@
 
 ghost use Rattle.std.specs.Prelude.{◌≡◌, ◌+◌, ◌++◌, take, decimal, ◌≤◌, ◌<◌, ◌*◌, ◌^◌, ℕ, length, filter, count_by, is_some, IfSome, Some, None};
 ghost use Rattle.imp_fields.specs.Common.{list_all, position_or_len, is_digit, decimal_value, where_true};
-ghost use Rattle.imp_fields.specs.Characters.{is_point};
-ghost use Rattle.imp_fields.specs.Amount.{IsTenths, is_digit_or_point, is_weight_numeral, rounded_tenths, numerator_of, denominator_of, tenths_of};
-ghost use Rattle.imp_fields.specs.Quantity.{code_letter, code_of, weight_text, total_text, quantity_text, unit_of, weight_of, weight_at_front, left_of_weight, total_at_end, is_unread, quantity_of};
+ghost use Rattle.imp_fields.specs.Fields.{is_point, IsTenths, is_digit_or_point, is_weight_numeral, rounded_tenths, numerator_of, denominator_of, tenths_of};
+ghost use Rattle.imp_fields.specs.Message.{code_letter, code_of, weight_text, total_text, quantity_text, unit_of, weight_of, weight_at_front, left_of_weight, total_at_end, is_unread, quantity_of};
 
 use crate::amount::{BookTenths, Pieces, Quantity, ShipmentCode, Tenths, WeightUnit};
-use crate::put::{put, put_decimal};
+use crate::field::{put, put_decimal};
 use crate::run;
 
 /// Returns the number that the digits of a numeral make, and the number of points. It is `None` if

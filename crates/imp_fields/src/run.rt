@@ -2,9 +2,8 @@
 
 ghost use Rattle.std.specs.Prelude.{◌≡◌, ◌<◌, ◌≤◌, ◌^◌, ℕ, length, take, is_some, IfSome};
 ghost use Rattle.imp_fields.specs.Common.{list_all, position_or_len, prefix_len, suffix_len, is_digit, decimal_value};
-ghost use Rattle.imp_fields.specs.Amount.{IsPieces, count_of, is_digit_or_point};
-ghost use Rattle.imp_fields.specs.Characters.{is_blank, is_printable, is_slash};
-ghost use Rattle.imp_fields.specs.NormalText.{is_newline};
+ghost use Rattle.imp_fields.specs.Fields.{IsPieces, count_of, is_digit_or_point, is_blank, is_printable, is_slash};
+ghost use Rattle.imp_fields.specs.Message.{is_newline};
 
 pub(crate) fn digits_in_front(text: &[u8]) -> usize
     ensures run { result ≡ prefix_len is_digit text.now }

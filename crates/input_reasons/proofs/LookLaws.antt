@@ -1,13 +1,13 @@
 -- Each line is seen once, and says what is read of it.
 use Rattle.input_reasons.proofs.Common.{AreNumbered, AreRead, Bool, Content, InboundLine, IsLook, IsReadFrom, IsTrue, LinePart, List, MatchBool, None, Ok, Result, SeenLine, Some, TextFault, [], ap, cargo_of, cond, cons_option, drop, dropped_line, dropped_texts, false, filter_map, is_some, left_behind, length, lines_of, loaded_by, loaded_in, loaded_part, lower_lines, map, not, refl, seen_line, seen_lines, seen_texts, subst, sym, true, ℕ, ◌++◌, ◌+◌, ◌==◌, ◌∙◌, ◌∷◌, ◌≡◌}
-use Rattle.imp_fields.specs.Consignment.{consignment_of}
+use Rattle.imp_fields.specs.Message.{consignment_of}
 use Rattle.ffm_text.specs.Ffm.{IsCargo, Manifest, Unloaded, is_cargo_line, last_point, unloading_point}
 use Rattle.shipment_machine.specs.declared.command.CargoLine.{CargoLine}
 use Rattle.telegrams.specs.Meaning.{Says, inbound_line, part_content}
 use Rattle.telegrams.specs.declared.telegram.Content.TheVariants as content
 use Rattle.telegrams.specs.declared.telegram.PartContent.{PartContent}
 use Rattle.telegrams.specs.declared.telegram.StatusContent.{StatusContent}
-use Rattle.input_reasons.specs.declared.look_line.LinePart.TheVariants as part
+use Rattle.input_reasons.specs.declared.look.LinePart.TheVariants as part
 use Rattle.input_reasons.specs.declared.look.Look.{Look}
 
 -- ---- each line once, and numbered

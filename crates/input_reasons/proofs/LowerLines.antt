@@ -2,8 +2,8 @@
 use Rattle.std.proofs.Common.{◌≡◌, ◌∙◌, ap, sym, ℕ, suc, ◌+◌, ◌-◌, ◌<◌, true, false, List, [], ◌∷◌, ◌++◌, length, get_or, drop, map, inl, inr, arith, append_assoc}
 use Rattle.input_reasons.proofs.Common.{Content, InboundLine, LinePart, SeenLine, cases_Bool, eq-eqb, eqb-true, left_behind, length-drop, length-map, list_all, list_all_at, lower_lines, lower_part, ne_eqb, seen_line, ◌==◌}
 use Rattle.std.proofs.Math.Seq.{drop-cons}
-use Rattle.imp_fields.specs.Token.{is_line_token}
-use Rattle.imp_fields.specs.declared.token.Token.{Token}
+use Rattle.imp_fields.specs.Fields.{is_line_token}
+use Rattle.imp_fields.specs.declared.line.Token.{Token}
 
 abbrev pub texts : List Token → List (List ℕ)
 texts tokens = map (λ (t : Token). t.text.now) tokens

@@ -1,6 +1,6 @@
 -- Reasons that are written.
 use Rattle.input_reasons.proofs.Common.{Err, HasReason, IfErr, IfOk, IsReason, IsTrue, List, Ok, OnOk, Result, [], ap, append_assoc, arith, codes, decimal, is_printable, le-leb, length, list_all, list_all-append, numbered_head, refl, subst, sym, true, ℕ, ◌++◌, ◌<◌, ◌^◌, ◌∙◌, ◌∷◌, ◌≡◌}
-use Rattle.awb_number.specs.Digits.{is_digit}
+use Rattle.awb_number.specs.Number.{is_digit}
 use Rattle.awb_number.proofs.Padded.{is_digit_bounds}
 use Rattle.imp_fields.proofs.WrittenLaws.{all_weaker, decimal_digits}
 use Rattle.station_core.specs.Ends.{Sent}

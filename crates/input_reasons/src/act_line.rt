@@ -3,7 +3,7 @@ ghost use Rattle.std.specs.Prelude.{IfOk, codes, string_bytes};
 ghost use Rattle.input_reasons.specs.Reason.{IsReason, numbered_head};
 
 use crate::body::{json_words, value_words};
-use crate::member::{kind_words, no_text_words};
+use crate::field::{kind_words, no_text_words};
 use crate::shown::{expected, numbered, quoted};
 use crate::telegram::refusal_words;
 use desk_commands::Verb;

@@ -2,10 +2,9 @@
 
 ghost use Rattle.std.specs.Prelude.{◌≡◌, ◌++◌, [], IfOk, OnOk, filter_map, map, option_map, string_bytes};
 ghost use Rattle.input_reasons.specs.Common.{cons_option, IsAscii, string, compact_text};
-ghost use Rattle.input_reasons.specs.LookObject.{cargo_members, dropped_object, list_text, look_object, message_members, part_members, passed_object, read_object, route_members, text_members, text_object, total_value};
+ghost use Rattle.input_reasons.specs.Look.{cargo_members, dropped_object, list_text, look_object, message_members, part_members, passed_object, read_object, route_members, text_members, text_object, total_value};
 
-use crate::look::Look;
-use crate::look_line::{DroppedLine, LinePart, SeenLine};
+use crate::look::{DroppedLine, LinePart, Look, SeenLine};
 use awb_number::ascii_text;
 use imp_fields::Pieces;
 use serde_json::json;

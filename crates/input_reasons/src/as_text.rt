@@ -1,10 +1,9 @@
 //! A dry run as lines for people.
 
 ghost use Rattle.std.specs.Prelude.{◌≡◌, ◌++◌, IfOk, OnOk, flat_map, string_bytes};
-ghost use Rattle.input_reasons.specs.LookText.{cargo_text, doubt_text, dropped_text, heading, line_text, look_text, total_text};
+ghost use Rattle.input_reasons.specs.Look.{cargo_text, doubt_text, dropped_text, heading, line_text, look_text, total_text};
 
-use crate::look::Look;
-use crate::look_line::{DroppedLine, LinePart, SeenLine};
+use crate::look::{DroppedLine, LinePart, Look, SeenLine};
 use awb_number::ascii_text;
 use imp_fields::Pieces;
 use shipment_machine::{Amount, CargoLine};

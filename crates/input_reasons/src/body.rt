@@ -1,10 +1,10 @@
 //! Why a body says no command of its verb.
+
 ghost use Rattle.std.specs.Prelude.{IfOk, IsTrue, codes, string_bytes};
 ghost use Rattle.input_reasons.specs.Common.{list_all, is_printable};
 ghost use Rattle.input_reasons.specs.Reason.{IsReason};
 
-use crate::field::fields_words;
-use crate::member::{kind_words, member_words};
+use crate::field::{fields_words, kind_words, member_words};
 use crate::shown::{printable, quoted, reason_line};
 use desk_commands::{Field, Verb};
 use imp_fields::MOST_BYTES;

@@ -4,8 +4,8 @@ ghost use Rattle.std.specs.Prelude.{◌≡◌, ◌<◌, ◌≤◌, ◌∷◌, []
 ghost use Rattle.input_reasons.specs.Common.{list_all, position_or_len, slice_split, suffix_len, is_blank, is_line, is_newline, line_without_end};
 ghost use Rattle.input_reasons.specs.Look.{dropped_line, front_lines};
 
-use crate::doubt::{begins_answer, is_message_line};
-use crate::look_line::DroppedLine;
+use crate::look::DroppedLine;
+use crate::tell::{begins_answer, is_message_line};
 use shipment_machine::TrailLine;
 use std::alloc::{AllocError, Global};
 

@@ -4,8 +4,8 @@ ghost use Rattle.std.specs.Prelude.{◌≡◌, ◌≤◌, ◌++◌, IsTrue, IfOk
 ghost use Rattle.input_reasons.specs.Common.{list_all, is_line, line_texts, most_lines, is_line_token, is_cargo_line};
 ghost use Rattle.input_reasons.specs.Look.{cargo_of, is_unread, left_behind, loaded_part, lower_lines, lower_part, manifest_part, second_part, seen_line, seen_lines};
 
-use crate::doubt::is_doubtful;
-use crate::look_line::{LinePart, SeenLine};
+use crate::look::{LinePart, SeenLine};
+use crate::tell::is_doubtful;
 use ffm_text::unloading_point;
 use imp_fields::{Lines, Token};
 use shipment_machine::{InboundLine, TrailLine};

@@ -1,12 +1,12 @@
 -- What a reader of the station inside leaves of the station in memory.
 use Rattle.std.proofs.Common.{Bool, Err, IfErr, IfOk, List, Ok, OnErr, OnOk, Result, refl}
 use Rattle.shipment_machine.specs.Cargo.{Cargo}
-use Rattle.state_store.specs.Shown.{in_memory as in_maps}
+use Rattle.state_store.specs.Store.{in_memory as in_maps}
 use Rattle.state_store.specs.declared.maps.state.MapState.{MapState}
 use Rattle.station_core.specs.Keeping.{HandsOut, IsReadersFault, Keeping, OnlyReads, Reads}
 use Rattle.station_core.specs.Step.{State}
 use Rattle.station_core.specs.declared.answer.ActFault.{ActFault}
-use Rattle.station_engine.specs.Found.{station_over}
+use Rattle.station_engine.specs.Serving.{station_over}
 use Rattle.station_engine.specs.declared.station.StoredStation.{StoredStation}
 use Rattle.plain_station.specs.State.{in_memory, or_memory}
 use Rattle.plain_station.specs.declared.station.PlainStation.{PlainStation}

@@ -1,6 +1,6 @@
 -- The state of a station in memory.
 use Rattle.std.specs.Prelude.{false, Result, Ok, Err}
-use Rattle.state_store.specs.Shown.{Shows}
+use Rattle.state_store.specs.Store.{Shows}
 use Rattle.station_core.specs.Keeping.{Keeping}
 use Rattle.station_core.specs.Step.{IsLawfulState}
 use Rattle.station_core.specs.declared.answer.ActFault.{ActFault}

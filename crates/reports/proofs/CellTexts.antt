@@ -1,9 +1,9 @@
 -- Cells behind one another are a line, and an object.
 use Rattle.reports.proofs.Common.{Cell, Data, List, [], ap, append-nil, append_assoc, cell_text, compact_text, data_of, false, field_of, flat_map, join_with_byte, line_of, map, members_in, members_of, next_text, refl, string, sym, ℕ, ◌++◌, ◌∙◌, ◌∷◌, ◌≡◌}
 use Rattle.serde_json.specs.Written as json
-use Rattle.reports.specs.Cells.{members_text}
+use Rattle.reports.specs.Reports.{members_text}
 use Rattle.reports.specs.declared.cells.Cell.TheVariants as cell
-use Rattle.reports.specs.declared.form.Form.TheVariants as form
+use Rattle.reports.specs.declared.layout.Form.TheVariants as form
 
 fields : (f : List ℕ) (cs : List Cell) → join_with_byte 32 (f ∷ map field_of cs) ≡ f ++ flat_map (next_text form.Text) cs
 fields f [] = sym (append-nil f)

@@ -2,25 +2,14 @@
 pub use Rattle.agent_stock.specs.declared.runs.StockRun.{StockRun}
 pub use Rattle.awb_number.specs.Number.{number_text, prefix_of, serial_of}
 pub use Rattle.desk_commands.proofs.Written.{told}
-pub use Rattle.imp_fields.specs.Flight.{Designator, flight_text}
-pub use Rattle.reports.specs.Cells.{book_cells, cell_text, data_by, data_of, expected_cells, field_of, flight_cells, irregular_cells, line_by, line_of, manifest_cells, members_in, next_text, shed_cells, stock_cells, summary_cells}
-pub use Rattle.reports.specs.Days.{AreDated, IsDay, IsSince, lasts, own_moves}
-pub use Rattle.reports.specs.Ended.{HasEnded, HasEndedBy, HasEndedEach, HasTold, HaveGone, IsBegun, IsCause, StopsBy, StopsWriting, WritesReport, WritesRows}
-pub use Rattle.reports.specs.Keys.{kept_rows, spaced}
-pub use Rattle.reports.specs.Lines.{end_line, kept_line, message_lines, report_text, trail_line}
-pub use Rattle.reports.specs.Listings.{IsListing, IsTextOf, IsWhole, is_about, is_awaited, is_held_by, is_open, items_of, rows_data, rows_text}
-pub use Rattle.reports.specs.Manifest.{has_pieces, leaves, manifest_of, manifest_row, manifest_rows, takes_away}
-pub use Rattle.reports.specs.Objects.{count_data, kept_data, members_of, message_data, trail_data}
-pub use Rattle.reports.specs.Picking.{AreOne, HaveBytes, TakesWanted}
-pub use Rattle.reports.specs.Pieces.{before_row, close_of_none, end_piece, in_form, row_piece}
-pub use Rattle.reports.specs.Progress.{Ends, HasGone, HasStuck, IsWhy, Progress, Takes, Waits, progress_of}
-pub use Rattle.reports.specs.Reports.{IsExpectedReport, IsFlightReport, IsStockReport, irregularity_report, movement_book, pending_report, shed_report, trail_report}
-pub use Rattle.reports.specs.Tallies.{IsNew, TakesMove, counted, listed, nothing_of, row_of, tally_in, with_move}
+pub use Rattle.imp_fields.specs.Fields.{Designator, flight_text}
+pub use Rattle.reports.specs.Reports.{book_cells, cell_text, data_by, data_of, expected_cells, field_of, flight_cells, irregular_cells, line_by, line_of, manifest_cells, members_in, next_text, shed_cells, stock_cells, summary_cells, kept_rows, spaced, end_line, kept_line, message_lines, report_text, trail_line, IsListing, IsTextOf, IsWhole, is_about, is_awaited, is_held_by, is_open, items_of, rows_data, rows_text, count_data, kept_data, members_of, message_data, trail_data, before_row, close_of_none, end_piece, in_form, row_piece, IsExpectedReport, IsFlightReport, IsStockReport, irregularity_report, movement_book, pending_report, shed_report, trail_report}
+pub use Rattle.reports.specs.Passes.{AreDated, IsDay, IsSince, lasts, own_moves, HasEnded, HasEndedBy, HasEndedEach, HasTold, HaveGone, IsBegun, IsCause, StopsBy, StopsWriting, WritesReport, WritesRows, has_pieces, leaves, manifest_of, manifest_row, manifest_rows, takes_away, AreOne, HaveBytes, TakesWanted, Ends, HasGone, HasStuck, IsWhy, Progress, Takes, Waits, progress_of, IsNew, TakesMove, counted, listed, nothing_of, row_of, tally_in, with_move}
 pub use Rattle.reports.specs.declared.cells.Cell.{Cell}
-pub use Rattle.reports.specs.declared.fault.ReportCause.{ReportCause}
-pub use Rattle.reports.specs.declared.fault.ReportFault.{ReportFault}
-pub use Rattle.reports.specs.declared.form.Form.TheVariants.{Json, Text}
-pub use Rattle.reports.specs.declared.form.Form.{Form}
+pub use Rattle.reports.specs.declared.report.ReportCause.{ReportCause}
+pub use Rattle.reports.specs.declared.report.ReportFault.{ReportFault}
+pub use Rattle.reports.specs.declared.layout.Form.TheVariants.{Json, Text}
+pub use Rattle.reports.specs.declared.layout.Form.{Form}
 pub use Rattle.reports.specs.declared.manifest.ManifestRow.{ManifestRow}
 pub use Rattle.reports.specs.declared.tallies.Count.{Count}
 pub use Rattle.reports.specs.declared.tallies.Tallies.{Tallies}
@@ -29,8 +18,7 @@ pub use Rattle.serde_json.specs.Data.{Data, member, no_members, string}
 pub use Rattle.serde_json.specs.Written.{compact_text, items_text, members_text}
 pub use Rattle.shipment_machine.proofs.OnFlight.{Rising-waybills_of, is_in-waybills_of}
 pub use Rattle.shipment_machine.proofs.Rising.{Rising-filter, is_in-filter, same_rising}
-pub use Rattle.shipment_machine.specs.Amount.{amount}
-pub use Rattle.shipment_machine.specs.Book.{brings, has_moves, moved_in, moved_out, same_place, takes, tenths_of, waybills_of}
+pub use Rattle.shipment_machine.specs.Book.{amount, brings, has_moves, moved_in, moved_out, same_place, takes, tenths_of, waybills_of}
 pub use Rattle.shipment_machine.specs.Cargo.{Cargo}
 pub use Rattle.shipment_machine.specs.declared.flight.FlightDate.{FlightDate}
 pub use Rattle.shipment_machine.specs.declared.moves.Move.{Move}

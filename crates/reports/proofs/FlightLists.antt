@@ -1,7 +1,7 @@
 -- A cargo's noted flights, what flights are to bring, and what is announced are one list each, and so
 -- their reports have one text.
 use Rattle.reports.proofs.Common.{AreAnnounced, AreExpectations, AreExpectedBy, AreExpectedRows, AreFlightRows, AreNoted, Cargo, ExpectedRow, FlightDate, FlightRow, IsExpectedReport, IsFlightReport, List, Option, [], ap, asks_for, by_expectation, by_flight, cond, eq-eqb, eqb-true, expected_cells, expected_for, expected_row, false, filter, flight_cells, flight_row, is_awaited, line_by, map, nat_cmp, nat_cmp_total, not, refl, report_text, sym, true, ℕ, ◌==◌, ◌∙◌, ◌∷◌, ◌≡◌}
-use Rattle.shipment_machine.specs.Flights.{same_flight_date}
+use Rattle.shipment_machine.specs.Book.{same_flight_date}
 use Rattle.shipment_machine.specs.declared.moves.Expected.{Expected}
 use Rattle.shipment_machine.specs.declared.moves.Outbound.{Outbound}
 use Rattle.shipment_machine.proofs.FlightKeys.{same-is, same-refl}

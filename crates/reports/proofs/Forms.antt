@@ -3,7 +3,7 @@ use Rattle.std.proofs.Common.{arith, true, ◌≡◌, ◌∙◌, ap, sym, refl, 
 use Rattle.serde_json.proofs.OnLiterals.{serde_json_on_literals}
 use Rattle.reports.proofs.Common.{Data, Form, before_row, close_of_none, compact_text, count_data, end_line, end_piece, flat_map, items_of, items_text, member, members_text, no_members, row_piece, rows_data, rows_text}
 use Rattle.reports.proofs.Pieces.{pieces_of, whole_text}
-use Rattle.reports.specs.declared.form.Form.TheVariants as form
+use Rattle.reports.specs.declared.layout.Form.TheVariants as form
 
 module _ {Row : Type 0} (line : Row → List ℕ) (json : Row → Data) where
   abbrev pub piece : Form → ℕ → Row → List ℕ

@@ -1,6 +1,6 @@
 -- How a listing ends, by how a keeper handed out its rows.
 use Rattle.reports.proofs.Common.{ActFault, AreOne, Bool, Data, Ends, Err, Form, Given, HandedOut, HasEndedBy, HasEndedEach, HaveBytes, IfErr, IsReadersFault, IsTextOf, Keeping, List, None, Ok, OnErr, OnOk, Progress, ReportCause, ReportFault, Result, Some, State, StopsWriting, WritesReport, WritesRows, ap, end_piece, false, filter, inl, inr, length, refl, rows_text, subst, sym, take, true, ℕ, ◌<◌, ◌∙◌, ◌≡◌}
-use Rattle.reports.specs.declared.fault.ReportCause.TheVariants as cause
+use Rattle.reports.specs.declared.report.ReportCause.TheVariants as cause
 use Rattle.reports.proofs.Choosing.{TakesRow, Hands, wanted_rows, same_form, beginning, all_rows}
 use Rattle.reports.proofs.Forms.{piece, in_form, piece_some}
 use Rattle.reports.proofs.Known.{IsText, reported_by, reported_each}

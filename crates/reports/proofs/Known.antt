@@ -1,7 +1,7 @@
 -- How a report ends whose rows are known by what they are.
 use Rattle.reports.proofs.Common.{ActFault, Ends, Err, Given, HandedOut, HasEnded, HasEndedBy, HasEndedEach, HaveGone, IfErr, IsBegun, IsReadersFault, List, None, Ok, OnErr, OnOk, Progress, ReportCause, ReportFault, Result, Sent, Some, [], ap, inl, inr, length, length-take-le, subst, sym, take, ℕ, ◌++◌, ◌+◌, ◌≡◌}
 use Rattle.reports.proofs.Pieces.{pieces_of, whole_text}
-use Rattle.reports.specs.declared.fault.ReportCause.TheVariants as cause
+use Rattle.reports.specs.declared.report.ReportCause.TheVariants as cause
 use Rattle.reports.proofs.Telling.{Handed, start_whole, handed, unfinished, Took, SameName, reported}
 
 have_gone : (text : List ℕ) (n : ℕ) (old new : Given) → Sent old new text n → HaveGone n old new

@@ -3,7 +3,7 @@ use Rattle.reports.proofs.Common.{After, FlightRow, Json, Last, Of, Text, [], bo
 use Rattle.std.specs.Fmt.{digits}
 use Rattle.serde_json.proofs.OnLiterals.{serde_json_on_literals}
 use Rattle.jiff_core.specs.Calendar.{days_of_years, days_of_months, day_count, days_from_civil}
-use Rattle.desk_commands.specs.Day.{day_line}
+use Rattle.desk_commands.specs.Command.{day_line}
 use Rattle.station_core.specs.declared.rows.MessageQuery.TheVariants as messages
 use Rattle.station_core.specs.declared.rows.TrailQuery.TheVariants as trail
 use Rattle.reports.proofs.Examples.{printed, stock_runs, received, departed, told, short, flight_row, checked_row, jfk, on_the_day}

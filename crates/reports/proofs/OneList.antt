@@ -1,7 +1,6 @@
 -- Two lists of the runs of one stock are equal, and so its report has one text.
 use Rattle.reports.proofs.Common.{AllByRecursion, IsSome, IsStockReport, IsTrue, List, Some, StockRun, [], and_from, and_parts, ap, arith, cases_lt, false≢true, inl, inr, is_some, le-leb, leb-true, line_by, list_any, lt-ltb, ltb-true, or_cases, refl, report_text, serial_of, stock_cells, subst, sym, ℕ, ⊎_elim, ◌+◌, ◌<◌, ◌∙◌, ◌∷◌, ◌≡◌, ◌≢◌, ◌≤◌, ◌⊎◌}
-use Rattle.agent_stock.specs.Stock.{Holders, is_among}
-use Rattle.agent_stock.specs.Runs.{IsMaximalRun, AreApart, AreStockRuns}
+use Rattle.agent_stock.specs.Stock.{Holders, is_among, IsMaximalRun, AreApart, AreStockRuns}
 
 -- each row begins there at least, and behind the one before it
 abbrev StandFrom : ℕ → List StockRun → Type 0

@@ -6,7 +6,7 @@ use Rattle.std.specs.declared.cmp.Ordering.TheVariants.{Less}
 use Rattle.std.proofs.lemmas.List.Elements.{recursion_from_All}
 use Rattle.std.proofs.lemmas.Map.Views.{All-found}
 use Rattle.shipment_machine.specs.Book.{pieces_of}
-use Rattle.shipment_machine.specs.Numbers.{IsAscending, is_in}
+use Rattle.shipment_machine.specs.Cargo.{IsAscending, is_in}
 use Rattle.reports.specs.declared.tallies.FlightSums.{FlightSums}
 
 -- rows that were put, where none is ahead

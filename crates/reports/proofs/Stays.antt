@@ -1,7 +1,7 @@
 -- The day since which it has lasted for a waybill, by a pass over its movements.
 use Rattle.reports.proofs.Common.{ActFault, AllZip, AreDated, BookRow, Bool, Cargo, Count, Err, HandedOut, IsDay, IsOk, IsSince, Keeping, List, Move, None, Of, Ok, OnOk, OnlyReads, Option, Result, Some, Surplus, [], ap, append-nil, append_assoc, arith, book_row, brings, cases_lt, counted, false, false≢true, filter, get_or, if◌then◌else◌, lasts, le-ltb, length, length-append, lt-ltb, moved_in, moved_out, movements_for, nat_lt, numbered, option_map, own_moves, refl, same_place, slice_get, subst, suc, sum_by, sum_by_push, sym, take, take_all, take_more, takes, true, true≢false, zero, ℕ, ⊎_elim, ◌&&◌, ◌++◌, ◌+◌, ◌-◌, ◌<◌, ◌==◌, ◌||◌, ◌∙◌, ◌∷◌, ◌≡◌, ◌≤◌}
 use Rattle.shipment_machine.specs.Book.{pieces_of}
-use Rattle.reports.specs.Spells.{TakesNext, TakesRow, is_there, lasts_by, moved_spell, next_spell, since_after, start_of}
+use Rattle.reports.specs.Passes.{TakesNext, TakesRow, is_there, lasts_by, moved_spell, next_spell, since_after, start_of}
 use Rattle.reports.specs.declared.days.Dated.{Dated}
 use Rattle.reports.specs.declared.days.Gathering.{Gathering}
 use Rattle.reports.specs.declared.days.Lasting.{Lasting}

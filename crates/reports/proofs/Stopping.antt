@@ -1,7 +1,7 @@
 -- How the writing of a report ends, whatever the station keeps.
 use Rattle.std.proofs.Common.{arith, ◌≡◌, ◌∙◌, ap, sym, refl, subst, inl, inr, ℕ, ◌+◌, ◌<◌, ◌≤◌, true, false, Some, None, Result, Ok, Err, List, [], ◌∷◌, ◌++◌, length, take, length-append, OnOk, IfErr}
 use Rattle.reports.proofs.Common.{ActFault, Ends, Given, HandedOut, HasGone, HasStuck, NoneFailed, OneFailed, Progress, ReportCause, ReportFault, StopsBy, StopsWriting, Takes, Waits, length-take-le, ◌⊎◌}
-use Rattle.reports.specs.declared.fault.ReportCause.TheVariants as cause
+use Rattle.reports.specs.declared.report.ReportCause.TheVariants as cause
 use Rattle.reports.proofs.Telling.{Took, SameName}
 
 -- all goes well: what stands in front went out with a byte behind it, or waits

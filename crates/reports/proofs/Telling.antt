@@ -3,7 +3,7 @@ use Rattle.std.proofs.Common.{arith, ◌≡◌, ◌∙◌, ap, sym, refl, subst,
 use Rattle.std.proofs.Math.Seq.{take-append-add, take-append_seam}
 use Rattle.reports.proofs.Common.{ActFault, Ends, Given, HandedOut, HasEnded, HasGone, HasStuck, HasTold, IsBegun, IsCause, IsReadersFault, IsWhy, Progress, ReportCause, ReportFault, Takes, Waits, take-append-drop, take-append-le}
 use Rattle.reports.proofs.Pieces.{pieces_of, whole_text}
-use Rattle.reports.specs.declared.fault.ReportCause.TheVariants as cause
+use Rattle.reports.specs.declared.report.ReportCause.TheVariants as cause
 use Rattle.station_core.specs.declared.answer.ActFault.TheVariants as act
 
 -- all of the text went out, but for what waits

@@ -3,7 +3,7 @@ use Rattle.reports.proofs.Common.{List, [], append_assoc, codes, compact_text, d
 use Rattle.serde_json.proofs.OnLiterals.{serde_json_on_literals}
 use Rattle.station_core.specs.declared.rows.Message.{Message}
 use Rattle.station_core.specs.declared.rows.TrailRow.{TrailRow}
-use Rattle.reports.specs.declared.kept.KeptRow.{KeptRow}
+use Rattle.reports.specs.declared.readings.KeptRow.{KeptRow}
 
 put : (old k a l t x : List ℕ) → ((old ++ (k ++ (a ++ l))) ++ t) ++ x ≡ old ++ (k ++ (a ++ (l ++ (t ++ x))))
 put old k a l t x = simp append_assoc

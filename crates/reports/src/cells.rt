@@ -1,22 +1,19 @@
 //! The cells of a row: what a report shows of it, as a line and as a JSON object.
+
 ghost use Rattle.std.specs.Prelude.{◌≡◌, ◌++◌, ◌∷◌, ◌<◌, IfOk, OnOk, decimal, length, string_bytes};
 ghost use Rattle.reports.specs.Common.{flat_map, compact_text};
-ghost use Rattle.reports.specs.Cells.{cell_text, data_of, field_of, label_text, line_of, next_text};
-ghost use Rattle.reports.specs.Pieces.{in_form};
+ghost use Rattle.reports.specs.Reports.{cell_text, data_of, field_of, label_text, line_of, next_text, in_form};
 ghost use Rattle.reports.specs.declared.cells.Cell.TheVariants as cell;
 
-use crate::form::Form;
-use crate::layout::{amount_text, number_right};
+use crate::layout::{
+    Form, amount_text, day_or_none, flight_column, flight_or_none, goods_or_none, moment_text,
+    notified_or_none, number_right, open_or, places_text, program_version, serials_text,
+};
 use crate::objects::{
     airport_text, amount_members, amount_object, awb_text, flag, flight_members, flight_or_null,
-    holder_members, moment_members, place_members, route_members, serial_members, since_text,
+    holder_members, moment_members, place_members, quoted, route_members, serial_members,
+    since_text,
 };
-use crate::quoting::quoted;
-use crate::texts::{
-    day_or_none, flight_column, flight_or_none, goods_or_none, moment_text, notified_or_none,
-    open_or, places_text, serials_text,
-};
-use crate::version::program_version;
 use agent_stock::{Holder, StockRun};
 use awb_number::{Awb, ascii_text};
 use imp_fields::{Airport, Goods};

@@ -1,8 +1,7 @@
 //! Since when waybills have had pieces in store, or missing or found ones.
 ghost use Rattle.std.specs.Prelude.{◌≡◌, ℕ, ◌++◌, ◌∷◌, [], false, List, Option, IfErr, IfOk, IfSome};
 ghost use Rattle.reports.specs.Common.{IfSound, IsReadersFault, OnlyReads, Reads};
-ghost use Rattle.reports.specs.Days.{AreDated, IsDayOf};
-ghost use Rattle.reports.specs.Spells.{flow_with, is_there, moved_spell, next_spell, since_after, spell_lasts, start_of};
+ghost use Rattle.reports.specs.Passes.{AreDated, IsDayOf, flow_with, is_there, moved_spell, next_spell, since_after, spell_lasts, start_of};
 
 use crate::readings::Reading;
 use crate::tallies::{Count, ZERO};
@@ -173,7 +172,7 @@ impl Spell {
 }
 
 impl Sink<BookRow> for Spell {
-    ghost use Rattle.reports.specs.Spells.{TakesNext};
+    ghost use Rattle.reports.specs.Passes.{TakesNext};
 
     ghost takes = { λ old row go new. TakesNext old row.movement go new };
 
@@ -217,7 +216,7 @@ struct Gathering<Row> {
 }
 
 impl<Row: Drop> Sink<Row> for Gathering<Row> {
-    ghost use Rattle.reports.specs.Spells.{TakesRow};
+    ghost use Rattle.reports.specs.Passes.{TakesRow};
 
     ghost takes = { λ old row go new. TakesRow old row go new };
 

@@ -1,18 +1,16 @@
 //! Members of the rows' objects.
-ghost use Rattle.std.specs.Prelude.{◌≡◌, ◌+◌, ◌-◌, IfOk, string_bytes};
-ghost use Rattle.reports.specs.Common.{IsAscii, padded, number_text, serial_of, day_line, flight_text, boolean, string, compact_text};
-ghost use Rattle.reports.specs.Cells.{cell_text};
-ghost use Rattle.reports.specs.Layout.{clock_text};
-ghost use Rattle.reports.specs.Lines.{place_text};
-ghost use Rattle.reports.specs.Objects.{amount_data, flight_or_null, holder_name, holder_word, since_text};
+//! Texts as JSON strings.
+
+ghost use Rattle.std.specs.Prelude.{◌≡◌, ◌+◌, ◌-◌, IfOk, string_bytes, ◌++◌, ◌<◌, ◌≤◌, OnOk, take};
+ghost use Rattle.reports.specs.Common.{IsAscii, padded, number_text, serial_of, day_line, flight_text, boolean, string, compact_text, digit_char, escape_letter, escape_byte, escape, quoted};
+ghost use Rattle.reports.specs.Reports.{cell_text, clock_text, place_text, amount_data, flight_or_null, holder_name, holder_word, since_text};
 ghost use Rattle.reports.specs.declared.cells.Cell.TheVariants as cell;
 
-use crate::layout::{clock, seven_digits};
-use crate::quoting::quoted;
-use crate::texts::place_name;
+use crate::layout::{clock, place_name, seven_digits};
 use agent_stock::{Holder, StockRun};
 use awb_number::{Awb, ascii_text};
 use imp_fields::Airport;
+use serde_json::json;
 use shipment_machine::{Amount, FlightDate, Place};
 use station_days::{LocalDay, Moment};
 use std::alloc::{AllocError, Global};
@@ -172,4 +170,71 @@ pub fn since_text(alloc: Global, since: Option<LocalDay>) -> Result<String, Allo
         Some(day) => date_text(alloc, day),
         None => quoted(alloc, ""),
     }
+}
+
+pub(crate) fn quoted(alloc: Global, text: &str) -> Result<String, AllocError>
+    ensures { IfOk result (λ quoted. string_bytes quoted ≡ compact_text (string text.now)) }
+{
+    json!(in alloc; text)?.to_string(alloc)
+}
+
+/// Returns the letter of a byte's short escape, or 0 if it has none.
+fn escape_letter(byte: u8) -> u8
+    ensures { result ≡ escape_letter byte }
+{
+    match byte {
+        b'"' | b'\\' => byte,
+        8 => b'b',
+        12 => b'f',
+        b'\n' => b'n',
+        b'\r' => b'r',
+        b'\t' => b't',
+        _ => 0,
+    }
+}
+
+fn hex_digit(digit: u8) -> u8
+    requires { digit < 16 }
+    ensures { result ≡ digit_char digit }
+{
+    if digit < 10 {
+        b'0' + digit
+    } else {
+        b'a' + (digit - 10)
+    }
+}
+
+/// Appends a byte as in a JSON string.
+#[tactic(auto, unfolding(json::specs::Print::escape_byte))]
+fn put_escaped(out: &mut Vec<u8>, byte: u8) -> Result<(), AllocError>
+    ensures { OnOk result (out.new.items ≡ out.old.items ++ escape_byte byte) }
+{
+    let letter = escape_letter(byte);
+    if letter > 0 {
+        return out.extend_from_slice(&[b'\\', letter]);
+    }
+    if byte < 0x20 {
+        let (high, low) = (hex_digit(byte / 16), hex_digit(byte % 16));
+        return out.extend_from_slice(&[b'\\', b'u', b'0', b'0', high, low]);
+    }
+    out.extend_from_slice(&[byte])
+}
+
+/// Appends bytes as in a JSON string.
+fn put_all_escaped(out: &mut Vec<u8>, text: &[u8]) -> Result<(), AllocError>
+    ensures { OnOk result (out.new.items ≡ out.old.items ++ escape text.now) }
+{
+    for byte in text {
+        put_escaped(out, *byte)?;
+    }
+    Ok(())
+}
+
+/// Appends bytes as a JSON string.
+pub(crate) fn put_quoted(out: &mut Vec<u8>, text: &[u8]) -> Result<(), AllocError>
+    ensures { OnOk result (out.new.items ≡ out.old.items ++ compact_text (string text.now)) }
+{
+    out.extend_from_slice(b"\"")?;
+    put_all_escaped(out, text)?;
+    out.extend_from_slice(b"\"")
 }

@@ -1,6 +1,32 @@
 //! Names of reports.
-ghost use Rattle.std.specs.Prelude.{◌≡◌};
-ghost use Rattle.reports.specs.Reports.{report_called};
+//! Listings.
+//! Laws about the definitions: each report has exactly one text.
+
+ghost use Rattle.std.specs.Prelude.{◌≡◌, ℕ, List, filter};
+ghost use Rattle.reports.specs.Reports.{report_called, listing_called, IsStockReport, IsFlightReport, IsExpectedReport, is_awaited};
+ghost use Rattle.reports.specs.Common.{Holders, AreStockRuns, StockRun, Cargo, AreExpectedBy, AreExpectedRows, Open, ExpectedRow};
+
+use agent_stock::AgentCode;
+use awb_number::Awb;
+use shipment_machine::FlightDate;
+use station_core::{ActFault, Key};
+
+/// The reason why a report broke off.
+#[derive(Clone, Copy)]
+pub enum ReportCause {
+    /// The writer failed, or wrote 0 bytes.
+    Write,
+    /// The keeper's fault, or `Memory` if memory ran out for a line. Buffered bytes aren't written.
+    Act(ActFault),
+}
+
+/// A report that broke off.
+#[derive(Clone, Copy)]
+pub struct ReportFault {
+    /// The number of bytes written: a prefix of the text before the report and the report.
+    pub sent: u64,
+    pub cause: ReportCause,
+}
 
 /// A report of a station.
 #[derive(Clone, Copy, PartialEq, Eq)]
@@ -72,3 +98,84 @@ impl Report {
         }
     }
 }
+
+/// A listing of rows, in the order of the report that has all of them.
+#[derive(Clone, Copy, PartialEq, Eq)]
+pub enum Listing {
+    /// All rows of a report.
+    All(Report),
+    /// The noted flights that haven't departed.
+    OpenFlights,
+    /// The expectations that aren't checked in.
+    OpenExpected,
+    /// The runs of the stock that an agent holds.
+    AgentStock(AgentCode),
+    /// The movements of a waybill, with their numbers in the movement book.
+    Movements(Awb),
+    /// The movements with a greater number.
+    MovementsAfter(u32),
+    /// The last movements, at most this many.
+    MovementsLast(u32),
+    /// The lines of the trail of a waybill, with their numbers in the trail.
+    Trail(Awb),
+    /// The lines of the trail with a greater number. The first line has number 1.
+    TrailAfter(u32),
+    /// The last lines of the trail, at most this many.
+    TrailLast(u32),
+    /// The unconfirmed messages with a greater number.
+    PendingAfter(u32),
+    /// The messages with a greater number, confirmed or not.
+    SentAfter(u32),
+    /// The status messages of a waybill, confirmed or not.
+    Sent(Awb),
+    /// The command that was accepted under a key, if there is one, as the only row.
+    Kept(Key),
+    /// The manifest of a flight, ascending by waybill: the pieces built for it now, and those that
+    /// departed with it.
+    Manifest(FlightDate),
+}
+
+impl Listing {
+    /// Returns the listing with a name: `open-flights`, `open-expected`, or a whole report (see
+    /// [`Report::read`]). The other listings have no name.
+    pub fn read(name: &[u8]) -> Option<Listing>
+        ensures { result ≡ listing_called name.now }
+    {
+        if name == b"open-flights".as_slice() {
+            Some(Listing::OpenFlights)
+        } else if name == b"open-expected".as_slice() {
+            Some(Listing::OpenExpected)
+        } else {
+            match Report::read(name) {
+                Some(report) => Some(Listing::All(report)),
+                None => None,
+            }
+        }
+    }
+}
+
+/// A stock has one list of maximal runs, and its report has one text.
+pub fn stock_report_law()
+    ensures runs { (holders : Holders) (rows others : List StockRun) → AreStockRuns holders rows
+        → AreStockRuns holders others → rows ≡ others }
+    ensures text { (holders : Holders) (text other : List ℕ) → IsStockReport holders text
+        → IsStockReport holders other → text ≡ other }
+{}
+
+/// A cargo has one list of noted flights, and its report has one text.
+pub fn flight_report_law()
+    ensures { (s : Cargo) (text other : List ℕ) → IsFlightReport s text
+        → IsFlightReport s other → text ≡ other }
+{}
+
+/// A cargo has one list of expectations, and its report has one text.
+pub fn expected_report_law()
+    ensures { (s : Cargo) (text other : List ℕ) → IsExpectedReport s text
+        → IsExpectedReport s other → text ≡ other }
+{}
+
+/// The open expectations are those that weren't checked in.
+pub fn open_expected_law()
+    ensures { (s : Cargo) (rows : List ExpectedRow) → AreExpectedRows s rows
+        → AreExpectedBy Open s (filter is_awaited rows) }
+{}

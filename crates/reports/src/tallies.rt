@@ -1,7 +1,7 @@
 //! Sums of a flight's movements, by waybill.
 ghost use Rattle.std.specs.Prelude.{◌≡◌, ◌++◌, true, false, IfErr, IfOk, IfSome, OnOk};
 ghost use Rattle.reports.specs.Common.{IsOrdered, flat_map, nat_cmp, IsMemory};
-ghost use Rattle.reports.specs.Tallies.{counted, listed, nothing_of, row_of, with_move};
+ghost use Rattle.reports.specs.Passes.{counted, listed, nothing_of, row_of, with_move};
 
 use crate::manifest::ManifestRow;
 use awb_number::Awb;
@@ -129,7 +129,7 @@ pub(crate) struct Tallies {
 }
 
 impl Tallies {
-    ghost use Rattle.reports.specs.Tallies.{IsNew, TakesMove, tally_in};
+    ghost use Rattle.reports.specs.Passes.{IsNew, TakesMove, tally_in};
 
     /// Starts without movements.
     pub(crate) fn new(alloc: Global, flight: &FlightDate) -> Tallies
@@ -181,7 +181,7 @@ impl Tallies {
 }
 
 impl Sink<BookRow> for Tallies {
-    ghost use Rattle.reports.specs.Tallies.{TakesMove};
+    ghost use Rattle.reports.specs.Passes.{TakesMove};
 
     ghost takes = { λ old row go new. TakesMove old row.movement go new };
 

@@ -1,8 +1,8 @@
 -- What the rows say of a waybill's balances.
 use Rattle.std.proofs.Common.{◌≡◌, ℕ, ℤ, pos, ◌-ℤ◌, false, List, Some, None, option_map, refl, sym, ap, ◌∙◌}
 use Rattle.row_codec.proofs.Common.{AreBuilds, AreCounts, Build, Built, Count, FinMap, FlightDate, IsTrue, Move, Place, Tally, build_cmp, build_here, build_row, count_cmp, count_here, count_row, drawn, flight_text, get, held, is_built, is_designator, moved_in, moved_out, pieces_of, place_code, running, running_in, running_on, same_place, tenths_of, unless_nothing}
-use Rattle.shipment_machine.specs.Amount.{amount}
-use Rattle.shipment_machine.specs.declared.amount.Amount.{Amount}
+use Rattle.shipment_machine.specs.Book.{amount}
+use Rattle.shipment_machine.specs.declared.moves.Amount.{Amount}
 use Rattle.row_codec.proofs.Tests.{left, left_over}
 use Rattle.row_codec.proofs.Storing.{no_sum, sum_there, zero_tally}
 use Rattle.row_codec.proofs.Codes.{plain_again}

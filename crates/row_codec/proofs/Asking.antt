@@ -7,7 +7,7 @@ use Rattle.station_core.specs.declared.rows.TrailQuery.{TrailQuery}
 use Rattle.station_core.specs.declared.rows.TrailQuery.TheVariants as trail
 use Rattle.station_rows.specs.declared.moves.MoveQuery.TheVariants as asked
 use Rattle.station_rows.specs.declared.trail.LineQuery.TheVariants as lines
-use Rattle.row_codec.specs.Queries.{AsksMoves, AsksLines}
+use Rattle.row_codec.specs.Stored.{AsksMoves, AsksLines}
 use Rattle.row_codec.proofs.Handing.{book_after, book_handed, book_last, book_of, book_on, trail_after, trail_handed, trail_last, trail_of}
 
 pub asks_all : (count : ℕ) → AsksMoves query.All count asked.All

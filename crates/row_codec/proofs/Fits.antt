@@ -1,7 +1,7 @@
 -- Values within range make rows within range.
 use Rattle.row_codec.proofs.Common.{Bool, Declared, ExpectedKey, FlightKey, IfSome, IsBookTenths, IsMomentDay, IsPartNumber, IsPieces, IsTrue, List, None, Option, Outbound, Part, Some, and_from, arith, expected_row, false, flag, int_eq, ints, is_airport, is_count, is_day, is_designator, is_expected_key, is_expected_row, is_flag, is_flight_key, is_flight_row, is_line, is_number, is_part_row, is_since, is_trail_row, is_utf8, is_waybill_row, is_within, line_row, outbound_row, part_key, pos, refl, since_column, suc, sym, true, true≢false, waybill_row, zero, ℕ, ◌<◌, ◌≡◌, ◌≤◌}
 use Rattle.awb_number.specs.Number.{IsNumber}
-use Rattle.imp_fields.specs.Name.{is_goods}
+use Rattle.imp_fields.specs.Message.{is_goods}
 use Rattle.shipment_machine.specs.declared.moves.Expected.{Expected}
 use Rattle.row_codec.proofs.FlightKeys.{written_reads}
 

@@ -7,7 +7,7 @@ use Rattle.sqlite_keyed.proofs.ListLemmas.{all-filter, all_map, all_unmap, ascen
 use Rattle.sqlite_keyed.proofs.SliceLemmas.{any-slice, filter-slice}
 use Rattle.station_schema.proofs.Keys.{build_same}
 use Rattle.station_schema.proofs.Maps.{entry_at}
-use Rattle.shipment_machine.specs.Numbers.{IsAscending as Rising, is_in}
+use Rattle.shipment_machine.specs.Cargo.{IsAscending as Rising, is_in}
 use Rattle.shipment_machine.proofs.Rising.{Rising-filter, same_rising}
 use Rattle.shipment_machine.proofs.OnFlight.{Rising-waybills_of, is_in-waybills_on}
 use Rattle.row_codec.proofs.Tests.{is_int, none_is}

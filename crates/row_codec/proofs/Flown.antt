@@ -1,9 +1,8 @@
 -- The rows of a flight are the moves of the flight.
 use Rattle.row_codec.proofs.Common.{Bool, Built, Delivered, Departed, FlightDate, Free, Hand, List, Missing, None, Option, Some, Surplus, Transferred, [], and_parts, ap, ap₂, are_flight_columns, arith, bytes_cmp, bytes_eq-true, eq_by_cmp, false, false_from_ne_true, flight_date_of, flight_text, if◌then◌else◌, int_eq, ints, is_day, is_designator, is_eq-slice_cmp, is_flight_text, is_flown, is_move_row, is_named, is_of_flight, length, move_by, natural, place_of, plain_place, pos, refl, subst, sym, texts_total, true, true≢false, ℕ, ℤ, ◌&&◌, ◌==◌, ◌||◌, ◌∙◌, ◌∷◌, ◌≡◌}
-use Rattle.std.specs.Option.{unwrap_or}
+use Rattle.std.specs.Option.{unwrap_or, option_map}
 use Rattle.sqlite_typed.proofs.TestLemmas.{turn_eq}
-use Rattle.std.specs.Option.{option_map}
-use Rattle.shipment_machine.specs.Places.{same_place}
+use Rattle.shipment_machine.specs.Book.{same_place}
 use Rattle.station_schema.specs.Tables.{Move}
 use Rattle.row_codec.proofs.FlightKeys.{read_again, tied_text}
 use Rattle.row_codec.proofs.Noted.{day_again, flight_of_row}

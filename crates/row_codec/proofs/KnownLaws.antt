@@ -1,7 +1,7 @@
 -- What is known of sums after an amount more.
 use Rattle.row_codec.proofs.Common.{AreSumsOf, AreSumsOn, Bool, Built, Hand, IfSome, None, Place, Some, Sums, Tally, ap, ap₂, arith, cond, false, first_true, is_built, nat_cmp, nat_tests, plus, posting, refl, second_true, subst, sum_at, sum_on, sym, true, true≢false, with_sum, ℕ, ◌&&◌, ◌==◌, ◌∙◌, ◌≡◌}
 use Rattle.std.specs.BTreeMap.{Updates, get, is_at}
-use Rattle.shipment_machine.specs.Places.{same_place}
+use Rattle.shipment_machine.specs.Book.{same_place}
 use Rattle.row_codec.specs.declared.known.LoadSums.{LoadSums}
 use Rattle.row_codec.specs.declared.known.PlaceSums.{PlaceSums}
 use Rattle.row_codec.proofs.Tests.{and_no, is_nat}

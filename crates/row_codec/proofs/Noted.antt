@@ -4,7 +4,7 @@ use Rattle.row_codec.proofs.Common.{AllByRecursion, AreExpectations, AreNoted, D
 use Rattle.std.specs.Cmp.Lexicographic.{slice_cmp}
 use Rattle.std.specs.FinMap as tree
 use Rattle.std.proofs.Math.Nat.{pow-le-pow_right}
-use Rattle.awb_number.specs.Digits.{decimal_value, is_digit, is_letter}
+use Rattle.awb_number.specs.Number.{decimal_value, is_digit, is_letter}
 use Rattle.awb_number.proofs.Padded.{decimal_value_bound}
 use Rattle.station_core.specs.declared.rows.Expectation.{Expectation}
 use Rattle.station_core.specs.declared.rows.NotedFlight.{NotedFlight}

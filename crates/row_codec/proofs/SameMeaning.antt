@@ -2,7 +2,7 @@
 use Rattle.std.specs.Prelude.{◌≡◌, Option, Some, None}
 use Rattle.std.proofs.Common.{sym, ap, ◌∙◌}
 use Rattle.row_codec.specs.Common.{Tables, State}
-use Rattle.row_codec.specs.Meaning.{Means}
+use Rattle.row_codec.specs.Stored.{Means}
 
 -- two meanings of the same tables
 pub same_meaning : (t : Tables) (s : State) (found : Option State) → Means t (Some s)

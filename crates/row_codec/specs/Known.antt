@@ -1,10 +1,9 @@
 -- Sums that are kept in memory beside the rows.
 use Rattle.std.specs.Prelude.{◌≡◌, ℕ, if◌then◌else◌, Option, Some, None, IfSome}
 use Rattle.std.specs.BTreeMap.{get}
-use Rattle.row_codec.specs.Common.{option_map, nat_cmp, Place, Hand, Surplus, Free, Built, Departed, Delivered, Missing, Transferred}
-use Rattle.shipment_machine.specs.Places.{same_place}
-use Rattle.row_codec.specs.Counts.{unless_nothing, Sums}
-use Rattle.row_codec.specs.declared.tally.Tally.{Tally}
+use Rattle.row_codec.specs.Common.{option_map, nat_cmp, Place, Hand, Surplus, Free, Built, Departed, Delivered, Missing, Transferred, Tally}
+use Rattle.shipment_machine.specs.Book.{same_place}
+use Rattle.row_codec.specs.Stored.{unless_nothing, Sums}
 use Rattle.row_codec.specs.declared.known.LoadSums.{LoadSums}
 use Rattle.row_codec.specs.declared.known.PlaceSums.{PlaceSums}
 use Rattle.row_codec.specs.declared.known.KnownSums.{KnownSums}

@@ -1,17 +1,4 @@
 pub mod Common
-pub mod Numbers
-pub mod Waybills
-pub mod Stock
 pub mod Flights
-pub mod Moves
-pub mod Counts
-pub mod Manifests
-pub mod Logs
-pub mod Replies
-pub mod Meaning
-pub mod Queries
-pub mod Sums
 pub mod Stored
 pub mod Known
-pub mod Posted
-pub mod Loaded

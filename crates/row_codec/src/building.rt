@@ -1,8 +1,7 @@
 ghost use Rattle.std.specs.Prelude.{◌≡◌, List, Option, option_map, IfOk, IfSome, OnErr, OnOk};
 ghost use Rattle.row_codec.specs.Common.{get, built, Built, Seen, Survives, IsShowing, inside, Tables, build_meant, Reads, ShowsChange, ShowsStill};
-ghost use Rattle.row_codec.specs.Counts.{AreBuilds, build_row, running, running_on};
+ghost use Rattle.row_codec.specs.Stored.{AreBuilds, build_row, running, running_on, pieces_found, storing_build, posting_build};
 ghost use Rattle.row_codec.specs.Known.{AreKnown, IsRowOf};
-ghost use Rattle.row_codec.specs.Stored.{pieces_found, storing_build, posting_build};
 
 use crate::flights::{awb_key, day_number, flight_text};
 use crate::known::{KnownSums, LoadSums};

@@ -1,11 +1,14 @@
 //! Reading the columns of a row. The result is `None` if the value is out of range.
-ghost use Rattle.std.specs.Prelude.{◌≡◌, pos, is_some, IfSome};
-ghost use Rattle.row_codec.specs.Common.{is_airport, is_goods, most_tenths, most_pieces, most_parts};
-ghost use Rattle.row_codec.specs.Numbers.{natural, is_within, is_number, is_count, is_day, is_set, is_flag};
+
+ghost use Rattle.std.specs.Prelude.{◌≡◌, pos, is_some, IfSome, IfOk, OnOk, IsTrue, string_bytes};
+ghost use Rattle.row_codec.specs.Common.{is_airport, is_goods, most_tenths, most_pieces, most_parts, is_utf8};
+ghost use Rattle.row_codec.specs.Flights.{natural, is_within, is_number, is_count, is_day, is_set, is_flag};
 
 use awb_number::Awb;
 use imp_fields::{Airport, BookTenths, Goods, PartNumber, Pieces};
 use station_days::LocalDay;
+use station_rows::StoreFault;
+use std::alloc::Global;
 
 /// Reads a waybill number from its key.
 #[tactic(auto, using(crate::proofs::Exact::within_number))]
@@ -84,4 +87,18 @@ pub fn count_of(column: i64) -> Option<u32>
     ensures value { IfSome result (λ count. count ≡ natural column) }
 {
     u32::try_from(column).ok()
+}
+
+/// Copies bytes as a text. It fails if they aren't UTF-8, or memory runs out.
+pub fn text(alloc: Global, bytes: &[u8]) -> Result<String, StoreFault>
+    ensures value { IfOk result (λ text. string_bytes text ≡ bytes.now) }
+    ensures valid { OnOk result (IsTrue (is_utf8 bytes.now)) }
+{
+    let Ok(text) = std::str::from_utf8(bytes) else {
+        return Err(StoreFault);
+    };
+    match String::from_str(alloc, text) {
+        Ok(text) => Ok(text),
+        Err(_) => Err(StoreFault),
+    }
 }

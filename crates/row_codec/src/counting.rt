@@ -1,9 +1,7 @@
 ghost use Rattle.std.specs.Prelude.{◌≡◌, ℕ, ℤ, pos, false, List, Option, map, filter, option_map, option_copied, IfOk, IfSome, OnErr, OnOk};
 ghost use Rattle.row_codec.specs.Common.{FinMap, entries, get, find, int_eq, balances_of, drawn, held, same_place, Seen, Survives, IsShowing, inside, Count, Tables, count_cmp, count_meant, counts_for, Reads, ShowsChange, ShowsStill};
-ghost use Rattle.row_codec.specs.Counts.{AreCounts, count_row, running, running_in};
+ghost use Rattle.row_codec.specs.Stored.{AreCounts, count_row, running, running_in, is_built, pieces_found, storing_count, posting_count};
 ghost use Rattle.row_codec.specs.Known.{AreKnown, AreSumsOf, IsRowOf};
-ghost use Rattle.row_codec.specs.Sums.{is_built};
-ghost use Rattle.row_codec.specs.Stored.{pieces_found, storing_count, posting_count};
 
 use crate::flights::awb_key;
 use crate::known::{CountSums, KnownSums, PlaceSums};

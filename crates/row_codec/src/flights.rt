@@ -1,10 +1,8 @@
 ghost use Rattle.std.specs.Prelude.{◌≡◌, ◌&&◌, pos, is_some, IsTrue, IfSome, IfOk, Some, string_bytes};
 ghost use Rattle.row_codec.specs.Common.{bytes_eq, is_airport, flight_of, flight_text, flight_meant, noted_flight_meant, FlightKey};
-ghost use Rattle.row_codec.specs.Numbers.{is_number, is_day, is_flag};
-ghost use Rattle.row_codec.specs.Flights.{is_designator, is_flight_text, flight_date_of, is_flight_key, noted_by, outbound_by, outbound_row, is_flight_row};
+ghost use Rattle.row_codec.specs.Flights.{is_number, is_day, is_flag, is_designator, is_flight_text, flight_date_of, is_flight_key, noted_by, outbound_by, outbound_row, is_flight_row};
 
-use crate::columns::{airport_of, day_by, flag_by};
-use crate::texts::text;
+use crate::columns::{airport_of, day_by, flag_by, text};
 use awb_number::Awb;
 use imp_fields::Flight;
 use shipment_machine::{FlightDate, Outbound};

@@ -1,9 +1,8 @@
 //! Sums of waybills that are known, since they were read or written a moment before.
 ghost use Rattle.std.specs.Prelude.{◌≡◌, ℕ, Some, IfSome, IfOk};
 ghost use Rattle.row_codec.specs.Common.{Updates, nat_cmp, Built};
-ghost use Rattle.row_codec.specs.Counts.{unless_nothing, Sums};
+ghost use Rattle.row_codec.specs.Stored.{unless_nothing, Sums, posting};
 ghost use Rattle.row_codec.specs.Known.{AreKnown, AreSumsOf, AreSumsOn, sum_at, sum_on, with_sum};
-ghost use Rattle.row_codec.specs.Sums.{posting};
 
 use crate::tally::Tally;
 use awb_number::Awb;

@@ -1,12 +1,15 @@
-ghost use Rattle.std.specs.Prelude.{◌≡◌, ◌≤◌, ◌∷◌, ◌++◌, [], pos, length, List, map, filter, IfOk, OnOk};
-ghost use Rattle.row_codec.specs.Common.{FinMap, entries, prefix_len, int_eq, balances_of, AreAllBalances, Count, count_cmp, count_meant, counts_for, Reads};
-ghost use Rattle.row_codec.specs.Counts.{AreCounts};
+//! Queries of tables for queries of a station.
 
-use crate::columns::awb_by;
+ghost use Rattle.std.specs.Prelude.{◌≡◌, ◌≤◌, ◌∷◌, ◌++◌, [], pos, length, List, map, filter, IfOk, OnOk, ℕ, is_some, IsTrue, IfSome};
+ghost use Rattle.row_codec.specs.Common.{FinMap, entries, prefix_len, int_eq, balances_of, AreAllBalances, Count, count_cmp, count_meant, counts_for, Reads, kept_meant, is_key, kept_of};
+ghost use Rattle.row_codec.specs.Stored.{AreCounts, AsksMoves, AsksLines, kept_by, is_kept_row};
+
+use crate::columns::{awb_by, count_of};
 use crate::counting::balances_by;
+use crate::flights::{awb_key, day_number, flight_text};
 use shipment_machine::Move;
-use station_core::WaybillBalances;
-use station_rows::{AllCounts, CountRow, StoreFault, TableStore};
+use station_core::{BookQuery, KeptReply, TrailQuery, WaybillBalances};
+use station_rows::{AllCounts, CountRow, KeptRow, LineQuery, MoveQuery, StoreFault, TableStore};
 use std::alloc::Global;
 
 /// Returns the number of rows in front that are a waybill's.
@@ -76,4 +79,48 @@ pub fn all_balances<S: TableStore>(
 {
     let rows = store.read(AllCounts)?;
     Ok(waybills_by(alloc, &rows)?)
+}
+
+/// Returns the query of `moves` for a query of the book with `count` moves. It fails if memory runs
+/// out.
+#[tactic(auto, using(crate::proofs::Asking::asks_all, crate::proofs::Asking::asks_after, crate::proofs::Asking::asks_last))]
+pub fn move_query(alloc: Global, query: BookQuery, count: u32) -> Result<MoveQuery, StoreFault>
+    ensures { IfOk result (λ asked. AsksMoves query count asked) }
+{
+    match query {
+        BookQuery::All => Ok(MoveQuery::All),
+        BookQuery::After(number) => Ok(MoveQuery::After(i64::from(number))),
+        BookQuery::Last(most) => Ok(MoveQuery::After(i64::from(count.saturating_sub(most)))),
+        BookQuery::Of(awb) => Ok(MoveQuery::Of(awb_key(&awb))),
+        BookQuery::On(flight) => {
+            let text = flight_text(alloc, &flight.flight)?;
+            Ok(MoveQuery::On(text, day_number(flight.day)))
+        }
+    }
+}
+
+/// Returns the query of `trail` for a query of the trail with `count` lines.
+#[tactic(auto, using(crate::proofs::Asking::asks_all_lines, crate::proofs::Asking::asks_lines_after, crate::proofs::Asking::asks_last_lines))]
+pub fn line_query(query: TrailQuery, count: u32) -> LineQuery
+    ensures { AsksLines query count result }
+{
+    match query {
+        TrailQuery::All => LineQuery::All,
+        TrailQuery::After(number) => LineQuery::After(i64::from(number)),
+        TrailQuery::Last(most) => LineQuery::After(i64::from(count.saturating_sub(most))),
+        TrailQuery::Of(awb) => LineQuery::Of(awb_key(&awb)),
+    }
+}
+
+/// Returns the entry under a key, or `None` if the count is out of range.
+pub fn kept_by(row: KeptRow) -> Option<KeptReply>
+    ensures exact { (key : List ℕ) → IsTrue (is_key key)
+        → is_some result ≡ is_kept_row (key, kept_meant row) }
+    ensures value { IfSome result (λ kept. kept_of kept ≡ kept_by (kept_meant row)) }
+{
+    let count = count_of(row.count)?;
+    Some(KeptReply {
+        request: row.command,
+        count,
+    })
 }

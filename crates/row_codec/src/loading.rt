@@ -1,8 +1,7 @@
 ghost use Rattle.std.specs.Prelude.{◌≡◌, ◌∷◌, ◌++◌, [], pos, int_lt, length, All, List, map, filter, IfOk, IfSome, OnErr, OnOk};
 ghost use Rattle.row_codec.specs.Common.{waybills_on, Built, loads_on, build_meant, Reads};
-ghost use Rattle.row_codec.specs.Counts.{AreBuilds, running, Sums};
+ghost use Rattle.row_codec.specs.Stored.{AreBuilds, running, Sums, load_said, row_said, is_loaded};
 ghost use Rattle.row_codec.specs.Known.{AreKnown, AreSumsOn};
-ghost use Rattle.row_codec.specs.Loaded.{load_said, row_said, is_loaded};
 
 use crate::columns::awb_by;
 use crate::flights::{day_number, flight_text};

@@ -1,11 +1,10 @@
 ghost use Rattle.std.specs.Prelude.{◌≡◌, ◌&&◌, is_some, IsTrue, IfSome, IfOk, OnOk};
 ghost use Rattle.row_codec.specs.Common.{list_all, is_printable, is_line, message, trail_meant, message_meant};
-ghost use Rattle.row_codec.specs.Numbers.{natural, is_count};
-ghost use Rattle.row_codec.specs.Logs.{trail_row_by, line_row, is_trail_row, message_row, is_message_row};
+ghost use Rattle.row_codec.specs.Flights.{natural, is_count};
+ghost use Rattle.row_codec.specs.Stored.{trail_row_by, line_row, is_trail_row, message_row, is_message_row};
 
-use crate::columns::{awb_by, count_of};
+use crate::columns::{awb_by, count_of, text};
 use crate::flights::awb_key;
-use crate::texts::text;
 use awb_number::Awb;
 use shipment_machine::TrailLine;
 use station_core::{Message, RowText, TrailRow as ReaderLine};

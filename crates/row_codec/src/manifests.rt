@@ -1,7 +1,6 @@
 ghost use Rattle.std.specs.Prelude.{◌≡◌, ◌&&◌, is_some, IsTrue, IfSome, Some};
 ghost use Rattle.row_codec.specs.Common.{expected_meant, listed_waybill_meant, ExpectedKey, most_pieces, most_tenths};
-ghost use Rattle.row_codec.specs.Numbers.{is_within, is_flag};
-ghost use Rattle.row_codec.specs.Manifests.{is_expected_key, expectation_by, expected_by, expected_row, is_expected_row, is_part_key, part_by};
+ghost use Rattle.row_codec.specs.Flights.{is_within, is_flag, is_expected_key, expectation_by, expected_by, expected_row, is_expected_row, is_part_key, part_by};
 
 use crate::columns::{airport_of, awb_by, flag_by, part_number_by, pieces_by, tenths_by};
 use crate::flights::flight_date_by;

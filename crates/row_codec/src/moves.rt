@@ -1,8 +1,7 @@
 ghost use Rattle.std.specs.Prelude.{◌≡◌, ◌<◌, ◌&&◌, pos, true, is_some, IsTrue, IfSome, IfOk, OnOk, Some, string_bytes};
 ghost use Rattle.row_codec.specs.Common.{move_meant};
-ghost use Rattle.row_codec.specs.Flights.{flight_date_of};
-ghost use Rattle.row_codec.specs.Moves.{place_code, place_of, book_row_by, move_by, flight_column, day_column, move_row, is_move_row, are_flight_columns};
-ghost use Rattle.row_codec.specs.Numbers.{natural, is_count, is_day, is_within};
+ghost use Rattle.row_codec.specs.Flights.{flight_date_of, natural, is_count, is_day, is_within};
+ghost use Rattle.row_codec.specs.Stored.{place_code, place_of, book_row_by, move_by, flight_column, day_column, move_row, is_move_row, are_flight_columns};
 
 use crate::columns::{awb_by, count_of, pieces_by, tenths_by};
 use crate::flights::{awb_key, day_number, flight_date_by, flight_text};

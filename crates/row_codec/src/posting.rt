@@ -1,9 +1,7 @@
 ghost use Rattle.std.specs.Prelude.{◌≡◌, ◌∷◌, [], ◌++◌, List, IfOk, OnOk};
 ghost use Rattle.row_codec.specs.Common.{Survives, IsShowing, inside, Tables};
-ghost use Rattle.row_codec.specs.Counts.{AreCounts, AreBuilds, running, Sums};
+ghost use Rattle.row_codec.specs.Stored.{AreCounts, AreBuilds, running, Sums, come, gone, posting, Keeps, Posted, WereThere};
 ghost use Rattle.row_codec.specs.Known.{AreKnown};
-ghost use Rattle.row_codec.specs.Sums.{come, gone, posting};
-ghost use Rattle.row_codec.specs.Posted.{Keeps, Posted, WereThere};
 
 use crate::building::post_build;
 use crate::counting::post_count;

@@ -1,7 +1,7 @@
 ghost use Rattle.std.specs.Prelude.{◌≡◌, ◌&&◌, ◌+◌, ◌-◌, ◌*◌, pos, int_le, is_some, IsTrue, IfSome};
 ghost use Rattle.row_codec.specs.Common.{serials, stock_meant};
-ghost use Rattle.row_codec.specs.Numbers.{natural, is_within};
-ghost use Rattle.row_codec.specs.Stock.{holder_by, run_in, is_stock_row};
+ghost use Rattle.row_codec.specs.Flights.{natural, is_within};
+ghost use Rattle.row_codec.specs.Stored.{holder_by, run_in, is_stock_row};
 
 use agent_stock::{AgentCode, Holder, StockRun};
 use awb_number::{Awb, SERIALS};

@@ -1,8 +1,6 @@
 ghost use Rattle.row_codec.specs.Common.{SomeIff, build_meant, count_meant};
 ghost use Rattle.std.specs.Prelude.{◌≡◌, ℤ, pos, ◌-ℤ◌, option_map, IfOk};
-ghost use Rattle.row_codec.specs.Counts.{is_nothing, running_in, running_on, unless_nothing};
-ghost use Rattle.row_codec.specs.Sums.{negated, plus, IsTally};
-ghost use Rattle.row_codec.specs.Stored.{come_to, pieces_found};
+ghost use Rattle.row_codec.specs.Stored.{is_nothing, running_in, running_on, unless_nothing, negated, plus, IsTally, come_to, pieces_found};
 
 use shipment_machine::Amount;
 use station_rows::{BuildRow, CountRow, StoreFault};

@@ -1,11 +1,9 @@
 ghost use Rattle.std.specs.Prelude.{◌≡◌, is_some, IsTrue, IfSome, IfOk};
 ghost use Rattle.row_codec.specs.Common.{waybill_meant};
-ghost use Rattle.row_codec.specs.Numbers.{natural};
-ghost use Rattle.row_codec.specs.Waybills.{since_of, since_column, is_since, declared_by, waybill_row, is_waybill_row};
+ghost use Rattle.row_codec.specs.Flights.{natural, since_of, since_column, is_since, declared_by, waybill_row, is_waybill_row};
 
-use crate::columns::{airport_of, awb_by, day_by, flag_by, goods_of, pieces_by, tenths_by};
+use crate::columns::{airport_of, awb_by, day_by, flag_by, goods_of, pieces_by, tenths_by, text};
 use crate::flights::{awb_key, day_number};
-use crate::texts::text;
 use awb_number::Awb;
 use shipment_machine::Declared;
 use station_days::LocalDay;

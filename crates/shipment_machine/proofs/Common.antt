@@ -1,20 +1,14 @@
 -- The names that proofs of this crate cite, passed on from one place. Declares nothing.
 pub use Rattle.agent_stock.specs.declared.stock.Holder.{Holder}
 pub use Rattle.imp_fields.proofs.ShareLemmas.{share_heavy, share_leaves}
-pub use Rattle.imp_fields.specs.Amount.{book_weight_of, share_of}
-pub use Rattle.imp_fields.specs.Characters.{is_line}
-pub use Rattle.shipment_machine.specs.Agreement.{AreRowsOf, AreSound, FitsCommand, IsAnswer, IsOnBoard, IsViewOf, RefusesAs, StaysLawful, meant_by, outcome_of, rows_answer, rows_for, view_of}
-pub use Rattle.shipment_machine.specs.Amount.{IsHeld, amount, amount_text, fits, less, part, pieces_word, plus}
+pub use Rattle.imp_fields.specs.Fields.{book_weight_of, share_of, is_line}
+pub use Rattle.shipment_machine.specs.Lawful.{AreRowsOf, AreSound, FitsCommand, IsAnswer, IsOnBoard, IsViewOf, RefusesAs, StaysLawful, meant_by, outcome_of, rows_answer, rows_for, view_of, HasPieces, IsCovered, IsLawful, IsLawfulAmount, IsLawfulMove, IsNoted, IsProper, IsStocked, NamesFlight, StaysDeparted, builds_on, departs_with, is_outside, is_pair}
+pub use Rattle.shipment_machine.specs.Book.{IsHeld, amount, amount_text, fits, less, part, pieces_word, plus, balances_of, brings, built, delivered, departed, drawn, found, free, has_moves, held, in_store, missing, moved_in, moved_out, pieces_of, put_rising, same_place, store, taken, taken_and_found, takes, tenths_of, transferred, waybills_of, waybills_on, same_flight_date}
 pub use Rattle.shipment_machine.specs.Announced.{Earlier, announced_changes, changes_now, expected_now, expected_so_far, is_new, no_earlier, part_key, refusal_now, with_line}
-pub use Rattle.shipment_machine.specs.Book.{balances_of, brings, built, delivered, departed, drawn, found, free, has_moves, held, in_store, missing, moved_in, moved_out, pieces_of, put_rising, same_place, store, taken, taken_and_found, takes, tenths_of, transferred, waybills_of, waybills_on}
-pub use Rattle.shipment_machine.specs.Cargo.{Cargo, opening_cargo, written, written_all}
+pub use Rattle.shipment_machine.specs.Cargo.{Cargo, opening_cargo, written, written_all, is_in, declaration, declaration_view, line_view_of, loads_of, rows_of, undeclared}
 pub use Rattle.shipment_machine.specs.Effect.{Outcome, all_pieces, announced, announcing, booked, carried_out, check_in_moves, counted_in, counted_more, dated, decided, declare, declared_by, declaring, depart_moves, effect, expected_after, expected_amount, first_refusal, inbound_flight, inbound_part, is_closed, is_day, line_changes, line_refusals, lines_changes, lines_for, manifest_line, move_of, reads, row_changes, row_refusals, rule, status_of, struck, surplus, then_write, uncounted, unless_refused, unload_of}
-pub use Rattle.shipment_machine.specs.Flights.{same_flight_date}
-pub use Rattle.shipment_machine.specs.Lawful.{HasPieces, IsCovered, IsLawful, IsLawfulAmount, IsLawfulMove, IsNoted, IsProper, IsStocked, NamesFlight, StaysDeparted, builds_on, departs_with, is_outside, is_pair}
 pub use Rattle.shipment_machine.specs.Laws.{AreBalances, BalancesAgree, CameFrom, IsBalance, IsConserved, KeepsLawful, balance_at}
-pub use Rattle.shipment_machine.specs.Numbers.{is_in}
-pub use Rattle.shipment_machine.specs.Views.{declaration, declaration_view, line_view_of, loads_of, rows_of, undeclared}
-pub use Rattle.shipment_machine.specs.declared.amount.Amount.{Amount}
+pub use Rattle.shipment_machine.specs.declared.moves.Amount.{Amount}
 pub use Rattle.shipment_machine.specs.declared.command.CargoLine.{CargoLine}
 pub use Rattle.shipment_machine.specs.declared.command.InboundLine.{InboundLine}
 pub use Rattle.shipment_machine.specs.declared.command.InboundPart.{InboundPart}

@@ -1,6 +1,6 @@
 -- The amounts of a lawful book agree, and no place holds more than came in.
 use Rattle.shipment_machine.proofs.Common.{AllByRecursion, Bool, Built, Cargo, FlightDate, Free, Hand, IsConserved, IsHeld, IsLawful, IsLawfulMove, List, Missing, Move, None, Place, Surplus, [], and_parts, ap, arith, brings, built, false, found, free, if◌then◌else◌, leb-true, missing, moved_in, moved_out, pieces_of, refl, sum_by-cons, sym, taken, takes, tenths_of, true, true≢false, ℕ, ◌&&◌, ◌+◌, ◌-◌, ◌==◌, ◌||◌, ◌∙◌, ◌∷◌, ◌≡◌, ◌≤◌}
-use Rattle.shipment_machine.specs.Places.{same_place, in_store, is_outside, beyond_store}
+use Rattle.shipment_machine.specs.Book.{same_place, in_store, is_outside, beyond_store}
 use Rattle.shipment_machine.proofs.BalanceLaws.{in_at, out_at, total_in, total_out}
 use Rattle.shipment_machine.proofs.ByFlight.{Entry, sum_all, sum_at, covered}
 use Rattle.shipment_machine.proofs.Places.{never_surplus, is_built, no_added}

@@ -1,6 +1,6 @@
 -- A departure keeps a state lawful.
 use Rattle.shipment_machine.proofs.Common.{Amount, Bool, Built, Cargo, Departed, FlightDate, IsNoted, IsSome, List, LocalMinute, Move, Option, Place, Some, StaysDeparted, [], ap, append-nil, append_assoc, arith, brings, builds_on, built, departs_with, false, is_in, list_any, list_any-append, moved_in, moved_out, nat_tests, pieces_of, refl, same_flight_date, same_place, subst, sum_by-append, sum_by-cons, sum_by_push, sym, takes, tenths_of, true, true≢false, ℕ, ◌&&◌, ◌++◌, ◌+◌, ◌-◌, ◌<◌, ◌==◌, ◌||◌, ◌∙◌, ◌∷◌, ◌≡◌, ◌≤◌}
-use Rattle.shipment_machine.specs.Numbers.{IsAscending as Rising}
+use Rattle.shipment_machine.specs.Cargo.{IsAscending as Rising}
 use Rattle.shipment_machine.proofs.Places.{added}
 use Rattle.shipment_machine.proofs.Rising.{below_in, not_in}
 use Rattle.shipment_machine.proofs.SoundBook.{IsFitting, IsSound, Leaves, with_move, sound_after, there_are, same_number}

@@ -1,16 +1,16 @@
 -- The worked rows of the cargo commands, computed.
 use Rattle.shipment_machine.proofs.Common.{Amount, Built, Cargo, Declared, Delivered, Err, FlightDate, Free, Hand, InboundLine, List, LocalMinute, Missing, Move, None, Ok, Option, Outcome, Place, Refusal, Result, ShipmentCommand, Some, Surplus, Transferred, [], amount, amount_text, built, carried_out, codes, delivered, departed, effect, expected_amount, false, found, free, map, missing, opening_cargo, refl, store, taken, transferred, true, ℕ, ◌*◌, ◌++◌, ◌+◌, ◌∷◌, ◌≡◌}
 use Rattle.std.specs.Fmt.{digits}
-use Rattle.shipment_machine.specs.Texts.{refused_with}
+use Rattle.shipment_machine.specs.Effect.{refused_with}
 use Rattle.jiff_core.specs.Calendar.{days_of_years, days_of_months, day_count, days_from_civil}
-use Rattle.imp_fields.specs.Flight.{Designator}
+use Rattle.imp_fields.specs.Fields.{Designator}
 use Rattle.station_days.specs.Date.{day_line}
 use Rattle.imp_fields.specs.declared.fault.Why.TheVariants as why
 use Rattle.shipment_machine.specs.declared.notice.Notice.{Notice}
 use Rattle.shipment_machine.specs.declared.notice.Notice.TheVariants as notice
 use Rattle.shipment_machine.specs.declared.notice.Event.{Event}
 use Rattle.shipment_machine.specs.declared.notice.Event.TheVariants as event
-use Rattle.imp_fields.specs.declared.discrepancy.Discrepancy.TheVariants as discrepancy
+use Rattle.imp_fields.specs.declared.line.Discrepancy.TheVariants as discrepancy
 use Rattle.shipment_machine.specs.declared.command.ShipmentCommand.TheVariants as order
 use Rattle.shipment_machine.specs.declared.command.DeskCommand.TheVariants as desk
 use Rattle.shipment_machine.specs.declared.plans.Detail.TheVariants as detail

@@ -2,7 +2,7 @@
 use Rattle.shipment_machine.proofs.Common.{AllByRecursion, Bool, Built, Cargo, Departed, FlightDate, Free, IfSome, IsLawful, IsLawfulMove, IsSome, List, LocalMinute, Move, Option, Outbound, Place, Some, StaysDeparted, [], ap, arith, built, bytes_eq, departs_with, false, filter, if◌then◌else◌, inl, inr, is_closed, is_in, length, list_any, moved_in, moved_out, nat_lt, nat_tests, pieces_of, put_rising, refl, same_flight_date, same_place, subst, sym, true, true≢false, waybills_of, waybills_on, ℕ, ◌&&◌, ◌++◌, ◌+◌, ◌-◌, ◌<◌, ◌==◌, ◌||◌, ◌∙◌, ◌∷◌, ◌≡◌, ◌≢◌, ◌≤◌, ◌⊎◌}
 use Rattle.shipment_machine.proofs.Places.{added}
 use Rattle.shipment_machine.proofs.FlightKeys.{same-sym, same-alike, same-comm}
-use Rattle.shipment_machine.specs.Numbers.{IsAscending as Rising}
+use Rattle.shipment_machine.specs.Cargo.{IsAscending as Rising}
 use Rattle.shipment_machine.proofs.Rising.{Rising-put_rising, is_in-put_rising, Rising-filter, below_in, yes_here, first_or_later}
 use Rattle.shipment_machine.proofs.OnFlight.{Rising-waybills_of, is_in-waybills_on, same_waybills_on}
 use Rattle.shipment_machine.proofs.SoundBook.{IsFitting, IsSound, with_move, sound_after, move_under, all_map}

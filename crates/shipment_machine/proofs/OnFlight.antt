@@ -1,6 +1,6 @@
 -- Which waybills are on a flight depends on the balances alone.
 use Rattle.shipment_machine.proofs.Common.{Bool, Built, FlightDate, List, Move, Place, [], ap, arith, brings, built, false, has_moves, if◌then◌else◌, is_in, moved_in, moved_out, nat_lt, pieces_of, refl, same_place, sum_by-cons, sym, true, true≢false, waybills_of, waybills_on, zero-add, ℕ, ◌&&◌, ◌+◌, ◌-◌, ◌==◌, ◌||◌, ◌∙◌, ◌∷◌, ◌≡◌}
-use Rattle.shipment_machine.specs.Numbers.{IsAscending as Rising}
+use Rattle.shipment_machine.specs.Cargo.{IsAscending as Rising}
 use Rattle.shipment_machine.proofs.Rising.{Rising-put_rising, is_in-put_rising, Rising-filter, is_in-filter, same_rising}
 
 pub Rising-waybills_of : (book : List Move) → Rising (waybills_of book)

@@ -1,6 +1,6 @@
 -- Lists of ascending numbers, and the waybills on a flight.
 use Rattle.shipment_machine.proofs.Common.{AllByRecursion, Bool, List, [], ap, arith, false, filter, if◌then◌else◌, is_in, nat_lt, nat_tests, put_rising, refl, subst, sym, true, true≢false, ℕ, ◌&&◌, ◌<◌, ◌==◌, ◌||◌, ◌∙◌, ◌∷◌, ◌≡◌, ◌≢◌}
-use Rattle.shipment_machine.specs.Numbers.{IsAscending as Rising}
+use Rattle.shipment_machine.specs.Cargo.{IsAscending as Rising}
 
 above_trans : (a b : ℕ) (xs : List ℕ) → a < b → AllByRecursion (λ y. b < y) xs → AllByRecursion (λ y. a < y) xs
 above_trans a b [] h all = tt

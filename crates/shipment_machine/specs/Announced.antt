@@ -1,19 +1,9 @@
 -- A part of a manifest, answered from the rows of its lines' waybills.
 use Rattle.std.specs.Prelude.{◌≡◌, ℕ, Bool, false, not, length, ◌==◌, if◌then◌else◌, Option, Some, None, is_none, Result, Ok, Err, List, [], ◌∷◌}
-use Rattle.shipment_machine.specs.declared.flight.FlightDate.{FlightDate}
-use Rattle.shipment_machine.specs.declared.moves.Expected.{Expected}
-use Rattle.shipment_machine.specs.declared.view.LineView.{LineView}
-use Rattle.shipment_machine.specs.declared.command.CargoLine.{CargoLine}
-use Rattle.shipment_machine.specs.Common.{unwrap_or, Holder}
-use Rattle.shipment_machine.specs.declared.moves.Part.{Part}
+use Rattle.shipment_machine.specs.Common.{unwrap_or, Holder, FlightDate, Expected, LineView, CargoLine, Part, InboundPart, Change, Refusal, PlanFault, Declared}
 use Rattle.imp_fields.specs.declared.fault.Why.TheVariants as why
 use Rattle.shipment_machine.specs.declared.plans.Detail.TheVariants as detail
-use Rattle.shipment_machine.specs.declared.command.InboundPart.{InboundPart}
-use Rattle.shipment_machine.specs.declared.plans.Change.{Change}
-use Rattle.shipment_machine.specs.declared.plans.Refusal.{Refusal}
-use Rattle.shipment_machine.specs.declared.plans.PlanFault.{PlanFault}
 use Rattle.shipment_machine.specs.declared.plans.PlanFault.TheVariants as fault
-use Rattle.shipment_machine.specs.declared.moves.Declared.{Declared}
 use Rattle.shipment_machine.specs.Effect.{Outcome, first_refusal, declare, announced, is_day, lines_for, unless_refused, then_write, row_refusals, row_changes, expected_after}
 
 -- the expectations of the waybills of earlier lines

@@ -1,15 +1,11 @@
+-- A station's state of its cargo, its rows and their numbers.
+use Rattle.std.specs.Prelude.{ℕ, Bool, ◌&&◌, ◌==◌, if◌then◌else◌, Option, Some, None, List, [], ◌∷◌, ◌++◌, false, map, length, ◌<◌, ⊤}
+use Rattle.shipment_machine.specs.Common.{bytes_eq, Holders, Used, unwrap_or, is_carrier, where_true, AllByRecursion, list_any, FlightDate, Move, Declared, Outbound, Expected, Part, Change, Declare, UseUp, NoteFlight, Expect, NotePart, Trail, Confirm, DeclarationView, WaybillView, FlightView, FlightLoad, LineView, RowsKey, Rows, CargoLine}
+use Rattle.shipment_machine.specs.Book.{same_flight_date, has_moves as is_moved, balances_of, built, waybills_on}
+use Rattle.shipment_machine.specs.declared.view.RowsKey.TheVariants as key
+use Rattle.shipment_machine.specs.declared.view.Rows.TheVariants as rows
+
 -- A station's state of its cargo, and how a row changes it.
-use Rattle.std.specs.Prelude.{ℕ, Bool, ◌&&◌, ◌==◌, if◌then◌else◌, Option, Some, None, List, [], ◌∷◌, ◌++◌}
-use Rattle.shipment_machine.specs.Common.{bytes_eq, Holders, Used}
-use Rattle.shipment_machine.specs.Flights.{same_flight_date}
-use Rattle.shipment_machine.specs.declared.flight.FlightDate.{FlightDate}
-use Rattle.shipment_machine.specs.declared.moves.Move.{Move}
-use Rattle.shipment_machine.specs.declared.moves.Declared.{Declared}
-use Rattle.shipment_machine.specs.declared.moves.Outbound.{Outbound}
-use Rattle.shipment_machine.specs.declared.moves.Expected.{Expected}
-use Rattle.shipment_machine.specs.declared.moves.Part.{Part}
-use Rattle.shipment_machine.specs.declared.plans.Change.{Change}
-use Rattle.shipment_machine.specs.declared.plans.Change.TheVariants.{Declare, UseUp, NoteFlight, Expect, NotePart, Trail, Confirm}
 
 -- Maps are functions from a key to the stored value. A waybill's key is its number.
 pub record Cargo : Type 0 where
@@ -68,3 +64,77 @@ written text (Confirm upto) s = record s { confirmed = upto }
 abbrev pub written_all : List ℕ → List Change → Cargo → Cargo
 written_all text [] s = s
 written_all text (change ∷ changes) s = written_all text changes (written text change s)
+
+-- A state's rows for a waybill, a flight and a manifest line.
+
+-- the declaration of a declared waybill, or an empty one
+abbrev pub undeclared : Declared
+undeclared =
+    record {
+      origin = [];
+      destination = [];
+      pieces = 0;
+      tenths = 0;
+      goods = [];
+      notified = false;
+      since = None;
+    }
+
+abbrev pub declaration : Cargo → ℕ → Declared
+declaration s w = unwrap_or (s.declared w) undeclared
+
+abbrev pub declaration_view : Cargo → ℕ → DeclarationView
+declaration_view s w =
+    record { declared = s.declared w; has_moves = is_moved s.book w; holder = s.holders w }
+
+abbrev pub waybill_view : Cargo → ℕ → WaybillView
+waybill_view s w = record { declared = s.declared w; balances = balances_of s.book w }
+
+-- the view of a flight for a waybill to be built on it
+abbrev pub flight_view : Cargo → ℕ → FlightDate → FlightView
+flight_view s w flight = record {
+  outbound = s.flights flight;
+  waybills = length (waybills_on s.book flight);
+  load = built s.book w flight;
+}
+
+-- the amounts built on a flight, ascending by waybill
+abbrev pub loads_of : Cargo → FlightDate → List FlightLoad
+loads_of s flight =
+    map (λ w. record { awb = w; declared = declaration s w; load = built s.book w flight })
+    (waybills_on s.book flight)
+
+abbrev pub line_view_of : Cargo → FlightDate → CargoLine → LineView
+line_view_of s flight c =
+    record {
+      declared = s.declared c.awb;
+      holder = s.holders c.awb;
+      expected = s.expected flight c.awb;
+    }
+
+abbrev pub rows_of : Cargo → RowsKey → Rows
+rows_of s (key.Declaration w) = rows.Declaration (declaration_view s w)
+rows_of s (key.Waybill w) = rows.Waybill (waybill_view s w)
+rows_of s (key.Manifest w flight) = rows.Manifest (waybill_view s w) (flight_view s w flight)
+rows_of s (key.Offload w flight) =
+    rows.Offload (s.declared w) (s.flights flight) (built s.book w flight)
+rows_of s (key.Departure flight) = rows.Departure (s.flights flight) (loads_of s flight)
+rows_of s (key.CheckIn w flight) = rows.CheckIn (waybill_view s w) (s.expected flight w)
+rows_of s key.Messages = rows.Messages s.confirmed (length s.outbox)
+
+-- Airlines, by their designators.
+
+-- exactly two upper-case letters or digits, at least one of them a letter
+abbrev pub airline_of : List ℕ → Option (List ℕ)
+airline_of text = where_true (is_carrier text) text
+
+-- Lists of numbers in ascending order.
+
+-- each number is above those before it
+abbrev pub IsAscending : List ℕ → Type 0
+IsAscending [] = ⊤
+IsAscending (x ∷ xs) = AllByRecursion (λ y. x < y) xs × IsAscending xs
+
+-- true if a number is in a list
+abbrev pub is_in : ℕ → List ℕ → Bool
+is_in q xs = list_any (λ x. x == q) xs

@@ -1,47 +1,43 @@
--- The rule of each command: it is refused for the first reason that holds, or it makes moves,
--- notices and row changes.
-use Rattle.std.specs.Prelude.{ℕ, zero, suc, ◌+◌, ◌-◌, min, max, Bool, true, false, not, ◌&&◌, ◌||◌, ◌==◌, nat_lt, nat_le, if◌then◌else◌, Option, Some, None, is_some, is_none, Result, Ok, Err, List, [], ◌∷◌, ◌++◌, map, length}
-use Rattle.shipment_machine.specs.Common.{unwrap_or, filter, flat_map, sum_by, bytes_eq, share_of, book_weight_of, LocalMinute, resolved, is_moment_day, Holder, WaybillSummary, Discrepancy, most_waybills}
-use Rattle.shipment_machine.specs.Amount.{amount, part, less, plus, fits}
-use Rattle.shipment_machine.specs.declared.amount.Amount.{Amount}
-use Rattle.shipment_machine.specs.declared.flight.FlightDate.{FlightDate}
+-- The rule of each command, proposed declarations, and texts of refusals.
+use Rattle.std.specs.Prelude.{false, None, ℕ, zero, suc, ◌+◌, ◌-◌, min, max, Bool, true, not, ◌&&◌, ◌||◌, ◌==◌, nat_lt, nat_le, if◌then◌else◌, Option, Some, is_some, is_none, Result, Ok, Err, List, [], ◌∷◌, ◌++◌, map, length, decimal, codes}
+use Rattle.shipment_machine.specs.Common.{unwrap_or, filter, flat_map, sum_by, bytes_eq, share_of, book_weight_of, LocalMinute, resolved, is_moment_day, Holder, WaybillSummary, Discrepancy, most_waybills, number_text, day_line, why_word, flight_text, Declared, Amount, FlightDate, Place, Move, Outbound, Expected, Part, CargoLine, InboundLine, InboundPart, Change, Declare, UseUp, NoteFlight, Expect, NotePart, Trail, Confirm, Refusal, Balances, DeclarationView, WaybillView, FlightView, FlightLoad, RowsKey, Rows}
 use Rattle.imp_fields.specs.declared.fault.Why.TheVariants as why
 use Rattle.agent_stock.specs.declared.stock.Holder.TheVariants as holder
-use Rattle.shipment_machine.specs.declared.moves.Place.{Place}
+use Rattle.imp_fields.specs.declared.line.Discrepancy.TheVariants as discrepancy
+use Rattle.shipment_machine.specs.Book.{amount, part, less, plus, fits}
+use Rattle.shipment_machine.specs.Cargo.{Cargo, written_all, undeclared, declaration_view, rows_of}
+use Rattle.shipment_machine.specs.declared.acceptance.ProposedDeclaration.{ProposedDeclaration}
 use Rattle.shipment_machine.specs.declared.moves.Place.TheVariants as place
-use Rattle.shipment_machine.specs.declared.moves.Move.{Move}
-use Rattle.shipment_machine.specs.declared.moves.Declared.{Declared}
-use Rattle.shipment_machine.specs.declared.moves.Outbound.{Outbound}
-use Rattle.shipment_machine.specs.declared.moves.Expected.{Expected}
-use Rattle.shipment_machine.specs.declared.moves.Part.{Part}
-use Rattle.imp_fields.specs.declared.discrepancy.Discrepancy.TheVariants as discrepancy
 use Rattle.shipment_machine.specs.declared.notice.Event.{Event}
 use Rattle.shipment_machine.specs.declared.notice.Event.TheVariants as event
 use Rattle.shipment_machine.specs.declared.notice.ManifestLine.{ManifestLine}
 use Rattle.shipment_machine.specs.declared.notice.Notice.{Notice}
 use Rattle.shipment_machine.specs.declared.notice.Notice.TheVariants as notice
-use Rattle.shipment_machine.specs.declared.command.CargoLine.{CargoLine}
-use Rattle.shipment_machine.specs.declared.command.InboundLine.{InboundLine}
-use Rattle.shipment_machine.specs.declared.command.InboundPart.{InboundPart}
 use Rattle.shipment_machine.specs.declared.command.ShipmentCommand.{ShipmentCommand}
 use Rattle.shipment_machine.specs.declared.command.ShipmentCommand.TheVariants as order
 use Rattle.shipment_machine.specs.declared.command.DeskCommand.{DeskCommand}
 use Rattle.shipment_machine.specs.declared.command.DeskCommand.TheVariants as desk
-use Rattle.shipment_machine.specs.declared.plans.Change.{Change}
-use Rattle.shipment_machine.specs.declared.plans.Change.TheVariants.{Declare, UseUp, NoteFlight, Expect, NotePart, Trail, Confirm}
-use Rattle.shipment_machine.specs.declared.plans.Refusal.{Refusal}
 use Rattle.shipment_machine.specs.declared.plans.Detail.TheVariants as detail
-use Rattle.shipment_machine.specs.declared.moves.Balances.{Balances}
-use Rattle.shipment_machine.specs.declared.view.DeclarationView.{DeclarationView}
-use Rattle.shipment_machine.specs.declared.view.WaybillView.{WaybillView}
-use Rattle.shipment_machine.specs.declared.view.FlightView.{FlightView}
-use Rattle.shipment_machine.specs.declared.view.FlightLoad.{FlightLoad}
-use Rattle.shipment_machine.specs.declared.view.RowsKey.{RowsKey}
 use Rattle.shipment_machine.specs.declared.view.RowsKey.TheVariants as key
-use Rattle.shipment_machine.specs.declared.view.Rows.{Rows}
 use Rattle.shipment_machine.specs.declared.view.Rows.TheVariants as rows
-use Rattle.shipment_machine.specs.Cargo.{Cargo, written_all}
-use Rattle.shipment_machine.specs.Views.{undeclared, declaration_view, rows_of}
+use Rattle.shipment_machine.specs.declared.plans.Detail.{Detail}
+
+-- Proposed declarations.
+
+abbrev pub claimed : ProposedDeclaration → Declared
+claimed c =
+    record {
+      origin = c.origin;
+      destination = c.destination;
+      pieces = c.pieces;
+      tenths = c.tenths;
+      goods = c.goods;
+      notified = false;
+      since = None;
+    }
+
+-- The rule of each command: it is refused for the first reason that holds, or it makes moves,
+-- notices and row changes.
 
 -- the outcome of a command that isn't refused
 pub record Outcome : Type 0 where
@@ -656,3 +652,27 @@ effect s command at = decided (rule s command at)
 -- telegram
 abbrev pub carried_out : List ℕ → Outcome → Cargo → Cargo
 carried_out text done s = written_all text done.changes (record s { book = s.book ++ done.moves })
+
+-- Texts of flight dates and refusals.
+
+-- a flight date such as LH400/2026-01-12
+abbrev pub flight_date_text : FlightDate → List ℕ
+flight_date_text f = flight_text f.flight ++ 47 ∷ day_line f.day
+
+-- the subject of a refusal
+abbrev pub detail_text : Detail → List ℕ
+detail_text detail.Nothing = []
+detail_text (detail.Waybill w) = number_text w
+detail_text (detail.Pieces pieces) = decimal pieces
+detail_text (detail.Flight flight) = flight_date_text flight
+detail_text (detail.Part part) = flight_date_text part.flight ++ 47 ∷ (part.airport ++ 47 ∷ decimal part.number)
+detail_text (detail.Line line word) = decimal line ++ 32 ∷ why_word word
+detail_text (detail.Messages confirmed last) = decimal confirmed ++ 32 ∷ decimal last
+
+-- texts such as refused 102 020-12345723, or without a detail refused 501
+abbrev pub refused_with : ℕ → Detail → List ℕ
+refused_with number detail.Nothing = codes "refused " ++ decimal number
+refused_with number other = codes "refused " ++ decimal number ++ 32 ∷ detail_text other
+
+abbrev pub refusal_text : Refusal → List ℕ
+refusal_text refusal = refused_with refusal.number refusal.detail

@@ -1,16 +1,7 @@
 pub mod Common
-pub mod Amount
-pub mod Numbers
-pub mod Flights
-pub mod Places
 pub mod Book
 pub mod Cargo
-pub mod Views
 pub mod Effect
-pub mod Claims
 pub mod Lawful
 pub mod Announced
-pub mod Agreement
 pub mod Laws
-pub mod Airline
-pub mod Texts

@@ -1,14 +1,13 @@
 //! Declaring, receiving and withdrawing cargo.
+
 ghost use Rattle.std.specs.Prelude.{◌≡◌, ℕ, ◌≤◌, ◌++◌, Some, None, OnOk, if◌then◌else◌};
-ghost use Rattle.shipment_machine.specs.Amount.{IsHeld, amount, fits};
-ghost use Rattle.shipment_machine.specs.Effect.{decided, at_desk_or_void, amending, booked, dated, declare, declared_by, declaring, has_room, receiving, withdrawing};
-ghost use Rattle.shipment_machine.specs.Agreement.{IsAnswer};
-ghost use Rattle.shipment_machine.specs.Claims.{claimed};
+ghost use Rattle.shipment_machine.specs.Book.{IsHeld, amount, fits};
+ghost use Rattle.shipment_machine.specs.Effect.{decided, at_desk_or_void, amending, booked, dated, declare, declared_by, declaring, has_room, receiving, withdrawing, claimed};
+ghost use Rattle.shipment_machine.specs.Lawful.{IsAnswer};
 ghost use Rattle.shipment_machine.specs.Common.{most_pieces};
 
-use crate::amount::{Amount, is_within, part_of};
 use crate::command::CargoLine;
-use crate::moves::{Balances, Declared, Place};
+use crate::moves::{Amount, Balances, Declared, Place, is_within, part_of};
 use crate::notice::Event;
 use crate::plan_parts::{
     PlanContext, add_move, add_notice, blank, fits_with, is_same, pieces_of, refuse_free,

@@ -1,6 +1,6 @@
 ghost use Rattle.std.specs.Prelude.{◌≡◌, ℕ, List, IsTrue};
 ghost use Rattle.shipment_machine.specs.Common.{is_carrier};
-ghost use Rattle.shipment_machine.specs.Airline.{airline_of};
+ghost use Rattle.shipment_machine.specs.Cargo.{airline_of};
 
 use std::marker::Model;
 

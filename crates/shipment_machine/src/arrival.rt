@@ -1,15 +1,15 @@
 //! Checking in a flight.
+
 ghost use Rattle.std.specs.Prelude.{◌≡◌, ◌+◌, ◌-◌, ◌*◌, ◌/◌, ◌≤◌, ◌<◌, ◌^◌, Some, None, IfSome, IfOk, if◌then◌else◌};
-ghost use Rattle.shipment_machine.specs.Amount.{GoesWith, IsHeld, IsPartOf, amount, plus, fits};
+ghost use Rattle.shipment_machine.specs.Book.{GoesWith, IsHeld, IsPartOf, amount, plus, fits};
 ghost use Rattle.shipment_machine.specs.Effect.{decided, came_in, expected_amount, counted_in, uncounted, counted_more, check_in_moves, check_in_notices, checking_in, struck, striking};
-ghost use Rattle.shipment_machine.specs.Agreement.{IsAnswer};
+ghost use Rattle.shipment_machine.specs.Lawful.{IsAnswer};
 ghost use Rattle.shipment_machine.specs.declared.notice.Event.TheVariants as event;
 ghost use Rattle.shipment_machine.specs.Common.{most_pieces};
 
-use crate::amount::Amount;
 use crate::command::PieceCount;
 use crate::flight::FlightDate;
-use crate::moves::{Balances, Declared, Expected, Move, Place};
+use crate::moves::{Amount, Balances, Declared, Expected, Move, Place};
 use crate::notice::{Event, Notice};
 use crate::plan_parts::{
     PlanContext, add_move, add_notice, blank, fits_with, pieces_of, refuse_waybill, tenths_of,

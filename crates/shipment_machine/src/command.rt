@@ -1,5 +1,5 @@
 ghost use Rattle.std.specs.Prelude.{◌≡◌, ℕ, ◌≤◌, ◌↔◌, length, IsSome, IfSome};
-ghost use Rattle.shipment_machine.specs.Amount.{IsCount};
+ghost use Rattle.shipment_machine.specs.Book.{IsCount};
 ghost use Rattle.shipment_machine.specs.Effect.{reads};
 ghost use Rattle.shipment_machine.specs.Common.{most_lines};
 
@@ -22,7 +22,7 @@ pub struct PieceCount {
 
 impl Model for PieceCount {
     ghost use Rattle.std.specs.Prelude.{ℕ};
-    ghost use Rattle.shipment_machine.specs.Amount.{IsCount};
+    ghost use Rattle.shipment_machine.specs.Book.{IsCount};
 
     ghost Value = { ℕ };
 
@@ -83,7 +83,7 @@ pub struct InboundLines<'a> {
 impl<'a> Model for InboundLines<'a> {
     ghost use Rattle.std.specs.Prelude.{List, ◌≤◌, length};
     ghost use Rattle.shipment_machine.specs.declared.command.InboundLine.{InboundLine};
-    ghost use Rattle.imp_fields.specs.TextSize.{most_lines};
+    ghost use Rattle.imp_fields.specs.Fields.{most_lines};
 
     ghost Value = { List InboundLine };
 

@@ -1,19 +1,24 @@
 //! Flight departures.
+//! Notification of the consignee, delivery, and transfer to another airline.
+
 ghost use Rattle.std.specs.Prelude.{◌≡◌, ◌==◌, false, ◌+◌, ◌*◌, ◌≤◌, ◌<◌, All, IsSome, IfOk, map, length};
 ghost use Rattle.shipment_machine.specs.Common.{flat_map, sum_by, most_waybills};
-ghost use Rattle.shipment_machine.specs.Effect.{decided, departing, depart_moves, manifest_line, status_of};
-ghost use Rattle.shipment_machine.specs.Agreement.{IsAnswer, IsOnBoard};
+ghost use Rattle.shipment_machine.specs.Effect.{decided, departing, depart_moves, manifest_line, status_of, notifying, delivering, transferring};
+ghost use Rattle.shipment_machine.specs.Lawful.{IsAnswer, IsOnBoard};
 ghost use Rattle.shipment_machine.specs.declared.notice.Event.TheVariants as event;
+ghost use Rattle.shipment_machine.specs.Book.{IsHeld};
 
 use crate::flight::FlightDate;
-use crate::moves::{Move, Outbound, Place};
+use crate::moves::{Declared, Move, Outbound, Place, part_of};
 use crate::notice::{Event, ManifestLine, ManifestLines, Notice};
 use crate::plan_parts::{
-    PlanContext, add_move, add_notice, blank, consigned_as, pieces_of, refuse_flight, tenths_of,
+    PlanContext, add_move, add_notice, blank, consigned_as, is_same, pieces_of, refuse_flight,
+    refuse_free, refuse_waybill, tenths_of,
 };
 use crate::plans::{Change, Plan, PlanFault};
-use crate::view::{FlightLoad, Loads};
-use imp_fields::Airport;
+use crate::view::{FlightLoad, Loads, WaybillView};
+use awb_number::Awb;
+use imp_fields::{Airport, Name, Pieces};
 use std::alloc::AllocError;
 
 /// Returns the moves of a departure: each waybill leaves with all that is built of it.
@@ -146,5 +151,111 @@ pub(crate) fn depart<'a>(
             closed: true,
         },
     })?;
+    Ok(plan)
+}
+
+/// Notifies the consignee of all that is free.
+pub(crate) fn notify<'a>(
+    on: &PlanContext,
+    view: &WaybillView,
+    awb: Awb,
+    name: Name,
+) -> Result<Plan<'a>, PlanFault>
+    requires { IsHeld view.now.balances.free }
+    ensures { IsAnswer result (decided (notifying on.now.here view.now awb name on.now.at)) }
+{
+    let Some(declared) = &view.declared else {
+        return Err(refuse_waybill(201, awb));
+    };
+    if !is_same(declared.destination, on.here) {
+        return Err(refuse_waybill(204, awb));
+    }
+    let free = view.balances.free;
+    if free.pieces == 0 {
+        return Err(refuse_free(free));
+    }
+    let event = Event::Notified { name, at: on.at };
+    let mut plan = blank(on.alloc, free.pieces);
+    add_notice(&mut plan.notices, on.here, awb, declared, event, free)?;
+    plan.changes.push(Change::Declare {
+        awb,
+        declared: Declared {
+            notified: true,
+            ..*declared
+        },
+    })?;
+    Ok(plan)
+}
+
+pub(crate) fn deliver<'a>(
+    on: &PlanContext,
+    view: &WaybillView,
+    awb: Awb,
+    pieces: Pieces,
+    name: Name,
+) -> Result<Plan<'a>, PlanFault>
+    requires { IsHeld view.now.balances.free }
+    ensures { IsAnswer result
+        (decided (delivering on.now.here view.now awb pieces name on.now.at)) }
+{
+    let Some(declared) = &view.declared else {
+        return Err(refuse_waybill(201, awb));
+    };
+    if !is_same(declared.destination, on.here) {
+        return Err(refuse_waybill(204, awb));
+    }
+    if !declared.notified {
+        return Err(refuse_waybill(210, awb));
+    }
+    let free = view.balances.free;
+    if free.pieces < pieces.number() {
+        return Err(refuse_free(free));
+    }
+    let part = part_of(free, pieces.number());
+    let event = Event::Delivered { name, at: on.at };
+    let mut plan = blank(on.alloc, pieces.number());
+    add_move(
+        &mut plan.moves,
+        awb,
+        Place::Free,
+        Place::Delivered,
+        part,
+        None,
+        on.at,
+    )?;
+    add_notice(&mut plan.notices, on.here, awb, declared, event, part)?;
+    Ok(plan)
+}
+
+/// Transfers free pieces to another airline, if the waybill goes on from here.
+pub(crate) fn transfer<'a>(
+    on: &PlanContext,
+    view: &WaybillView,
+    awb: Awb,
+    pieces: Pieces,
+) -> Result<Plan<'a>, PlanFault>
+    requires { IsHeld view.now.balances.free }
+    ensures { IsAnswer result (decided (transferring on.now.here view.now awb pieces on.now.at)) }
+{
+    let Some(declared) = &view.declared else {
+        return Err(refuse_waybill(201, awb));
+    };
+    if is_same(declared.destination, on.here) {
+        return Err(refuse_waybill(220, awb));
+    }
+    let free = view.balances.free;
+    if free.pieces < pieces.number() {
+        return Err(refuse_free(free));
+    }
+    let mut plan = blank(on.alloc, pieces.number());
+    add_move(
+        &mut plan.moves,
+        awb,
+        Place::Free,
+        Place::Transferred,
+        part_of(free, pieces.number()),
+        None,
+        on.at,
+    )?;
     Ok(plan)
 }

@@ -1,21 +1,20 @@
 //! Parts of a manifest that arrived.
+
 ghost use Rattle.std.specs.Prelude.{◌≡◌, ◌≤◌, ℕ, [], ◌∷◌, ◌++◌, Some, None, Ok, nat_eq, OnOk, IfOk, IfErr, IfSome, if◌then◌else◌, length, not, true, false, All};
 ghost use Rattle.shipment_machine.specs.Common.{get, resolved};
-ghost use Rattle.shipment_machine.specs.Amount.{amount, fits};
+ghost use Rattle.shipment_machine.specs.Book.{amount, fits};
 ghost use Rattle.shipment_machine.specs.Effect.{dated, declared_by, expected_after, lines_for, is_day};
-ghost use Rattle.shipment_machine.specs.Lawful.{HasPieces};
+ghost use Rattle.shipment_machine.specs.Lawful.{HasPieces, IsAnswer};
 ghost use Rattle.imp_fields.specs.declared.fault.Why.TheVariants as why;
 ghost use Rattle.shipment_machine.specs.declared.plans.Detail.TheVariants as detail;
 ghost use Rattle.shipment_machine.specs.declared.plans.PlanFault.TheVariants as fault;
-ghost use Rattle.shipment_machine.specs.Agreement.{IsAnswer};
 ghost use Rattle.shipment_machine.specs.Announced.{is_new, expected_so_far, expected_now, refusal_now, changes_now, first_rows, with_line, no_earlier, announced_changes, part_answer, IsRefusal, IsPartFault};
 ghost use Rattle.shipment_machine.specs.declared.plans.Change.TheVariants as change;
 
 use crate::acceptance::{add_declaration, claim_of, declared_as, is_at_desk_or_void};
-use crate::amount::is_within;
 use crate::command::{CargoLine, CargoRef, InboundLine, InboundPart};
 use crate::flight::FlightDate;
-use crate::moves::{Declared, Expected, Part};
+use crate::moves::{Declared, Expected, Part, is_within};
 use crate::plan_parts::{
     PlanContext, blank, is_same, pieces_of, refuse_waybill, tenths_of, widened,
 };

@@ -1,12 +1,12 @@
 //! Missing and found pieces.
-ghost use Rattle.std.specs.Prelude.{◌≡◌, ◌+◌, ◌≤◌, ◌++◌, OnOk, min};
-ghost use Rattle.shipment_machine.specs.Amount.{IsHeld, part};
-ghost use Rattle.shipment_machine.specs.Effect.{decided, surplus, discrepancy_of, recording_missing, recording_found};
-ghost use Rattle.shipment_machine.specs.Agreement.{IsAnswer, AreSound};
 
-use crate::amount::{Amount, part_of};
+ghost use Rattle.std.specs.Prelude.{◌≡◌, ◌+◌, ◌≤◌, ◌++◌, OnOk, min};
+ghost use Rattle.shipment_machine.specs.Book.{IsHeld, part};
+ghost use Rattle.shipment_machine.specs.Effect.{decided, surplus, discrepancy_of, recording_missing, recording_found};
+ghost use Rattle.shipment_machine.specs.Lawful.{IsAnswer, AreSound};
+
 use crate::flight::FlightDate;
-use crate::moves::{Declared, Place};
+use crate::moves::{Amount, Declared, Place, part_of};
 use crate::notice::{Event, Notice};
 use crate::plan_parts::{
     PlanContext, add_move, add_notice, blank, fits_with, refuse_free, refuse_waybill, together,

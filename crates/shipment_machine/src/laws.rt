@@ -2,9 +2,8 @@
 ghost use Rattle.std.specs.Prelude.{◌≡◌, ℕ, List};
 ghost use Rattle.shipment_machine.specs.declared.moves.Move.{Move};
 ghost use Rattle.shipment_machine.specs.Book.{pieces_of, tenths_of, waybills_of, has_moves};
-ghost use Rattle.shipment_machine.specs.Cargo.{Cargo, opening_cargo};
+ghost use Rattle.shipment_machine.specs.Cargo.{Cargo, opening_cargo, IsAscending, is_in};
 ghost use Rattle.shipment_machine.specs.Lawful.{IsLawful};
-ghost use Rattle.shipment_machine.specs.Numbers.{IsAscending, is_in};
 ghost use Rattle.shipment_machine.specs.Laws.{AreBalances, BalancesAgree, IsConserved, KeepsLawful};
 
 /// In any list of moves, what was received or found of a waybill is in store or beyond the store.

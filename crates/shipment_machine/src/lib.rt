@@ -3,16 +3,13 @@
 
 mod acceptance;
 mod airline;
-mod amount;
 mod arrival;
 mod command;
 mod departure;
 mod flight;
-mod handover;
 mod inbound;
 mod irregular;
 pub mod laws;
-mod messages;
 mod moves;
 mod notice;
 mod outbound;
@@ -23,14 +20,13 @@ mod trail;
 mod view;
 
 pub use airline::Airline;
-pub use amount::Amount;
 pub use command::{
     CargoLine, CargoRef, DeskCommand, DeskRef, InboundLine, InboundLines, InboundPart,
     InboundStatus, PieceCount, ShipmentCommand,
 };
 pub use flight::{FlightDate, MOST_WAYBILLS};
 pub use inbound::day_meant;
-pub use moves::{Balances, Declared, Expected, Move, Outbound, Part, Place};
+pub use moves::{Amount, Balances, Declared, Expected, Move, Outbound, Part, Place};
 pub use notice::{Event, ManifestLine, ManifestLines, Notice};
 pub use planning::plan;
 pub use plans::{Change, Detail, Plan, PlanFault, Refusal};

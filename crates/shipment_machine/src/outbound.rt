@@ -1,12 +1,12 @@
 //! Building, offloading and rerouting.
-ghost use Rattle.std.specs.Prelude.{◌*◌, ◌<◌};
-ghost use Rattle.shipment_machine.specs.Amount.{IsHeld};
-ghost use Rattle.shipment_machine.specs.Effect.{decided, manifesting, offloading, rerouting};
-ghost use Rattle.shipment_machine.specs.Agreement.{IsAnswer};
 
-use crate::amount::{Amount, part_of};
+ghost use Rattle.std.specs.Prelude.{◌*◌, ◌<◌};
+ghost use Rattle.shipment_machine.specs.Book.{IsHeld};
+ghost use Rattle.shipment_machine.specs.Effect.{decided, manifesting, offloading, rerouting};
+ghost use Rattle.shipment_machine.specs.Lawful.{IsAnswer};
+
 use crate::flight::{FlightDate, MOST_WAYBILLS};
-use crate::moves::{Declared, Outbound, Place};
+use crate::moves::{Amount, Declared, Outbound, Place, part_of};
 use crate::notice::Event;
 use crate::plan_parts::{
     PlanContext, add_move, add_notice, blank, is_same, refuse_flight, refuse_free, refuse_waybill,

@@ -1,13 +1,13 @@
 //! Parts of a plan.
+
 ghost use Rattle.std.specs.Prelude.{◌≡◌, ◌<◌, ◌^◌, ◌+◌, ◌≤◌, ◌++◌, [], OnOk};
 ghost use Rattle.shipment_machine.specs.Common.{bytes_eq, IsPieces, IsBookTenths, most_pieces, most_tenths};
-ghost use Rattle.shipment_machine.specs.Amount.{IsHeld, amount, plus, fits};
+ghost use Rattle.shipment_machine.specs.Book.{IsHeld, amount, plus, fits};
 ghost use Rattle.shipment_machine.specs.Effect.{about as waybill_refusal, only_free as free_refusal, on_flight as flight_refusal, move_of, status_of, consigned, came_in};
 ghost use Rattle.shipment_machine.specs.declared.plans.PlanFault.TheVariants as fault;
 
-use crate::amount::{Amount, is_within};
 use crate::flight::FlightDate;
-use crate::moves::{Balances, Declared, Move, Place};
+use crate::moves::{Amount, Balances, Declared, Move, Place, is_within};
 use crate::notice::{Event, Notice};
 use crate::plans::{Detail, Plan, PlanFault, Refusal};
 use awb_number::Awb;

@@ -1,23 +1,21 @@
 //! Planning of each command from a view that a lawful state can have.
+
 ghost use Rattle.std.specs.Prelude.{◌≡◌, ◌↔◌, Ok, IfOk, IfErr, IsTrue, All, length};
 ghost use Rattle.shipment_machine.specs.Common.{filter, bytes_eq};
-ghost use Rattle.shipment_machine.specs.Amount.{IsHeld};
+ghost use Rattle.shipment_machine.specs.Book.{IsHeld};
 ghost use Rattle.shipment_machine.specs.declared.command.ShipmentCommand.TheVariants as order;
 ghost use Rattle.shipment_machine.specs.Cargo.{Cargo};
 ghost use Rattle.shipment_machine.specs.Effect.{effect, expected_amount, lines_for, is_day};
-ghost use Rattle.shipment_machine.specs.Lawful.{IsProper};
-ghost use Rattle.shipment_machine.specs.Agreement.{AreRowsOf, AreSound, FitsCommand, IsAnswer, IsOnBoard, IsViewOf, RefusesAs, StaysLawful, meant_by, outcome_of, rows_answer};
+ghost use Rattle.shipment_machine.specs.Lawful.{IsProper, AreRowsOf, AreSound, FitsCommand, IsAnswer, IsOnBoard, IsViewOf, RefusesAs, StaysLawful, meant_by, outcome_of, rows_answer};
 
 use crate::acceptance::{amend, book, booked, claim_of, receive, withdraw};
-use crate::amount::Amount;
 use crate::arrival::{check_in, strike};
 use crate::command::{DeskCommand, InboundLine, ShipmentCommand};
-use crate::departure::depart;
-use crate::handover::{deliver, notify, transfer};
+use crate::departure::{deliver, depart, notify, transfer};
 use crate::inbound::announce;
 use crate::irregular::{record_found, record_missing};
-use crate::messages::{confirm, note_status};
-use crate::moves::{Balances, Expected};
+use crate::moves::{Amount, Balances, Expected};
+use crate::notice::{confirm, note_status};
 use crate::outbound::{manifest, offload, reroute};
 use crate::plan_parts::PlanContext;
 use crate::plans::{Plan, PlanFault};

@@ -1,5 +1,5 @@
 ghost use Rattle.std.specs.Prelude.{Some};
-ghost use Rattle.shipment_machine.specs.Texts.{detail_text, refusal_text};
+ghost use Rattle.shipment_machine.specs.Effect.{detail_text, refusal_text};
 
 use crate::flight::FlightDate;
 use crate::moves::{Declared, Expected, Move, Outbound, Part};

@@ -12,7 +12,7 @@ pub struct TrailLine<'a> {
 
 impl<'a> Model for TrailLine<'a> {
     ghost use Rattle.std.specs.Prelude.{List, ℕ, IsTrue};
-    ghost use Rattle.imp_fields.specs.Characters.{is_line};
+    ghost use Rattle.imp_fields.specs.Fields.{is_line};
 
     ghost Value = { List ℕ };
 
@@ -48,8 +48,7 @@ pub struct TrailLines<'a> {
 impl<'a> Model for TrailLines<'a> {
     ghost use Rattle.std.specs.Prelude.{List, ℕ, ◌≤◌, IsTrue, length};
     ghost use Rattle.std.specs.List.{list_all};
-    ghost use Rattle.imp_fields.specs.Characters.{is_line};
-    ghost use Rattle.imp_fields.specs.TextSize.{most_lines};
+    ghost use Rattle.imp_fields.specs.Fields.{is_line, most_lines};
 
     ghost Value = { List (List ℕ) };
 

@@ -1,9 +1,8 @@
 ghost use Rattle.std.specs.Prelude.{◌≡◌, ◌≤◌, ◌↔◌, length, IsSome, IfSome};
 ghost use Rattle.shipment_machine.specs.Common.{most_waybills};
 
-use crate::amount::Amount;
 use crate::flight::{FlightDate, MOST_WAYBILLS};
-use crate::moves::{Balances, Declared, Expected, Outbound};
+use crate::moves::{Amount, Balances, Declared, Expected, Outbound};
 use agent_stock::Holder;
 use awb_number::Awb;
 use imp_fields::Airport;
@@ -53,7 +52,7 @@ pub struct Loads {
 impl Model for Loads {
     ghost use Rattle.std.specs.Prelude.{List, ◌≤◌, length};
     ghost use Rattle.shipment_machine.specs.declared.view.FlightLoad.{FlightLoad};
-    ghost use Rattle.imp_fields.specs.Flight.{most_waybills};
+    ghost use Rattle.imp_fields.specs.Fields.{most_waybills};
 
     ghost Value = { List FlightLoad };
 

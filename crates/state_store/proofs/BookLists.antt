@@ -1,6 +1,6 @@
 -- Rows by sums that are kept in order are those of the book.
 use Rattle.state_store.proofs.Common.{All, AllByRecursion, BTreeMap, Bool, Built, FlightDate, Flow, IsStrictlySortedBy, IsWaybillSummed, Less, List, Load, Move, None, Option, Some, WaybillFlows, WaybillQuery, [], ap, append-nil, append_assoc, arith, asked, asked_by, built, common_steps, cond, false, filter, flat_map, flat_map-cons, flow_in, flow_of, get, held_of, if◌then◌else◌, is_at, is_some, keys_of, load_on, loaded, loads_on, lookup, map, nat_cmp, nat_lt, nat_tests, no_flows, refl, sorted_head, sorted_tail, still, suc, sym, true, unwrap_or, waybills_for, waybills_of, waybills_on, ℕ, ◌&&◌, ◌++◌, ◌<◌, ◌==◌, ◌||◌, ◌∙◌, ◌∷◌, ◌≡◌}
-use Rattle.shipment_machine.specs.Numbers.{IsAscending, is_in}
+use Rattle.shipment_machine.specs.Cargo.{IsAscending, is_in}
 use Rattle.shipment_machine.proofs.OnFlight.{Rising-waybills_of, is_in-waybills_of, is_in-waybills_on}
 use Rattle.shipment_machine.proofs.Rising.{Rising-filter, is_in-filter, same_rising}
 

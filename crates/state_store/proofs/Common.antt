@@ -1,18 +1,14 @@
 -- The names that proofs of this crate cite, passed on from one place. Declares nothing.
-pub use Rattle.agent_stock.specs.Runs.{AreStockRuns, IsNoneFrom, with_run}
-pub use Rattle.agent_stock.specs.Stock.{Holders, assigned, covers, lowest_failing, passes}
+pub use Rattle.agent_stock.specs.Stock.{AreStockRuns, IsNoneFrom, with_run, Holders, assigned, covers, lowest_failing, passes}
 pub use Rattle.agent_stock.specs.declared.runs.StockRun.{StockRun}
 pub use Rattle.agent_stock.specs.declared.stock.Holder.TheVariants.{Desk, Used, Void}
 pub use Rattle.agent_stock.specs.declared.stock.Holder.{Holder}
 pub use Rattle.imp_fields.proofs.SameFlight.{bytes_eq-refl, bytes_eq-true, one_by_text}
 pub use Rattle.shipment_machine.proofs.FlightKeys.{same-is, same-refl}
-pub use Rattle.shipment_machine.specs.Amount.{amount, less}
-pub use Rattle.shipment_machine.specs.Book.{balances_of, brings, built, delivered, departed, found, free, has_moves, missing, moved_in, moved_out, pieces_of, same_place, store, taken, taken_and_found, takes, tenths_of, transferred, waybills_of, waybills_on}
-pub use Rattle.shipment_machine.specs.Cargo.{Cargo, same_part, written}
+pub use Rattle.shipment_machine.specs.Book.{amount, less, balances_of, brings, built, delivered, departed, found, free, has_moves, missing, moved_in, moved_out, pieces_of, same_place, store, taken, taken_and_found, takes, tenths_of, transferred, waybills_of, waybills_on, same_flight_date}
+pub use Rattle.shipment_machine.specs.Cargo.{Cargo, same_part, written, declaration, line_view_of}
 pub use Rattle.shipment_machine.specs.Effect.{is_day}
-pub use Rattle.shipment_machine.specs.Flights.{same_flight_date}
-pub use Rattle.shipment_machine.specs.Views.{declaration, line_view_of}
-pub use Rattle.shipment_machine.specs.declared.amount.Amount.{Amount}
+pub use Rattle.shipment_machine.specs.declared.moves.Amount.{Amount}
 pub use Rattle.shipment_machine.specs.declared.flight.FlightDate.{FlightDate}
 pub use Rattle.shipment_machine.specs.declared.moves.Declared.{Declared}
 pub use Rattle.shipment_machine.specs.declared.moves.Expected.{Expected}
@@ -21,31 +17,18 @@ pub use Rattle.shipment_machine.specs.declared.moves.Part.{Part}
 pub use Rattle.shipment_machine.specs.declared.moves.Place.TheVariants.{Built, Delivered, Departed, Free, Hand, Missing, Surplus, Transferred}
 pub use Rattle.shipment_machine.specs.declared.moves.Place.{Place}
 pub use Rattle.shipment_machine.specs.declared.plans.Change.TheVariants.{Declare, Expect, NoteFlight, NotePart, Trail, UseUp}
-pub use Rattle.state_store.specs.Asked.{first_line, first_movement, if_line, if_movement, is_movement_of}
-pub use Rattle.state_store.specs.ExpectedLines.{Lines, line_of, lines_in, no_lines, same_line, with_line}
-pub use Rattle.state_store.specs.FlightKey.{by_key, key_total}
-pub use Rattle.state_store.specs.Flow.{drawn_of, flow_of, flow_with, held_of, more, still}
-pub use Rattle.state_store.specs.Lines.{aboard_of, part_rows_on}
-pub use Rattle.state_store.specs.Listed.{announced_by, asked_by, loaded}
-pub use Rattle.state_store.specs.Maps.{cargo_of, declared_in, flights_in, part_of, parts_in, trail_in, trail_line}
-pub use Rattle.state_store.specs.Runs.{named_by, with_numbers}
-pub use Rattle.state_store.specs.Shown.{Shows, in_memory, state_of}
-pub use Rattle.state_store.specs.Stock.{holders_of, nobody}
-pub use Rattle.state_store.specs.Store.{MayLeave, Reads, ReadsAtRest, Says, Storing, Survives, at_rest}
-pub use Rattle.state_store.specs.Summed.{IsSummed, IsWaybillSummed, flow_at, flow_by, flow_in}
-pub use Rattle.state_store.specs.WaybillFlows.{flows_of, flows_with, no_flows}
-pub use Rattle.state_store.specs.Waybills.{asked, is_asked_for, waybills_for, with_balances}
+pub use Rattle.state_store.specs.Asked.{first_line, first_movement, if_line, if_movement, is_movement_of, aboard_of, part_rows_on}
+pub use Rattle.state_store.specs.Store.{Lines, line_of, lines_in, no_lines, same_line, with_line, by_key, key_total, drawn_of, flow_of, flow_with, held_of, more, still, announced_by, asked_by, loaded, cargo_of, declared_in, flights_in, part_of, parts_in, trail_in, trail_line, named_by, with_numbers, Shows, in_memory, state_of, holders_of, nobody, MayLeave, Reads, ReadsAtRest, Says, Storing, Survives, at_rest, IsSummed, IsWaybillSummed, flow_at, flow_by, flow_in, flows_of, flows_with, no_flows, asked, is_asked_for, waybills_for, with_balances}
 pub use Rattle.state_store.specs.declared.flight_key.FlightKey.{FlightKey}
 pub use Rattle.state_store.specs.declared.maps.flow.Flow.{Flow}
 pub use Rattle.state_store.specs.declared.maps.state.MapState.{MapState}
 pub use Rattle.state_store.specs.declared.maps.waybill_flows.WaybillFlows.{WaybillFlows}
-pub use Rattle.state_store.specs.declared.query.WaybillQuery.TheVariants.{Irregular, Stored}
-pub use Rattle.state_store.specs.declared.query.WaybillQuery.{WaybillQuery}
+pub use Rattle.state_store.specs.declared.viewing.WaybillQuery.TheVariants.{Irregular, Stored}
+pub use Rattle.state_store.specs.declared.viewing.WaybillQuery.{WaybillQuery}
 pub use Rattle.station_core.proofs.Mapped.{map_twice, mapped}
 pub use Rattle.station_core.specs.Readers.{AreAnnounced, AreExpectations, AreNoted, book_row, by_expectation, by_flight, expected_for, expected_row, flight_row, has_come, irregular_row, is_in_shed, is_irregular, last_of, lines_for, message, movements_for, numbered, shed_row, told_of, trail_row}
-pub use Rattle.station_core.specs.Step.{State, has_room, keeping, keeping_text, sent}
-pub use Rattle.station_core.specs.Texts.{texts_in}
-pub use Rattle.station_core.specs.Told.{irregular_by, kept_of, load_on, loads_on, on_cargo, shed_by, stored_of, with_key, with_text}
+pub use Rattle.station_core.specs.Step.{State, has_room, keeping, keeping_text, sent, texts_in}
+pub use Rattle.station_core.specs.Keeping.{irregular_by, kept_of, load_on, loads_on, on_cargo, shed_by, stored_of, with_key, with_text}
 pub use Rattle.station_core.specs.declared.rows.Expectation.{Expectation}
 pub use Rattle.station_core.specs.declared.stored.KeptReply.{KeptReply}
 pub use Rattle.station_core.specs.declared.stored.Load.{Load}

@@ -1,7 +1,7 @@
 -- The entries of a map in the order of the readers, as their rows.
 use Rattle.std.proofs.Common.{◌≡◌, ◌∙◌, ℕ, Bool, true, false, ◌&&◌, cond, List, [], ◌∷◌, ◌++◌, map, option_map, append_assoc, append-nil, Some, find, ◌==◌, refl, sym, ap, subst, Less, Ordering}
 use Rattle.state_store.proofs.Common.{AllByRecursion, AreExpectations, Expectation, Expected, FlightKey, IsStrictlySortedBy, and_from, below_all, by_expectation, is_lt, is_sorted, keys_of, line_of, lines_in, lookup, same_flight_date, same_line, sorted_head, sorted_tail}
-use Rattle.state_store.specs.declared.expected_lines.ExpectedLines.{ExpectedLines}
+use Rattle.state_store.specs.declared.lines.ExpectedLines.{ExpectedLines}
 use Rattle.state_store.proofs.Tied.{by_line}
 
 -- one row further

@@ -2,7 +2,7 @@
 use Rattle.std.proofs.Common.{◌≡◌, ◌∙◌, ℕ, ◌<◌, ◌≤◌, Bool, true, false, cond, List, [], ◌∷◌, length, Option, Some, None, option_map, inl, inr, refl, sym, ap, arith, String}
 use Rattle.state_store.proofs.Common.{Vec, bytes_eq, bytes_eq-true, cases_lt, keeping, keeping_text, lookup, nat_list_eq_equiv, string_bytes, ◌^◌}
 use Rattle.std.specs.HashMap.{HashMap, get, get_by}
-use Rattle.state_store.specs.Kept.{count_under, kept_in, kept_under}
+use Rattle.state_store.specs.Store.{count_under, kept_in, kept_under}
 
 -- two names are the same bytes
 abbrev pub same_bytes : {Z : Type 0} → Vec ℕ Z → Vec ℕ Z → Bool

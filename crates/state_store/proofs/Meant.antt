@@ -4,7 +4,7 @@ use Rattle.station_days.specs.Date.{LocalMinute, resolved}
 use Rattle.shipment_machine.specs.declared.command.InboundPart.{InboundPart}
 use Rattle.shipment_machine.specs.declared.command.ShipmentCommand.TheVariants as order
 use Rattle.shipment_machine.specs.declared.view.Rows.TheVariants as rows
-use Rattle.shipment_machine.specs.Agreement.{rows_for}
+use Rattle.shipment_machine.specs.Lawful.{rows_for}
 
 -- the rows of a part whose date means a day
 pub on_day : (s : Cargo) (f : InboundPart) (at : LocalMinute) (day : ℕ) → resolved f.date at.day ≡ Some day → is_day (resolved f.date at.day) ≡ true → part_rows_on s f day ≡ rows_for s (order.Ffm f) at

@@ -1,6 +1,6 @@
 -- Keys tie where their flights are one.
 use Rattle.state_store.proofs.Common.{Equal, FlightDate, FlightKey, Greater, Less, Ordering, and_from, and_parts, ap, arith, by_flight, by_key, eq-eqb, eqb-true, is_eq, key_total, line_of, nat_cmp, nat_cmp-IsAntisymmetric, nat_tests, one_by_text, ordering_then, refl, same-is, same-refl, same_flight_date, same_line, slice_cmp-IsAntisymmetric, sym, tied_itself, true≢false, ℕ, ◌∙◌, ◌≡◌}
-use Rattle.imp_fields.specs.Flight.{flight_text}
+use Rattle.imp_fields.specs.Fields.{flight_text}
 use Rattle.state_store.proofs.Keyed.{IsKeyed}
 
 pub both_equal : (a b : Ordering) → ordering_then a b ≡ Equal → (a ≡ Equal) × (b ≡ Equal)

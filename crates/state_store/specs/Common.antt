@@ -9,20 +9,15 @@ pub use Rattle.std.specs.Map.{lookup}
 pub use Rattle.std.specs.Option.{option_map, unwrap_or}
 pub use Rattle.std.specs.Ordering.{eq_by_cmp, nat_cmp}
 pub use Rattle.std.specs.Str.{bytes_eq}
-pub use Rattle.agent_stock.specs.Runs.{AreStockRuns, IsNoneFrom}
-pub use Rattle.agent_stock.specs.Stock.{Holders, RefusesOrder, after_order, assigned, is_run, lowest_failing, order_refusal, run_refusal}
+pub use Rattle.agent_stock.specs.Stock.{AreStockRuns, IsNoneFrom, Holders, RefusesOrder, after_order, assigned, is_run, lowest_failing, order_refusal, run_refusal}
 pub use Rattle.agent_stock.specs.declared.stock.Holder.{Holder}
-pub use Rattle.imp_fields.specs.Flight.{IsDesignator, flight_text}
+pub use Rattle.imp_fields.specs.Fields.{IsDesignator, flight_text}
 pub use Rattle.row_sinks.specs.Handed.{HandedOut, Hands}
-pub use Rattle.shipment_machine.specs.Agreement.{rows_for, view_of}
-pub use Rattle.shipment_machine.specs.Amount.{amount}
-pub use Rattle.shipment_machine.specs.Book.{balances_of, built, has_moves, moved_in, moved_out, pieces_of, same_place, store, tenths_of, waybills_of}
-pub use Rattle.shipment_machine.specs.Cargo.{Cargo, same_part, written}
+pub use Rattle.shipment_machine.specs.Lawful.{rows_for, view_of, IsLawful}
+pub use Rattle.shipment_machine.specs.Book.{amount, balances_of, built, has_moves, moved_in, moved_out, pieces_of, same_place, store, tenths_of, waybills_of, same_flight_date}
+pub use Rattle.shipment_machine.specs.Cargo.{Cargo, same_part, written, declaration, declaration_view, flight_view, line_view_of, loads_of, rows_of, waybill_view}
 pub use Rattle.shipment_machine.specs.Effect.{lines_for}
-pub use Rattle.shipment_machine.specs.Flights.{same_flight_date}
-pub use Rattle.shipment_machine.specs.Lawful.{IsLawful}
-pub use Rattle.shipment_machine.specs.Views.{declaration, declaration_view, flight_view, line_view_of, loads_of, rows_of, waybill_view}
-pub use Rattle.shipment_machine.specs.declared.amount.Amount.{Amount}
+pub use Rattle.shipment_machine.specs.declared.moves.Amount.{Amount}
 pub use Rattle.shipment_machine.specs.declared.command.InboundPart.{InboundPart}
 pub use Rattle.shipment_machine.specs.declared.flight.FlightDate.{FlightDate}
 pub use Rattle.shipment_machine.specs.declared.moves.Balances.{Balances}
@@ -36,11 +31,9 @@ pub use Rattle.shipment_machine.specs.declared.moves.Place.TheVariants.{Built, D
 pub use Rattle.shipment_machine.specs.declared.plans.Change.TheVariants.{Confirm, Declare, Expect, NoteFlight, NotePart, Trail, UseUp}
 pub use Rattle.shipment_machine.specs.declared.view.FlightLoad.{FlightLoad}
 pub use Rattle.shipment_machine.specs.declared.view.Rows.{Rows}
-pub use Rattle.station_core.specs.Keeping.{KeepsPremise}
+pub use Rattle.station_core.specs.Keeping.{KeepsPremise, irregular_by, kept_of, loads_on, on_cargo, shed_by, stored_of, with_key, with_messages, with_moves, with_text}
 pub use Rattle.station_core.specs.Readers.{AreAnnounced, AreExpectations, AreExpectedBy, AreFlightRows, AreNoted, book_row, by_flight, expected_row, flight_row, has_come, irregular_rows, is_of_flight, message, movements_for, numbered, shed_rows, told_of, trail_row, waybill_of}
-pub use Rattle.station_core.specs.Step.{Kept, State, has_room, most_rows, opening}
-pub use Rattle.station_core.specs.Texts.{texts_in}
-pub use Rattle.station_core.specs.Told.{irregular_by, kept_of, loads_on, on_cargo, shed_by, stored_of, with_key, with_messages, with_moves, with_text}
+pub use Rattle.station_core.specs.Step.{Kept, State, has_room, most_rows, opening, texts_in}
 pub use Rattle.station_core.specs.declared.rows.AnnouncedRow.{AnnouncedRow}
 pub use Rattle.station_core.specs.declared.rows.BookQuery.{BookQuery}
 pub use Rattle.station_core.specs.declared.rows.BookRow.{BookRow}

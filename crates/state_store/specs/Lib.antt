@@ -1,16 +1,3 @@
 pub mod Common
 pub mod Asked
-pub mod ExpectedLines
-pub mod FlightKey
-pub mod Flow
-pub mod Kept
-pub mod Lines
-pub mod Listed
-pub mod Maps
-pub mod Runs
-pub mod Shown
-pub mod Stock
 pub mod Store
-pub mod Summed
-pub mod WaybillFlows
-pub mod Waybills

@@ -2,7 +2,7 @@
 ghost use Rattle.std.specs.Prelude.{refl, Some};
 ghost use Rattle.std.proofs.lemmas.Cmp.{eq_by_cmp_equiv};
 ghost use Rattle.state_store.specs.Common.{partial_equiv_from_equiv, po};
-ghost use Rattle.state_store.specs.FlightKey.{by_key, key_total, same_key};
+ghost use Rattle.state_store.specs.Store.{by_key, key_total, same_key};
 
 use crate::flight_key::FlightKey;
 use std::cmp::Ordering;

@@ -2,21 +2,18 @@
 //! planned, and the rows of readers.
 #![tactic(auto)]
 
-mod expected_lines;
 mod flight_key;
 mod flight_order;
 mod lines;
 mod maps;
-mod query;
 mod store;
 mod telling;
 mod viewing;
 
-pub use expected_lines::ExpectedLines;
 pub use flight_key::FlightKey;
+pub use lines::ExpectedLines;
 pub use maps::MapState;
-pub use query::WaybillQuery;
 pub use row_sinks::StoreFault;
 pub use store::StateStore;
 pub use telling::{expected_rows, flight_rows, irregular_rows, shed_rows, waybill_in};
-pub use viewing::view;
+pub use viewing::{WaybillQuery, view};

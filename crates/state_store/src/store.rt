@@ -1,4 +1,4 @@
-use crate::query::WaybillQuery;
+use crate::viewing::WaybillQuery;
 use agent_stock::{Holder, Order, StockFault, StockRun};
 use awb_number::Awb;
 use imp_fields::Airport;
@@ -19,16 +19,13 @@ use station_core::{
 pub trait StateStore {
     ghost use Rattle.std.specs.Prelude.{◌≡◌, ◌∷◌, [], true, length, Option, Some, None, OnOk, IfErr, is_some};
     ghost use Rattle.std.specs.Option.{option_map};
-    ghost use Rattle.agent_stock.specs.Runs.{AreStockRuns};
-    ghost use Rattle.agent_stock.specs.Stock.{order_refusal};
+    ghost use Rattle.agent_stock.specs.Stock.{AreStockRuns, order_refusal, OnRefused, RefusesBy};
     ghost use Rattle.shipment_machine.specs.Book.{balances_of, built, has_moves as is_moved, waybills_on};
     ghost use Rattle.shipment_machine.specs.Cargo.{written};
     ghost use Rattle.station_core.specs.Readers.{AreAnnounced, AreNoted, AreExpectations, expected_for, book_by, messages_by, trail_by};
     ghost use Rattle.station_core.specs.Step.{State, has_room};
-    ghost use Rattle.state_store.specs.Store.{Changes, Commits, HandsOut, Reads, ReadsAtRest, Says, Seen, Storing, Survives, at_rest, inside};
-    ghost use Rattle.state_store.specs.Waybills.{waybills_for};
-    ghost use Rattle.agent_stock.specs.Refusing.{OnRefused, RefusesBy};
-    ghost use Rattle.station_core.specs.Told.{IsRequest, kept_of, sizes_of, loads_on, on_cargo, with_moves, with_messages, with_key, with_text, with_order};
+    ghost use Rattle.state_store.specs.Store.{Changes, Commits, HandsOut, Reads, ReadsAtRest, Says, Seen, Storing, Survives, at_rest, inside, waybills_for};
+    ghost use Rattle.station_core.specs.Keeping.{IsRequest, kept_of, sizes_of, loads_on, on_cargo, with_moves, with_messages, with_key, with_text, with_order};
 
     /// Its state, whether its disk is clean and its storage sound, and the crash states.
     ghost storing: { Storing Self };

@@ -4,8 +4,8 @@ ghost use Rattle.state_store.specs.Common.{sum_by, balances_of, store, IsLawful,
 ghost use Rattle.shipment_machine.specs.Cargo.{Cargo as AnyCargo};
 ghost use Rattle.state_store.specs.Store.{ReadsAtRest};
 
-use crate::query::WaybillQuery;
 use crate::store::StateStore;
+use crate::viewing::WaybillQuery;
 use awb_number::Awb;
 use row_sinks::StoreFault;
 use shipment_machine::laws::conservation_law;

@@ -1,15 +1,18 @@
 //! The views from which commands are planned. Each asks the store only for what its command reads.
-ghost use Rattle.std.specs.Prelude.{◌≡◌, IfOk, length};
-ghost use Rattle.state_store.specs.Common.{rows_for, view_of, built, declaration_view, waybill_view, flight_view, loads_of, rows_of};
+//! Queries of waybills by their balances.
+
+ghost use Rattle.std.specs.Prelude.{◌≡◌, IfOk, length, nat_lt};
+ghost use Rattle.state_store.specs.Common.{rows_for, view_of, built, declaration_view, waybill_view, flight_view, loads_of, rows_of, stored_of};
 ghost use Rattle.shipment_machine.specs.declared.view.Rows.TheVariants as rows;
-ghost use Rattle.state_store.specs.Store.{Reads, Says};
+ghost use Rattle.state_store.specs.Store.{Reads, Says, is_asked_for};
 
 use crate::lines::{loads_of, part_rows};
 use crate::store::StateStore;
 use awb_number::Awb;
 use row_sinks::StoreFault;
 use shipment_machine::{
-    DeclarationView, FlightDate, FlightView, Rows, RowsKey, ShipmentCommand, View, WaybillView,
+    Balances, DeclarationView, FlightDate, FlightView, Rows, RowsKey, ShipmentCommand, View,
+    WaybillView,
 };
 use station_days::Moment;
 use std::alloc::Global;
@@ -208,4 +211,37 @@ pub fn view<S: StateStore>(
         here: store.here(),
         rows,
     })
+}
+
+/// A query of waybills.
+#[derive(Clone, Copy)]
+pub enum WaybillQuery {
+    /// The waybills with pieces in store.
+    Stored,
+    /// The waybills with missing or found pieces.
+    Irregular,
+}
+
+/// Returns whether pieces are in store: more came in than left or are missing.
+fn has_stored(balances: Balances) -> bool
+    ensures { result ≡ nat_lt 0 (stored_of balances).pieces }
+{
+    let came = u64::from(balances.taken.pieces) + u64::from(balances.found.pieces);
+    let gone = u64::from(balances.departed.pieces)
+        + u64::from(balances.delivered.pieces)
+        + u64::from(balances.missing.pieces)
+        + u64::from(balances.transferred.pieces);
+    gone < came
+}
+
+impl WaybillQuery {
+    /// Returns whether the query includes a waybill with these balances.
+    pub fn asks_for(&self, balances: &Balances) -> bool
+        ensures { result ≡ is_asked_for self.now balances.now }
+    {
+        match self {
+            WaybillQuery::Stored => has_stored(*balances),
+            WaybillQuery::Irregular => balances.missing.pieces > 0 || balances.found.pieces > 0,
+        }
+    }
 }

@@ -2,7 +2,7 @@
 pub use Rattle.agent_stock.specs.declared.stock.Order.TheVariants.{GiveBack, Issue, TakeIn, Void}
 pub use Rattle.agent_stock.specs.declared.stock.Order.{Order}
 pub use Rattle.desk_commands.specs.Command.{IsDeskCommand, command_text}
-pub use Rattle.imp_fields.specs.Flight.{Designator, flight_text}
+pub use Rattle.imp_fields.specs.Fields.{Designator, flight_text}
 pub use Rattle.shipment_machine.specs.Cargo.{Cargo, same_part, written, written_all}
 pub use Rattle.shipment_machine.specs.declared.command.DeskCommand.TheVariants.{Confirm}
 pub use Rattle.shipment_machine.specs.declared.command.DeskCommand.{DeskCommand}
@@ -11,15 +11,13 @@ pub use Rattle.shipment_machine.specs.declared.flight.FlightDate.{FlightDate}
 pub use Rattle.shipment_machine.specs.declared.moves.Place.TheVariants.{Free, Hand}
 pub use Rattle.shipment_machine.specs.declared.plans.Refusal.{Refusal}
 pub use Rattle.station_core.specs.Keeping.{KeepsSound}
-pub use Rattle.station_core.specs.Key.{is_key, is_key_byte}
-pub use Rattle.station_core.specs.Ranges.{AreInputs, IsContent, IsInboundLine, IsInput}
-pub use Rattle.station_core.specs.Readers.{AreExpectations, asked_of, asks_for, book_by, book_rows, by_expectation, by_flight, expected_for, irregular_rows, pending_messages, shed_rows, trail_by, waybill_of}
-pub use Rattle.station_core.specs.Step.{Acted, IsLawfulState, State, Stepped, accepted, acted, after_all, answered, answers_of, cargo_acted, first_time, has_room, keeping_text, kept_with, key_answer, opening, refused, repeated, sent, shipment_of, step, stepped, stock_acted, text_answer, with_notices}
-pub use Rattle.station_core.specs.Texts.{refusal_text, reply_text, texts_in}
+pub use Rattle.station_core.specs.Readers.{is_key, is_key_byte, AreExpectations, asked_of, asks_for, book_by, book_rows, by_expectation, by_flight, expected_for, irregular_rows, pending_messages, shed_rows, trail_by, waybill_of}
+pub use Rattle.station_core.specs.Retries.{AreInputs, IsContent, IsInboundLine, IsInput}
+pub use Rattle.station_core.specs.Step.{Acted, IsLawfulState, State, Stepped, accepted, acted, after_all, answered, answers_of, cargo_acted, first_time, has_room, keeping_text, kept_with, key_answer, opening, refused, repeated, sent, shipment_of, step, stepped, stock_acted, text_answer, with_notices, refusal_text, reply_text, texts_in}
 pub use Rattle.station_core.specs.declared.answer.Answer.TheVariants.{Done, Refused}
 pub use Rattle.station_core.specs.declared.answer.Answer.{Answer}
-pub use Rattle.station_core.specs.declared.input.Input.TheVariants.{Keyed, Wire}
-pub use Rattle.station_core.specs.declared.input.Input.{Input}
+pub use Rattle.station_core.specs.declared.answer.Input.TheVariants.{Keyed, Wire}
+pub use Rattle.station_core.specs.declared.answer.Input.{Input}
 pub use Rattle.station_core.specs.declared.rows.Expectation.{Expectation}
 pub use Rattle.station_days.specs.Date.{LocalMinute}
 pub use Rattle.std.proofs.Common.{Bool, Err, IfOk, IfSome, IsSome, List, None, Ok, Option, Result, Some, [], ap, arith, cond, false, get_or, length, nat_le, refl, subst, sym, take, true, ℕ, ◌*◌, ◌++◌, ◌+◌, ◌<◌, ◌∙◌, ◌∷◌, ◌≡◌, ◌≤◌}
@@ -32,7 +30,7 @@ pub use Rattle.std.specs.Prelude.{IsTrue, codes, is_some, map, not, ⊤, ◌&&�
 pub use Rattle.std.specs.Str.{IsAscii, bytes_eq}
 pub use Rattle.std.specs.declared.cmp.Ordering.TheVariants.{Equal, Greater, Less}
 pub use Rattle.std.specs.declared.cmp.Ordering.{Ordering}
-pub use Rattle.telegrams.specs.NoticeText.{notice_text}
+pub use Rattle.telegrams.specs.Meaning.{notice_text}
 pub use denote.RattleType.{RattleType, Valss, owns}
 pub use denote.Steps.{nothing}
 pub use mir.Val.{Val, vnil, vptr, vstruct}

@@ -5,7 +5,7 @@ use Rattle.jiff_core.specs.Calendar.{days_of_years, days_of_months, day_count, d
 use Rattle.agent_stock.specs.declared.stock.Run.{Run}
 use Rattle.shipment_machine.specs.declared.command.DeskCommand.TheVariants.{Notify, Book, Receive, Withdraw, Manifest, Offload, Reroute, Depart, CheckIn, Deliver, Missing, Confirm}
 use Rattle.desk_commands.specs.declared.command.Command.TheVariants.{Stock, Cargo}
-use Rattle.desk_commands.specs.Day.{day_line}
+use Rattle.desk_commands.specs.Command.{day_line}
 use Rattle.telegrams.specs.declared.telegram.Content.TheVariants.{Fwb, Ffm, Fsu}
 
 -- Short forms.

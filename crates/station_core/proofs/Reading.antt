@@ -2,15 +2,15 @@
 use Rattle.station_core.proofs.Common.{Confirm, Free, Hand, List, None, Option, Some, [], book_by, book_rows, codes, false, irregular_rows, length, map, opening, pending_messages, refl, shed_rows, trail_by, waybill_of, ℕ, ◌∷◌, ◌≡◌}
 use Rattle.std.specs.Fmt.{digits}
 use Rattle.jiff_core.specs.Calendar.{days_of_years, days_of_months, day_count, days_from_civil}
-use Rattle.shipment_machine.specs.Amount.{amount}
-use Rattle.shipment_machine.specs.declared.amount.Amount.{Amount}
+use Rattle.shipment_machine.specs.Book.{amount}
+use Rattle.shipment_machine.specs.declared.moves.Amount.{Amount}
 use Rattle.station_core.specs.declared.rows.BookQuery.{BookQuery}
 use Rattle.station_core.specs.declared.rows.BookQuery.TheVariants.{After, Last, Of, On}
 use Rattle.station_core.specs.declared.rows.TrailQuery.{TrailQuery}
 use Rattle.station_core.specs.declared.rows.TrailQuery.TheVariants as trail
 use Rattle.station_core.specs.declared.rows.Message.{Message}
 use Rattle.station_core.specs.declared.rows.Waybill.{Waybill}
-use Rattle.desk_commands.specs.Day.{day_line}
+use Rattle.desk_commands.specs.Command.{day_line}
 use Rattle.station_core.proofs.Examples.{fra, jfk, received, loaded, left, after, announced, counted, desk, at_time, lh_on, fsu}
 
 -- three pieces are missing

@@ -3,7 +3,7 @@ use Rattle.std.specs.Prelude.{◌≡◌, ◌≤◌, Bool, ◌&&◌, nat_le, true
 use Rattle.std.proofs.Common.{refl, arith}
 use Rattle.shipment_machine.specs.Cargo.{Cargo}
 use Rattle.station_core.specs.Step.{has_room, most_rows}
-use Rattle.station_core.specs.Told.{sizes_of}
+use Rattle.station_core.specs.Keeping.{sizes_of}
 use Rattle.station_core.specs.declared.stored.Sizes.{Sizes}
 
 all_three : (a b c : Bool) → a ≡ true → b ≡ true → c ≡ true → (a && b && c) ≡ true

@@ -14,21 +14,15 @@ pub use Rattle.agent_stock.specs.declared.stock.Order.{Order}
 pub use Rattle.awb_number.specs.Number.{IsNumber}
 pub use Rattle.desk_commands.specs.Command.{IsCommand, command_text}
 pub use Rattle.desk_commands.specs.declared.command.Command.{Command}
-pub use Rattle.imp_fields.specs.Airport.{is_airport}
-pub use Rattle.imp_fields.specs.Amount.{IsPieces, IsTenths, most_parts}
-pub use Rattle.imp_fields.specs.Characters.{is_line}
-pub use Rattle.imp_fields.specs.Flight.{IsDesignator, flight_text}
-pub use Rattle.imp_fields.specs.Name.{is_goods}
+pub use Rattle.imp_fields.specs.Fields.{is_airport, IsPieces, IsTenths, most_parts, is_line, IsDesignator, flight_text}
+pub use Rattle.imp_fields.specs.Message.{is_goods}
 pub use Rattle.row_sinks.specs.Handed.{HandedOut}
-pub use Rattle.shipment_machine.specs.Amount.{amount, less}
-pub use Rattle.shipment_machine.specs.Book.{balances_of, built, delivered, departed, found, free, missing, same_place, store, taken, transferred, waybills_of, waybills_on}
-pub use Rattle.shipment_machine.specs.Cargo.{Cargo, opening_cargo}
+pub use Rattle.shipment_machine.specs.Book.{amount, less, balances_of, built, delivered, departed, found, free, missing, same_place, store, taken, transferred, waybills_of, waybills_on, same_flight_date}
+pub use Rattle.shipment_machine.specs.Cargo.{Cargo, opening_cargo, declaration}
 pub use Rattle.shipment_machine.specs.Effect.{Outcome, carried_out, effect}
-pub use Rattle.shipment_machine.specs.Flights.{same_flight_date}
 pub use Rattle.shipment_machine.specs.Lawful.{IsLawful}
 pub use Rattle.shipment_machine.specs.Laws.{AreBalances, IsConserved}
-pub use Rattle.shipment_machine.specs.Views.{declaration}
-pub use Rattle.shipment_machine.specs.declared.amount.Amount.{Amount}
+pub use Rattle.shipment_machine.specs.declared.moves.Amount.{Amount}
 pub use Rattle.shipment_machine.specs.declared.command.CargoLine.{CargoLine}
 pub use Rattle.shipment_machine.specs.declared.command.InboundLine.{InboundLine}
 pub use Rattle.shipment_machine.specs.declared.command.ShipmentCommand.{ShipmentCommand}
@@ -44,6 +38,11 @@ pub use Rattle.shipment_machine.specs.declared.notice.Notice.{Notice}
 pub use Rattle.shipment_machine.specs.declared.plans.Detail.{Detail}
 pub use Rattle.shipment_machine.specs.declared.plans.Refusal.{Refusal}
 pub use Rattle.station_days.specs.Date.{IsCalendarDay, LocalMinute}
-pub use Rattle.telegrams.specs.NoticeText.{notice_text}
+pub use Rattle.telegrams.specs.Meaning.{notice_text}
 pub use Rattle.telegrams.specs.declared.telegram.Content.{Content}
 pub use Rattle.telegrams.specs.declared.telegram.Content.TheVariants.{Ffm, Fsu, Fwb}
+pub use Rattle.station_core.specs.declared.answer.Reply.{Reply}
+pub use Rattle.station_core.specs.declared.answer.Answer.{Answer}
+pub use Rattle.station_core.specs.declared.rows.IrregularRow.{IrregularRow}
+pub use Rattle.station_core.specs.declared.rows.ShedRow.{ShedRow}
+pub use Rattle.station_core.specs.declared.answer.Answer.TheVariants.{Done, Refused}

@@ -1,14 +1,7 @@
 pub mod Common
-pub mod Counted
 pub mod Ends
-pub mod Gathered
 pub mod Given
 pub mod Keeping
-pub mod Key
-pub mod Ranges
 pub mod Readers
 pub mod Retries
 pub mod Step
-pub mod Tally
-pub mod Texts
-pub mod Told

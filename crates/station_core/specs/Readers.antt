@@ -1,9 +1,7 @@
 -- The rows that a station's readers hand out.
-use Rattle.std.specs.Prelude.{◌≡◌, max, ℕ, ◌+◌, ◌-◌, Bool, ◌||◌, ◌&&◌, ◌==◌, not, nat_lt, if◌then◌else◌, IsTrue, Option, Some, None, List, [], ◌∷◌, length, map, drop, filter, true, false}
-use Rattle.station_core.specs.Common.{find, flat_map, sum_by, is_sorted, nat_cmp, ordering_then, slice_cmp, Ordering, option_map, flight_text, less, Declared, FlightDate, Expected, Move, Outbound, Built, same_flight_date, taken, found, free, store, departed, delivered, missing, transferred, waybills_of, waybills_on, built, same_place, Cargo, declaration}
+use Rattle.std.specs.Prelude.{ℕ, Bool, ◌&&◌, nat_le, List, length, ◌≡◌, max, ◌+◌, ◌-◌, ◌||◌, ◌==◌, not, nat_lt, if◌then◌else◌, IsTrue, Option, Some, None, [], ◌∷◌, map, drop, filter, true, false}
+use Rattle.station_core.specs.Common.{list_all, find, flat_map, sum_by, is_sorted, nat_cmp, ordering_then, slice_cmp, Ordering, option_map, flight_text, less, Declared, FlightDate, Expected, Move, Outbound, Built, same_flight_date, taken, found, free, store, departed, delivered, missing, transferred, waybills_of, waybills_on, built, same_place, Cargo, declaration, IrregularRow, ShedRow}
 use Rattle.station_core.specs.declared.rows.AnnouncedRow.{AnnouncedRow}
-use Rattle.station_core.specs.declared.rows.IrregularRow.{IrregularRow}
-use Rattle.station_core.specs.declared.rows.ShedRow.{ShedRow}
 use Rattle.station_core.specs.declared.rows.NotedFlight.{NotedFlight}
 use Rattle.station_core.specs.declared.rows.FlightRow.{FlightRow}
 use Rattle.station_core.specs.declared.rows.Expectation.{Expectation}
@@ -20,6 +18,15 @@ use Rattle.station_core.specs.declared.rows.TrailRow.{TrailRow}
 use Rattle.station_core.specs.declared.rows.TrailQuery.{TrailQuery}
 use Rattle.station_core.specs.declared.rows.TrailQuery.TheVariants as trail
 use Rattle.station_core.specs.declared.rows.Waybill.{Waybill}
+
+-- The keys of commands.
+
+abbrev pub is_key_byte : ℕ → Bool
+is_key_byte b = nat_le 33 b && nat_le b 126
+
+-- one to forty printable bytes without spaces
+abbrev pub is_key : List ℕ → Bool
+is_key text = nat_le 1 (length text) && nat_le (length text) 40 && list_all is_key_byte text
 
 -- the record of a declared waybill
 abbrev pub told_of : Cargo → ℕ → Declared → Waybill

@@ -1,12 +1,12 @@
--- A caller that repeats its inputs, and a station whose power may fail at any moment.
-use Rattle.std.specs.Prelude.{◌≡◌, Bool, true, false, ◌&&◌, IsTrue, is_none, if◌then◌else◌, ◌⊎◌, List, [], ◌∷◌, ◌++◌, Some}
-use Rattle.station_core.specs.Common.{AllByRecursion, list_any, bytes_eq, LocalMinute, command_text}
-use Rattle.station_core.specs.declared.answer.Reply.{Reply}
-use Rattle.station_core.specs.declared.input.Input.{Input}
-use Rattle.station_core.specs.declared.input.Input.TheVariants.{Keyed, Wire}
-use Rattle.station_core.specs.declared.answer.Answer.{Answer}
-use Rattle.station_core.specs.declared.answer.Answer.TheVariants.{Done, Refused}
+-- Callers that repeat their inputs, and the ranges of inputs.
+use Rattle.std.specs.Prelude.{◌≡◌, Bool, true, false, ◌&&◌, IsTrue, is_none, if◌then◌else◌, ◌⊎◌, List, [], ◌∷◌, ◌++◌, Some, ◌≤◌, IfSome}
+use Rattle.station_core.specs.Common.{AllByRecursion, list_any, bytes_eq, LocalMinute, command_text, list_all, is_line, IsNumber, IsPieces, IsTenths, most_parts, is_airport, IsDesignator, IsCalendarDay, is_goods, CargoLine, InboundLine, Content, Fwb, Ffm, Fsu, IsCommand, Reply, Answer, Done, Refused}
 use Rattle.station_core.specs.Step.{State, repeated, step, after_all, answers_of}
+use Rattle.station_core.specs.Readers.{is_key}
+use Rattle.station_core.specs.declared.answer.Input.{Input}
+use Rattle.station_core.specs.declared.answer.Input.TheVariants.{Keyed, Wire}
+
+-- A caller that repeats its inputs, and a station whose power may fail at any moment.
 
 -- an input is sent and answered; an input is cut off before its commit, or after it; the station is
 -- opened again
@@ -97,3 +97,27 @@ pub record ActsOnce (start : State) (events : List RetryEvent) : Type 0 where
       ⊎ StandsIn (committed (started start) events)
       (answers_of start (committed (started start) events)) t.0 reply))
       (after_events (started start) events).told
+
+-- The ranges of inputs, guaranteed by their types.
+
+abbrev pub IsCargoLine : CargoLine → Type 0
+IsCargoLine c =
+    IsNumber c.awb × IsTrue (is_airport c.origin) × IsTrue (is_airport c.destination) × IsPieces c.pieces × IsTenths c.tenths
+    × IfSome c.total IsPieces × IsTrue (is_goods c.goods)
+
+abbrev pub IsInboundLine : InboundLine → Type 0
+IsInboundLine l = IsTrue (is_airport l.unload) × IsCargoLine l.cargo
+
+abbrev pub IsContent : Content → Type 0
+IsContent (Fwb c) = IsCargoLine c
+IsContent (Ffm p) =
+    (1 ≤ p.sequence) × (p.sequence ≤ most_parts) × IsDesignator p.flight × IsCalendarDay p.date × IsTrue (is_airport p.loaded)
+    × AllByRecursion IsInboundLine p.lines
+IsContent (Fsu u) = IsNumber u.awb × IsTrue (list_all is_line u.lines)
+
+abbrev pub IsInput : Input → Type 0
+IsInput (Keyed key command) = IsTrue (is_key key) × IsCommand command
+IsInput (Wire telegram) = IsContent telegram.content
+
+abbrev pub AreInputs : List (Input × LocalMinute) → Type 0
+AreInputs inputs = AllByRecursion (λ (one : Input × LocalMinute). IsInput one.0) inputs

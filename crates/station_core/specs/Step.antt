@@ -1,14 +1,16 @@
--- The state of a station, one step, and a run of steps.
-use Rattle.std.specs.Prelude.{ℕ, Bool, ◌&&◌, nat_le, if◌then◌else◌, Option, Some, None, Result, Ok, Err, IsSome, IfSome, List, [], ◌∷◌, ◌++◌, map, length}
-use Rattle.station_core.specs.Common.{bytes_eq, LocalMinute, run_of, order_refusal, after_order, Order, Part, Notice, ShipmentCommand, Refusal, Detail, Cargo, opening_cargo, Outcome, effect, carried_out, IsLawful, Content, notice_text, command_text}
+-- The state of a station, its steps, and texts of its answers.
+use Rattle.std.specs.Prelude.{ℕ, Bool, ◌&&◌, nat_le, if◌then◌else◌, Option, Some, None, Result, Ok, Err, IsSome, IfSome, List, [], ◌∷◌, ◌++◌, map, length, decimal, Vec, codes}
+use Rattle.station_core.specs.Common.{bytes_eq, LocalMinute, run_of, order_refusal, after_order, Order, Part, Notice, ShipmentCommand, Refusal, Detail, Cargo, opening_cargo, Outcome, effect, carried_out, IsLawful, Content, notice_text, command_text, Answer, Done, Refused, Reply}
 use Rattle.shipment_machine.specs.declared.command.ShipmentCommand.TheVariants as shipment
 use Rattle.shipment_machine.specs.declared.plans.Detail.TheVariants as detail
 use Rattle.telegrams.specs.declared.telegram.Content.TheVariants as content
 use Rattle.desk_commands.specs.declared.command.Command.TheVariants as command
-use Rattle.station_core.specs.declared.answer.Answer.{Answer}
-use Rattle.station_core.specs.declared.answer.Answer.TheVariants.{Done, Refused}
-use Rattle.station_core.specs.declared.input.Input.{Input}
-use Rattle.station_core.specs.declared.input.Input.TheVariants.{Keyed, Wire}
+pub use Rattle.imp_fields.specs.Message.{why_word}
+pub use Rattle.shipment_machine.specs.Effect.{flight_date_text, detail_text, refused_with, refusal_text}
+use Rattle.station_core.specs.declared.answer.Input.{Input}
+use Rattle.station_core.specs.declared.answer.Input.TheVariants.{Keyed, Wire}
+
+-- The state of a station, one step, and a run of steps.
 
 -- the entry under a key: the command's text, and the count in its reply
 pub record Kept : Type 0 where
@@ -147,3 +149,13 @@ after_all s (one ∷ more) = after_all (step s one.0 one.1).state more
 abbrev pub answers_of : State → List (Input × LocalMinute) → List Answer
 answers_of s [] = []
 answers_of s (one ∷ more) = (step s one.0 one.1).answer ∷ answers_of (step s one.0 one.1).state more
+
+-- Replies, refusals and notices as texts.
+
+-- ok 10
+abbrev pub reply_text : Reply → List ℕ
+reply_text reply = codes "ok " ++ decimal reply.count
+
+-- the texts in rows of bytes
+abbrev pub texts_in : {Z : Type 0} → List (Vec ℕ Z) → List (List ℕ)
+texts_in rows = map (λ text. text.items) rows

@@ -1,13 +1,15 @@
+//! The answer to a known key.
+
 ghost use Rattle.std.specs.Prelude.{◌≡◌, ◌<◌, true, false, [], take, length, None, Some, Err, Option, IfErr, All};
 ghost use Rattle.station_core.specs.Common.{LocalMinute};
-ghost use Rattle.station_core.specs.declared.input.Input.{Input as AnyInput};
+ghost use Rattle.station_core.specs.declared.answer.Input.{Input as AnyInput};
 ghost use Rattle.station_core.specs.declared.answer.ActFault.{ActFault};
-ghost use Rattle.station_core.specs.Step.{State, after_all, answers_of};
+ghost use Rattle.station_core.specs.Step.{State, after_all, answers_of, repeated_key};
 ghost use Rattle.station_core.specs.Keeping.{Answers, FindsOnly, IfWorks, IsAfterAnswered, IsBrokenAfter, IsBrokenAtEnd, IsMemoryOrReopen, IsMemoryOrStore, KeepsSound, KeepsWorking, MayLeave, Reopens};
 
-use crate::answer::{ActFault, AllAnswers, Answer};
-use crate::input::Input;
+use crate::answer::{ActFault, AllAnswers, Answer, Input, Reply};
 use crate::keeper::Keeper;
+use shipment_machine::{Detail, Refusal};
 use station_days::Moment;
 use std::alloc::Global;
 
@@ -92,5 +94,20 @@ pub fn act_all<K: Keeper>(
     AllAnswers {
         answers,
         fault: None,
+    }
+}
+
+/// Returns the answer to a request under a known key: the stored count if the request is the stored
+/// one, otherwise 501.
+pub fn repeated_key(kept: &str, count: u32, request: &str) -> Answer
+    ensures { result ≡ repeated_key (record { request = kept.now; count = count }) request.now }
+{
+    if kept == request {
+        Answer::Done(Reply { count })
+    } else {
+        Answer::Refused(Refusal {
+            number: 501,
+            detail: Detail::Nothing,
+        })
     }
 }

@@ -1,9 +1,8 @@
 //! Readers and writers with contracts about what they did.
 ghost use Rattle.std.specs.Prelude.{◌≡◌, ℕ, ◌<◌, length, OnOk, IfErr};
 ghost use Rattle.station_core.specs.Common.{ReadConsumes, WriteAppends};
-ghost use Rattle.station_core.specs.Counted.{given_of, inner_of};
+ghost use Rattle.station_core.specs.Ends.{given_of, inner_of, ReadStep, WriteStep, Sent, HasCause, NoneFailed, OneFailed};
 ghost use Rattle.station_core.specs.Given.{Given, nothing_given};
-ghost use Rattle.station_core.specs.Ends.{ReadStep, WriteStep, Sent, HasCause, NoneFailed, OneFailed};
 
 use crate::tally::{Call, Tally};
 use std::io::{ErrorKind, Read, Stdin, Write};

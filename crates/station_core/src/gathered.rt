@@ -22,7 +22,7 @@ pub struct Gathered<W> {
 }
 
 impl<W> Gathered<W> {
-    ghost use Rattle.station_core.specs.Gathered.{waiting};
+    ghost use Rattle.station_core.specs.Ends.{waiting};
 
     /// Returns the writer without flushing.
     fn into_inner(self) -> W
@@ -57,7 +57,7 @@ impl<W> Gathered<W> {
 }
 
 impl<W: ByteOut> Gathered<W> {
-    ghost use Rattle.station_core.specs.Gathered.{taken_of, begun, GoesOut, HasGone, IsCutShort};
+    ghost use Rattle.station_core.specs.Ends.{taken_of, begun, GoesOut, HasGone, IsCutShort};
 
     /// Wraps a writer, with an empty buffer. The buffer is allocated when it is first needed. If
     /// that fails, the bytes are written at once.
@@ -112,7 +112,7 @@ impl<W: ByteOut> Gathered<W> {
 }
 
 impl<W: ByteOut> ByteOut for Gathered<W> {
-    ghost use Rattle.station_core.specs.Gathered.{taken_of};
+    ghost use Rattle.station_core.specs.Ends.{taken_of};
 
     ghost taken = { taken_of W.taken };
 

@@ -1,7 +1,6 @@
 ghost use Rattle.std.specs.Prelude.{◌≡◌, false, Option, Some};
 
-use crate::answer::{ActFault, Reply};
-use crate::input::Input;
+use crate::answer::{ActFault, Input, Reply};
 use crate::key::Key;
 use crate::rows::{
     AnnouncedRow, BookQuery, BookRow, ExpectedQuery, ExpectedRow, FlightRow, IrregularRow, Message,
@@ -19,10 +18,9 @@ use station_days::Moment;
 /// prefix if the sink stops or after a fault.
 pub trait Keeper {
     ghost use Rattle.std.specs.Option.{option_map};
-    ghost use Rattle.agent_stock.specs.Runs.{AreStockRuns};
+    ghost use Rattle.agent_stock.specs.Stock.{AreStockRuns};
     ghost use Rattle.station_core.specs.Step.{State, IsLawfulState};
-    ghost use Rattle.station_core.specs.Keeping.{Acts, Breaks, FindsOnly, HandsOut, IfWorks, Keeping, KeepsSound, Leaves, Reads, Reopens};
-    ghost use Rattle.station_core.specs.Told.{kept_of, summary_of};
+    ghost use Rattle.station_core.specs.Keeping.{Acts, Breaks, FindsOnly, HandsOut, IfWorks, Keeping, KeepsSound, Leaves, Reads, Reopens, kept_of, summary_of};
     ghost use Rattle.station_core.specs.Readers.{waybill_of, AreAnnounced, shed_rows, AreFlightRows, AreExpectedBy, AreExpectedRows, irregular_rows, book_rows, book_by, messages_by, pending_messages, trail_rows, trail_by};
 
     /// The keeper as contracts see it: the state that it keeps, whether its disk and its storage

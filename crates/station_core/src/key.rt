@@ -1,6 +1,6 @@
 ghost use Rattle.std.specs.Prelude.{◌≡◌, ◌↔◌, IsTrue, IsSome, IfSome, Some};
 ghost use Rattle.station_core.specs.Common.{list_all};
-ghost use Rattle.station_core.specs.Key.{is_key, is_key_byte};
+ghost use Rattle.station_core.specs.Readers.{is_key, is_key_byte};
 
 use awb_number::ascii_text;
 use std::fmt;
@@ -21,7 +21,7 @@ impl Model for Key {
     ghost use Rattle.std.specs.Prelude.{ℕ, List, take, length, IsTrue};
     ghost use Rattle.awb_number.specs.FilledUp.{IsFilledUp, filled_up};
     ghost use Rattle.awb_number.proofs.FilledUp.{filled_up-take, length-filled};
-    ghost use Rattle.station_core.specs.Key.{is_key};
+    ghost use Rattle.station_core.specs.Readers.{is_key};
 
     ghost Value = { List ℕ };
 

@@ -1,9 +1,8 @@
 //! Laws about the definitions.
 ghost use Rattle.std.specs.Prelude.{◌≡◌, ℕ, List, None};
 ghost use Rattle.station_core.specs.Common.{LocalMinute, IsConserved, AreBalances};
-ghost use Rattle.station_core.specs.declared.input.Input.{Input};
-ghost use Rattle.station_core.specs.Ranges.{IsInput, AreInputs};
-ghost use Rattle.station_core.specs.Retries.{RetryEvent, ActsOnce};
+ghost use Rattle.station_core.specs.declared.answer.Input.{Input};
+ghost use Rattle.station_core.specs.Retries.{IsInput, AreInputs, RetryEvent, ActsOnce};
 ghost use Rattle.station_core.specs.Step.{State, IsLawfulState, opening, repeated, step, after_all};
 
 /// Whatever is sent, cut off by a crash and repeated, each accepted input acts once, from any

@@ -2,7 +2,7 @@
 
 ghost use Rattle.std.specs.Prelude.{◌≤◌, IsTrue, IfSome};
 ghost use Rattle.station_core.specs.Common.{AllByRecursion, list_all, IsNumber, is_airport, IsPieces, most_parts, is_line, IsCalendarDay, IsDesignator};
-ghost use Rattle.station_core.specs.Ranges.{IsCargoLine, IsInboundLine, IsContent};
+ghost use Rattle.station_core.specs.Retries.{IsCargoLine, IsInboundLine, IsContent};
 
 use awb_number::Awb;
 use imp_fields::{Airport, Pieces};

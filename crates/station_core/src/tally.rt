@@ -27,7 +27,7 @@ pub enum Call<'a> {
 }
 
 impl Tally {
-    ghost use Rattle.station_core.specs.Tally.{noted};
+    ghost use Rattle.station_core.specs.Ends.{noted};
 
     /// Returns the history before the first call.
     pub fn new() -> Tally

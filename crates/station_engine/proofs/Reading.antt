@@ -3,7 +3,7 @@ use Rattle.station_engine.proofs.Common.{Bool, Cargo, Err, IfErr, Input, IsAfter
 use Rattle.row_sinks.specs.Handed.{HandedOut, Hands}
 use Rattle.station_core.specs.declared.answer.ActFault.{ActFault}
 use Rattle.station_core.specs.Keeping.{HandsOut, IsReadersFault, OnlyReads}
-use Rattle.station_engine.specs.Found.{Finds, station_over}
+use Rattle.station_engine.specs.Serving.{Finds, station_over}
 
 abbrev option_value : State → Option State → State
 option_value s None = s

@@ -11,7 +11,7 @@ use Rattle.shipment_machine.specs.Lawful.{IsLawful}
 use Rattle.desk_commands.specs.declared.command.Command.TheVariants as command
 use Rattle.station_core.specs.declared.answer.Answer.{Answer}
 use Rattle.station_core.specs.declared.answer.Answer.TheVariants.{Refused}
-use Rattle.station_core.specs.declared.input.Input.TheVariants.{Keyed, Wire}
+use Rattle.station_core.specs.declared.answer.Input.TheVariants.{Keyed, Wire}
 use Rattle.station_core.proofs.StepLaw.{AreKept, Quiet, all_written_kept, desk_quiet, if_more, kept_now, ordered_lawful, same_parts, sent_lawful, texts_after}
 
 -- A step, by what is known of its input.

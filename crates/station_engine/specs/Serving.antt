@@ -1,6 +1,55 @@
+-- Answers to inputs, and what reopening finds.
+use Rattle.std.specs.Prelude.{◌⊎◌, Option, Some, None, Bool, ◌≡◌, true, false, ℕ, List, [], Result, Ok, Err, IfOk}
+use Rattle.std.proofs.Common.{inl, inr, sym, ap, subst}
+use Rattle.station_engine.specs.Common.{Keeping, State, IsLawfulState, Storing, at_rest, Change, Trail, Plan, outcome_of, written_all, carried_out, sent, on_cargo, LocalMinute, command_text, IsCommand, Refusal, Outcome, IsLawful, Answer, Input, Keyed, Wire, KeepsPremise, acted, cargo_acted, repeated, step}
+
+-- The state of a station, and what reopening it may find.
+
+-- a lawful state that the store may hold; any other isn't a station's and means None
+abbrev pub Finds : (Option State → Type 0) → Option State → Type 0
+Finds may_find (Some s) = may_find (Some s) × IsLawfulState s
+Finds may_find None = may_find None ⊎ ((s : State) × may_find (Some s) × ¬ IsLawfulState s)
+
+-- What a contract sees of a station over a store: it keeps a lawful state that the store shows
+-- between two transactions.
+abbrev pub station_over : {K St : Type 0} → (K → St) → (K → Bool) → Storing St → Keeping K
+station_over store is_broken k = record {
+  keeps = λ x s. IsLawfulState s × k.shows (store x) (at_rest s);
+  is_clean = λ x. k.is_clean (store x);
+  is_sound = λ x. k.is_sound (store x);
+  is_broken = is_broken;
+  may_find = λ x found. Finds (k.may_find (store x)) found;
+  may_fail = Unit {0};
+}
+
+-- Reopening finds what a store shows.
+
+abbrev option_value : State → Option State → State
+option_value s None = s
+option_value s (Some t) = t
+
+pub found_is : (may_find : Option State → Type 0) (s : State) → IsLawfulState s
+    → ((found : Option State) → may_find found → found ≡ Some s) → (found : Option State)
+    → Finds may_find found → found ≡ Some s
+found_is may_find s law settled None (inl finds) = settled None finds
+found_is may_find s law settled None (inr other) = absurd (other.2 (subst IsLawfulState (sym (ap (option_value s) (settled (Some other.0) other.1))) law))
+found_is may_find s law settled (Some t) finds = settled (Some t) finds.0
+
+-- Changes that add a numbered row.
+
+abbrev pub is_line : Change → Bool
+is_line (Trail w line) = true
+is_line _ = false
+
+-- Writing the effect of an accepted input.
+
+abbrev pub with_changes : List ℕ → List Change → State → State
+with_changes text changes = on_cargo (written_all text changes)
+
+abbrev pub with_plan : List ℕ → Plan → List (List ℕ) → State → State
+with_plan text plan messages = on_cargo (λ c. sent messages (carried_out text (outcome_of plan) c))
+
 -- Answers to inputs.
-use Rattle.std.specs.Prelude.{◌≡◌, ◌⊎◌, ℕ, List, [], Option, Some, None, Result, Ok, Err, IfOk}
-use Rattle.station_engine.specs.Common.{LocalMinute, command_text, IsCommand, Plan, Refusal, outcome_of, Outcome, carried_out, IsLawful, Answer, Input, Keyed, Wire, KeepsPremise, State, IsLawfulState, acted, cargo_acted, repeated, step, Storing, at_rest}
 
 -- the text by which a command is compared with the stored one; empty for a telegram
 abbrev pub request_of : Input → List ℕ

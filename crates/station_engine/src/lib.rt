@@ -3,8 +3,6 @@
 
 mod acting;
 mod carrying;
-mod replying;
-mod room;
 mod station;
 
 pub use station::StoredStation;

@@ -1,9 +1,8 @@
 ghost use Rattle.std.specs.Prelude.{◌≡◌, true, false, Err, Option, IfOk, IfErr};
 ghost use Rattle.station_engine.specs.Common.{Acts, Breaks, FindsOnly, IfWorks, KeepsPremise, Leaves, Reopens, State, IsLawfulState, at_rest};
-ghost use Rattle.station_engine.specs.Found.{Finds, station_over};
+ghost use Rattle.station_engine.specs.Serving.{Finds, station_over};
 
-use crate::acting::serve;
-use crate::replying::request_of;
+use crate::acting::{request_of, serve};
 use agent_stock::{Holder, StockRun};
 use awb_number::Awb;
 use state_store::{StateStore, expected_rows, flight_rows, irregular_rows, shed_rows, waybill_in};
@@ -108,7 +107,7 @@ impl<S: StateStore> StoredStation<S> {
 }
 
 impl<S: StateStore> Keeper for StoredStation<S> {
-    ghost use Rattle.station_engine.specs.Laws.{found_is};
+    ghost use Rattle.station_engine.specs.Serving.{found_is};
 
     ghost keeping = { station_over (λ k. k.store) (λ k. k.broken) S.storing };
 

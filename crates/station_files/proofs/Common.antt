@@ -46,15 +46,11 @@ pub use Rattle.sqlite_wal.specs.Files.{outcomes, seen_image}
 pub use Rattle.sqlite_wal.specs.PageSize.{IsPageSize, Names, bytes_of, size_in_file}
 pub use Rattle.sqlite_wal.specs.Reads.{AreClean, OnlyReads, are_clean}
 pub use Rattle.sqlite_wal.specs.Recovery.{AreWhole, Image, IsIgnored}
-pub use Rattle.station_files.specs.Beside.{AreBeside, is_known}
-pub use Rattle.station_files.specs.ByList.{FindsBy, HoldsByList, HoldsOwn, HoldsPages, HoldsShown, IsCopiedAs, IsHeldAlone, IsListedBy, LeavesAs}
-pub use Rattle.station_files.specs.Connected.{recovers_own}
-pub use Rattle.station_files.specs.Listed.{IsReadBy, IsReadByList, IsUnopened}
+pub use Rattle.station_files.specs.Opened.{AreBeside, is_known, recovers_own, FindsOwn, IsReadByTheirs, ListsIndex, ListsStation, ListsTable, name_of}
+pub use Rattle.station_files.specs.Listed.{FindsBy, HoldsByList, HoldsOwn, HoldsPages, HoldsShown, IsCopiedAs, IsHeldAlone, IsListedBy, LeavesAs, IsReadBy, IsReadByList, IsUnopened}
 pub use Rattle.station_files.specs.Others.{AreCalls, MayShow, SameOthers, Shows, SparesOthers}
 pub use Rattle.shown_trees.specs.Shown.{AreApart, AreLaidOut, AreLow, GoBack, IsNumberOf, IsShown, own_reals, own_shapes, own_snapshot, own_trees, own_view, reals_by, renumbered, rows_from, shapes_by, shown_row}
-pub use Rattle.station_files.specs.OwnFiles.{FindsOwn, IsReadByTheirs}
 pub use Rattle.shown_trees.proofs.Laws.{IsPast, all_past, id_below, kind_of, own_at, own_listed, own_ordered, own_past, own_values, value_at, value_past}
-pub use Rattle.station_files.specs.StationTrees.{ListsIndex, ListsStation, ListsTable, name_of}
 pub use Rattle.shown_trees.specs.declared.layout.Layout.{Layout}
 pub use Rattle.station_schema.specs.Schema.{station_schema}
 pub use Rattle.std.proofs.Common.{Bool, Equal, Err, Global, Greater, IfErr, IfSome, IsTrue, Less, List, None, Ok, OnOk, Option, Ordering, Result, Some, Vec, [], add-one, ap, append-nil, append_assoc, ap₂, arith, cond, drop, eq-eqb, eqb, eqb-true, false, find, get_or, if◌then◌else◌, inl, inr, is_eq, le-ltb, length, lt-ltb, ltb, ltb-false, ltb-true, map, nat_cmp, ne_eqb, not, option_map, pos, refl, rules, slice_get, slice_index, slice_index_or, subst, subst₂, suc, sym, take, true, true≢false, unwrap_or, w64, zero, ℕ, ℤ, ◌%◌, ◌&&◌, ◌++◌, ◌+◌, ◌-◌, ◌<◌, ◌||◌, ◌∙◌, ◌∷◌, ◌≡◌, ◌≢◌, ◌≤◌, ◌⊎◌}

@@ -2,7 +2,7 @@
 use Rattle.station_files.proofs.Common.{FileStore, Files, Ghosts, Has, IsReadByTheirs, List, MayShow, Option, SeenMayStay, Snapshot, SparesOthers, Trees, adopts_of, ap, arith, inl, inr, over_files, reading, recovers, refl, schema_in, settled_at, state, subst, sym, view, ℕ, ∥∥₁_elim, ∥∥₁_map, ◌∙◌, ◌≡◌}
 use Rattle.sqlite_trees.specs.declared.store.Store as trees
 use Rattle.station_files.specs.declared.own_trees.OwnTrees.{OwnTrees}
-use Rattle.station_files.specs.OthersStay.{CallsSpareOthers}
+use Rattle.station_files.specs.Opened.{CallsSpareOthers}
 use Rattle.station_files.proofs.ByList.{in_any_order}
 use Rattle.station_files.proofs.Others.{calls_spare}
 

@@ -3,7 +3,7 @@ use Rattle.station_files.proofs.Common.{Adopts, AreBeside, AreClean, AreDatabase
 use base.Stored.{Coded-set}
 use Rattle.sqlite_value.specs.contracts.row.Row as row
 use Rattle.sqlite.specs.State.{State}
-use Rattle.station_schema.specs.Own.{IsOwn}
+use Rattle.station_schema.specs.Connection.{IsOwn}
 use Rattle.station_files.proofs.ByList.{held_shown, leaves_shown}
 use Rattle.station_files.proofs.OwnReading.{own_reading}
 use Rattle.station_files.proofs.SameReading.{same_reading}

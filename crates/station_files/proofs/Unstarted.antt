@@ -7,7 +7,7 @@ use Rattle.sqlite_store.proofs.ListingLemmas.{past_version, named_tree}
 use Rattle.sqlite.proofs.ListingLemmas.{empty_is_sound}
 use Rattle.sqlite.specs.declared.file.Leftover.{Leftover}
 use Rattle.sqlite.specs.declared.file.Leftover.TheVariants as rest
-use Rattle.station_files.specs.Begun.{IsUnstarted, LeavesUnstarted}
+use Rattle.station_files.specs.Opened.{IsUnstarted, LeavesUnstarted}
 
 empty_database : (size : ℕ) (image : Image) (pages : PageMap) → IsPageSize (stored_size size) → Recovers size image pages → IsOurs size true [] pages
     → (db : Trees) × HoldsDatabase image db × IsEmpty db

@@ -4,10 +4,8 @@ use Rattle.station_files.specs.Common.{IsCopied, file_state, image_of, Finds, Is
 use Rattle.sqlite.specs.Held.{state}
 use Rattle.sqlite_store.specs.FileStore as store
 use Rattle.sqlite_trees.specs.declared.store.Store as trees
-use Rattle.station_files.specs.ByList.{HoldsByList, HoldsOwn, IsCopiedAs}
-use Rattle.station_files.specs.Connected.{IsClosedOwn}
-use Rattle.station_files.specs.OwnFiles.{FindsOwn}
-use Rattle.station_files.specs.StationTrees.{ListsStation}
+use Rattle.station_files.specs.Listed.{HoldsByList, HoldsOwn, IsCopiedAs}
+use Rattle.station_files.specs.Opened.{IsClosedOwn, FindsOwn, ListsStation}
 
 -- What a contract sees of the files behind a connection `C`. It ends with the closed files `F`, or
 -- with a store `L` whose log wasn't copied.

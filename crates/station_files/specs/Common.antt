@@ -41,5 +41,5 @@ pub use Rattle.sqlite_wal.specs.Reads.{AreClean, OnlyReads}
 pub use Rattle.sqlite_wal.specs.Recovery.{Image}
 pub use Rattle.sqlite_wal.specs.State.{IsShielded}
 pub use Rattle.sqlite_wal.specs.declared.page_size.PageSize.{PageSize}
-pub use Rattle.station_schema.specs.Own.{IsOwn, LiesInOrder}
+pub use Rattle.station_schema.specs.Connection.{IsOwn, LiesInOrder}
 pub use Rattle.station_schema.specs.Schema.{station_schema}

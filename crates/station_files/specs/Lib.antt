@@ -1,12 +1,5 @@
 pub mod Common
 pub mod Backing
-pub mod Begun
-pub mod Beside
-pub mod ByList
-pub mod Connected
+pub mod Opened
 pub mod Listed
 pub mod Others
-pub mod OthersStay
-pub mod OwnFiles
-pub mod Spared
-pub mod StationTrees

@@ -4,8 +4,7 @@ ghost use Rattle.station_files.specs.Common.{PageMap, Recovers, view, is_shielde
 ghost use Rattle.sqlite_store.specs.FileStore.{state as store_state};
 ghost use Rattle.sqlite.specs.Held.{state};
 ghost use Rattle.sqlite.specs.State.{Opens as IsAtRest};
-ghost use Rattle.station_files.specs.Beside.{AreBeside};
-ghost use Rattle.station_files.specs.OwnFiles.{FindsOwn, IsReadByTheirs, SparesOwn};
+ghost use Rattle.station_files.specs.Opened.{AreBeside, FindsOwn, IsReadByTheirs, SparesOwn};
 
 use crate::opening::unopened;
 use crate::own_listing::are_beside;

@@ -1,9 +1,8 @@
 //! Laws about stores in files whose trees are read by a list, or only partly shown.
 ghost use Rattle.station_files.specs.Common.{LiesInOrder};
 ghost use Rattle.station_files.specs.Backing.{own_files, whole_files, EndsLeadOn};
-ghost use Rattle.station_files.specs.ByList.{LeaveByList};
-ghost use Rattle.station_files.specs.OthersStay.{CallsSpareOthers};
-ghost use Rattle.station_files.specs.OwnFiles.{LeaveOwn};
+ghost use Rattle.station_files.specs.Listed.{LeaveByList};
+ghost use Rattle.station_files.specs.Opened.{CallsSpareOthers, LeaveOwn};
 
 use crate::own_trees::OwnTrees;
 use sqlite::FileStore;

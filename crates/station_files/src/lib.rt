@@ -2,10 +2,7 @@
 #![tactic(auto)]
 
 mod beside;
-mod closing;
-mod first_page;
 mod laws;
-mod making;
 mod opening;
 mod own_listing;
 mod own_trees;
@@ -13,12 +10,10 @@ mod tree_list;
 mod trees;
 
 pub use beside::open_beside;
-pub use closing::FileBacked;
 pub use laws::{
     files_lead_on, files_leave_by_list, files_leave_own, own_files_lead_on, own_files_lie_in_order,
     own_trees_spare_others,
 };
-pub use making::open_new;
-pub use opening::open_listed;
+pub use opening::{FileBacked, open_listed, open_new};
 pub use own_trees::OwnTrees;
 pub use trees::{OLD_TREES, station_trees};

@@ -1,17 +1,23 @@
 //! Opening files by a list of their trees.
-ghost use Rattle.std.specs.Prelude.{◌≡◌, false, IsTrue, IfErr, IfOk};
-ghost use Rattle.station_files.specs.Common.{outcomes, bytes_of, Image, faults, recovers, view, is_shielded, files_of, state_of, wanted_by, Describes, HasCleanDisk, IsClean, IsNew, IsFresh, IsQuiet, file_state, Finds, IsCleanLeft, IsOpened};
-ghost use Rattle.station_files.specs.ByList.{FindsByList};
-ghost use Rattle.station_files.specs.Connected.{IsOver};
-ghost use Rattle.station_files.specs.Listed.{IsReadByList, IsUnopened};
-ghost use Rattle.station_files.specs.Spared.{SparesFiles};
+//! Closing files.
+//! Starting a database in two empty files.
 
-use crate::first_page::{begins_plain, named_size};
-use sqlite::{Connection, Error, FileStore, Leftover, Options};
+ghost use Rattle.std.specs.Prelude.{◌≡◌, false, IsTrue, IfErr, IfOk, ◌↔◌, IfSome};
+ghost use Rattle.station_files.specs.Common.{outcomes, bytes_of, Image, faults, recovers, view, is_shielded, files_of, state_of, wanted_by, Describes, HasCleanDisk, IsClean, IsNew, IsFresh, IsQuiet, file_state, Finds, IsCleanLeft, IsOpened, AreClean, OnlyReads, IsBlankFile, image_of, IsEmpty};
+ghost use Rattle.station_files.specs.Listed.{FindsByList, IsReadByList, IsUnopened};
+ghost use Rattle.station_files.specs.Opened.{IsOver, SparesFiles, IsInside, IsBegun, LeavesUnstarted};
+ghost use Rattle.sqlite.specs.Held.{state};
+ghost use Rattle.station_files.specs.Backing.{own_files, whole_files};
+
+use crate::own_trees::OwnTrees;
+use crate::trees::{begins_plain, named_size};
+use sqlite::{Alter, Connection, Error, ErrorCode, FileStore, Leftover, Options};
 use sqlite_disk::{Disk, Files};
 use sqlite_pager::Pager;
-use sqlite_store::Unopened;
+use sqlite_pool::probe_blank;
+use sqlite_store::{OpenError, Unopened};
 use sqlite_trees::schema::Object;
+use sqlite_trees::store::Store;
 use sqlite_wal::PageSize;
 use std::alloc::{AllocFailed, Global};
 
@@ -134,5 +140,174 @@ pub fn open_listed<D: Disk + Drop>(
     match connect(alloc, store) {
         Ok(conn) => Ok(conn),
         Err((_, store)) => Err(Leftover::Store(store)),
+    }
+}
+
+/// A connection over files. They are closed as `F`, or left behind in a store `L`.
+pub trait FileBacked<F, L> {
+    ghost use Rattle.station_files.specs.Backing.{Backing, HasEnded, IsGivenBack};
+
+    /// The files as contracts see them: whether their disk returned what was written, what they
+    /// hold once closed, and what a store that is left may leave.
+    ghost backing: { Backing Self F L };
+
+    /// Rolls back, copies the log into the database file, and returns the files.
+    ///
+    /// Returns the store if the log can't be copied. There is no new crash state, and each one is a
+    /// database.
+    fn into_files(self) -> Result<F, L>
+        ensures { HasEnded backing self result };
+
+    /// Rolls back and returns the store, without copying the log. Its crash states are among those
+    /// of the connection.
+    fn give_back(self) -> L
+        ensures { IsGivenBack backing self result };
+}
+
+impl<D: Disk + Drop> FileBacked<Files<D>, FileStore<D>> for Connection<FileStore<D>> {
+    ghost backing = { whole_files D.Disk };
+
+    fn into_files(self) -> Result<Files<D>, FileStore<D>> {
+        match self.close_files() {
+            Ok(files) => Ok(files),
+            Err((_, store)) => Err(store),
+        }
+    }
+
+    fn give_back(self) -> FileStore<D> {
+        self.into_store()
+    }
+}
+
+/// Rolls back and returns the store inside.
+fn inside<S: Alter + Drop>(conn: Connection<OwnTrees<S>>) -> S
+    ensures { IsInside S.Store (state ⟦<OwnTrees<S> as Store>⟧ conn) result }
+{
+    conn.into_store().into_inner()
+}
+
+// One call at the concrete store, as each one costs a proof of the whole `impl Store`.
+fn file_inside<D: Disk + Drop>(conn: Connection<OwnTrees<FileStore<D>>>) -> FileStore<D>
+    ensures { IsInside ⟦<FileStore<D> as Store>⟧
+        (state ⟦<OwnTrees<FileStore<D>> as Store>⟧ conn) result }
+{
+    inside(conn)
+}
+
+impl<D: Disk + Drop> FileBacked<Files<D>, FileStore<D>> for Connection<OwnTrees<FileStore<D>>> {
+    ghost backing = { own_files D.Disk ⟦<OwnTrees<FileStore<D>> as Store>⟧ };
+
+    fn into_files(self) -> Result<Files<D>, FileStore<D>> {
+        let mut store = file_inside(self);
+        // Rolls back again, as only this store's rollback has a contract about the log.
+        store.rollback();
+        match store.checkpoint() {
+            Ok(()) => Ok(store.close()),
+            Err(_) => Err(store),
+        }
+    }
+
+    fn give_back(self) -> FileStore<D> {
+        file_inside(self)
+    }
+}
+
+/// Returns the error code if the library started no database.
+fn begin_code(error: OpenError) -> ErrorCode {
+    match error {
+        OpenError::OutOfMemory => ErrorCode::OutOfMemory,
+        OpenError::Full => ErrorCode::DiskFull,
+        _ => ErrorCode::SystemIoFailure,
+    }
+}
+
+/// Returns the error code if a started database can't be opened.
+fn open_code(error: Error) -> ErrorCode {
+    match error {
+        Error::SqliteFailure(code) => code,
+        _ => ErrorCode::NotADatabase,
+    }
+}
+
+/// Returns the store over a database without tables, started in two files.
+fn store_begun<D: Disk>(
+    alloc: Global,
+    files: Files<D>,
+    size: PageSize,
+    options: Options,
+) -> Result<FileStore<D>, (ErrorCode, Leftover<D>)>
+    requires log { IsTrue (D.Disk.is_usable files.log) }
+    requires db { IsTrue (D.Disk.is_usable files.db) }
+    ensures begun { IfOk result (λ it. IsTrue (view it).is_clean → IsBegun files it) }
+    ensures plain { IfOk result (λ it. IsTrue (view it).is_clean → (view it).has_sums ≡ false) }
+    ensures guarded { IfOk result (λ it. IsTrue (view it).is_clean → is_shielded it) }
+    ensures unstarted { IfErr result (λ e. IsCleanLeft e.1
+        → (AreClean D.Disk files.log files.db → IsBlankFile (bytes_of size) (image_of D.Disk files))
+        → LeavesUnstarted (bytes_of size) files e.1) }
+{
+    let unopened = match with_list(alloc, files, size, options, &[]) {
+        Ok(unopened) => unopened,
+        Err(left) => return Err((ErrorCode::OutOfMemory, Leftover::Files(left))),
+    };
+    match unopened.create() {
+        Ok(it) => Ok(it),
+        Err((error, left)) => Err((begin_code(error), Leftover::Unopened(left))),
+    }
+}
+
+/// Returns whether no database has been made in two files yet, with pages of this size.
+fn is_blank<D: Disk>(alloc: Global, files: &mut Files<D>, size: PageSize) -> Result<bool, ErrorCode>
+    requires log { IsTrue (D.Disk.is_usable files.old.log) }
+    requires db { IsTrue (D.Disk.is_usable files.old.db) }
+    ensures blank { IfOk result (λ is. AreClean D.Disk files.new.log files.new.db
+        → IsTrue is ↔ IsBlankFile (bytes_of size) (image_of D.Disk files.old)) }
+    ensures log { OnlyReads D.Disk files.old.log files.new.log }
+    ensures db { OnlyReads D.Disk files.old.db files.new.db }
+{
+    match probe_blank(alloc, files, size, false) {
+        Ok(is) => Ok(is),
+        Err(sqlite_wal::Error::OutOfMemory) => Err(ErrorCode::OutOfMemory),
+        Err(_) => Err(ErrorCode::SystemIoFailure),
+    }
+}
+
+/// Starts a database without tables in two empty files, with pages of this size, and opens it.
+/// Whatever stops it, the files have no database or the whole one, and the next call continues from
+/// there.
+///
+/// Returns `None` for files that aren't empty, and leaves them as they are. The error code says
+/// whether memory ran out, the disk is full, or it failed; the remains of the files are returned
+/// with it.
+pub fn open_new<D: Disk + Drop>(
+    alloc: Global,
+    mut files: Files<D>,
+    size: PageSize,
+    options: Options,
+) -> Result<Option<Connection<FileStore<D>>>, (ErrorCode, Leftover<D>)>
+    requires log { IsTrue (D.Disk.is_usable files.log) }
+    requires db { IsTrue (D.Disk.is_usable files.db) }
+    ensures nothing { IfOk result (λ made. IfSome made (λ c. HasCleanDisk (file_state c)
+        → IsBlankFile (bytes_of size) (image_of D.Disk files))) }
+    ensures empty { IfOk result (λ made. IfSome made (λ c. HasCleanDisk (file_state c)
+        → IsEmpty (file_state c).committed.trees)) }
+    ensures opened { IfOk result (λ made. IfSome made (λ c. HasCleanDisk (file_state c)
+        → IsOpened c)) }
+    ensures plain { IfOk result (λ made. IfSome made (λ c. HasCleanDisk (file_state c)
+        → (view c.store).has_sums ≡ false)) }
+    ensures fresh { IfOk result (λ made. IfSome made IsNew) }
+    ensures guarded { IfOk result (λ made. IfSome made (λ c. HasCleanDisk (file_state c)
+        → (file_state c).IsShielded)) }
+    ensures unstarted { IfErr result (λ e. IsCleanLeft e.1
+        → LeavesUnstarted (bytes_of size) files e.1) }
+{
+    match is_blank(alloc, &mut files, size) {
+        Ok(true) => {}
+        Ok(false) => return Ok(None),
+        Err(code) => return Err((code, Leftover::Files(files))),
+    }
+    let store = store_begun(alloc, files, size, options)?;
+    match connect(alloc, store) {
+        Ok(conn) => Ok(Some(conn)),
+        Err((error, store)) => Err((open_code(error), Leftover::Store(store))),
     }
 }

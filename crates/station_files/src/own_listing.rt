@@ -1,7 +1,7 @@
 //! Comparing the trees of a store with a list.
 ghost use Rattle.std.specs.Prelude.{◌≡◌, ◌<◌, ◌+◌, pos, false, map, take, length, find, if◌then◌else◌, [], IsTrue};
 ghost use Rattle.station_files.specs.Common.{list_all, catalog_tree, has_rowid, IsClean, wanted_of, listed, listed_from, rows_from, shown_row};
-ghost use Rattle.station_files.specs.Beside.{is_about, is_known, is_one_of, AreBeside};
+ghost use Rattle.station_files.specs.Opened.{is_about, is_known, is_one_of, AreBeside};
 
 use crate::tree_list::{has_number, is_object, is_present, row_of};
 use sqlite_trees::schema::Object;

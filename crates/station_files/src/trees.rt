@@ -1,15 +1,21 @@
 //! The trees of a station's file: the tables and the indexes that `init` makes, in order.
+//! The start of two files before recovery. Nothing is written.
 
-ghost use Rattle.std.specs.Prelude.{◌≡◌};
-ghost use Rattle.station_files.specs.StationTrees.{name_of, ListsStation};
+ghost use Rattle.std.specs.Prelude.{◌≡◌, ℕ, IsTrue, IfSome};
+ghost use Rattle.station_files.specs.Opened.{name_of, ListsStation};
+ghost use Rattle.station_files.specs.Common.{bytes_of, AreClean, OnlyReads, stored_size, image_of, BeginsWell};
+ghost use Rattle.station_files.specs.Listed.{HoldsPages};
 
+use sqlite_disk::{Disk, Files};
 use sqlite_trees::schema::Object;
 use sqlite_trees::store::Shape;
 use sqlite_value::keys::Order;
+use sqlite_wal::{PageSize, probe_first_page, probe_page_size};
 use station_schema::declarations::{
     BUILD, COUNTS, EXPECTED, FLIGHT, KEPT_KEY, KEPT_TEXT, MOVES, MOVES_AWB, OUTBOX, PART, STATION,
     STOCK, TRAIL, WAYBILL, WAYBILL2,
 };
+use std::alloc::Global;
 
 /// The number of trees in a file of version 1: the first ones.
 pub const OLD_TREES: usize = 22;
@@ -70,4 +76,41 @@ pub fn station_trees() -> [Object<'static>; 23]
         index("sqlite_autoindex_build_1", "build", None),
         table("waybill2", WAYBILL2),
     ]
+}
+
+/// Bytes 20 to 23 of the header of a database whose pages end with checksums.
+const WITH_SUMS: u32 = 0x0840_2020;
+
+/// Returns the page size that two files name, if SQLite allows it.
+pub(crate) fn named_size<D: Disk>(files: &mut Files<D>) -> Option<PageSize>
+    requires log { IsTrue (D.Disk.is_usable files.old.log) }
+    requires db { IsTrue (D.Disk.is_usable files.old.db) }
+    ensures sized { IfSome result (λ size. AreClean D.Disk files.new.log files.new.db
+        → (n : ℕ) → HoldsPages n (image_of D.Disk files.old) → stored_size n ≡ bytes_of size) }
+    ensures log { OnlyReads D.Disk files.old.log files.new.log }
+    ensures db { OnlyReads D.Disk files.old.db files.new.db }
+{
+    match probe_page_size(files) {
+        Ok(Some(size)) => Some(size),
+        _ => None,
+    }
+}
+
+/// Returns whether two files with pages of a size begin like a database whose pages have no
+/// checksums.
+pub(crate) fn begins_plain<D: Disk>(alloc: Global, files: &mut Files<D>, size: PageSize) -> bool
+    requires log { IsTrue (D.Disk.is_usable files.old.log) }
+    requires db { IsTrue (D.Disk.is_usable files.old.db) }
+    ensures plain { IsTrue result → AreClean D.Disk files.new.log files.new.db
+        → (n : ℕ) → HoldsPages n (image_of D.Disk files.old)
+        → stored_size n ≡ bytes_of size → n ≡ bytes_of size }
+    ensures begins { IsTrue result → AreClean D.Disk files.new.log files.new.db
+        → BeginsWell (bytes_of size) (image_of D.Disk files.old) }
+    ensures log { OnlyReads D.Disk files.old.log files.new.log }
+    ensures db { OnlyReads D.Disk files.old.db files.new.db }
+{
+    match probe_first_page(alloc, files, size) {
+        Ok((first, reserved)) => first == b'S' && reserved != WITH_SUMS,
+        Err(_) => false,
+    }
 }

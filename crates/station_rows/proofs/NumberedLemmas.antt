@@ -1,7 +1,7 @@
 -- What a query shows of a table whose key is the rowid, whatever the table.
 use Rattle.station_rows.proofs.Common.{Bool, Database, Int, IsStation, List, Query, Row, Select, Tables, Term, Trees, [], ap, asks, by_column, eval_all, filter, get_by, holds, int_eq, list_all, map, one_table, option_to_list, reads_as, refl, row_at, rows_by_key, station_schema, tables_of, true, unfiltered, ℕ, ℤ, ◌∙◌, ◌∷◌, ◌≡◌}
 use Rattle.sqlite.specs.Tree.{rowid}
-use Rattle.station_schema.specs.ColumnKeys.{AreListed}
+use Rattle.station_schema.specs.Tables.{AreListed}
 use Rattle.station_rows.proofs.Terms.{IsQuery, Lists}
 
 module _ {X : Type 0} {key : X → ℤ} {to_row : X → Row} {from_row : Row → X} {t : ℕ} (typed : (db : Database) → IsStation db → AreListed key to_row from_row (db.trees t)) (keyed : (x : X) → rowid (to_row x) ≡ Int (key x))

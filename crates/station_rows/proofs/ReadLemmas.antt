@@ -5,7 +5,7 @@ use Rattle.std.proofs.Math.Seq.{take-suc}
 use Rattle.sqlite.specs.State.{CommitsShowing}
 use Rattle.station_schema.proofs.Handing.{hands}
 use Rattle.station_schema.proofs.Statements.{query_survives as plain_survives}
-use Rattle.station_schema.specs.Streams.{Streams, StreamsRows}
+use Rattle.station_schema.specs.Connection.{Streams, StreamsRows}
 use Rattle.station_rows.proofs.Terms.{IsQuery, Lists}
 
 and_one : {X : Type 0} (reads : Row → X → Type 0) (rows : List Row) (xs : List X) (row : Row) (x : X) → AreRead reads rows xs → reads row x → AreRead reads (rows ++ row ∷ []) (xs ++ x ∷ [])

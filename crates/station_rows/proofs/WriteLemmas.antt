@@ -1,7 +1,7 @@
 -- What a statement that writes does, whatever the statement.
 use Rattle.station_rows.proofs.Common.{Alters, Bool, CommitsBy, Delete, Edits, Error, Executes, Ghosts, HasCleanDisk, Held, Insert, IsInside, List, Means, Ok, Result, Row, Survives, Tables, Update, changes, execute_survives, false, state, station_schema, subst, true, ℕ, ◌≡◌}
 use Rattle.sqlite.specs.Command.{Command}
-use Rattle.station_schema.specs.Calls.{CommitsNothing}
+use Rattle.station_schema.specs.Connection.{CommitsNothing}
 
 -- it makes this change, and commits nothing
 pub record Wrote {S : Type 0} (g : Ghosts S) (old new : Held S) (sql : List ℕ) (params : Row) (change : Tables → Tables) (r : Result ℕ Error) : Type 0 where

@@ -19,14 +19,7 @@ pub use Rattle.sqlite_keyed.specs.Lists.{update_where}
 pub use Rattle.sqlite_trees.specs.declared.store.Store.{Ghosts}
 pub use Rattle.sqlite_typed.specs.Columns.{bytes_of, int_of}
 pub use Rattle.sqlite_typed.specs.Tests.{bytes_cmp}
-pub use Rattle.station_schema.specs.Beside.{IsOneStep}
-pub use Rattle.station_schema.specs.Calls.{Alters, CommitsNothing, HandsRows, IsFounded, IsInside, IsWorking, LeavesAll, Tells}
-pub use Rattle.station_schema.specs.ColumnKeys.{adjust}
-pub use Rattle.station_schema.specs.Connection.{IsOpening, IsVacant, MayOpen, connection_view}
-pub use Rattle.station_schema.specs.Effects.{IsSettled, IsUndone, Reads, Stops}
-pub use Rattle.station_schema.specs.Names.{takes_name}
-pub use Rattle.station_schema.specs.Own.{IsNewStation, IsOwn, LiesInOrder}
-pub use Rattle.station_schema.specs.Schema.{station_schema}
+pub use Rattle.station_schema.specs.Schema.{IsOneStep, IsSettled, IsUndone, Reads, Stops, takes_name, station_schema}
+pub use Rattle.station_schema.specs.Connection.{Alters, CommitsNothing, HandsRows, IsFounded, IsInside, IsWorking, LeavesAll, Tells, IsOpening, IsVacant, MayOpen, connection_view, IsNewStation, IsOwn, LiesInOrder, taking}
+pub use Rattle.station_schema.specs.Tables.{adjust, Build, BuildKey, Count, CountKey, Expected, ExpectedKey, Flight, FlightKey, Kept, Message, Move, PartKey, Station, Stock, StockKey, Tables, TrailLine, Waybill, build_row, count_row, expected_row, flight_row, kept_row, kept_text_row, message_id, move_id, part_row, station_id, stock_row, tables_of, trail_id, waybill_id}
 pub use Rattle.station_schema.specs.Store.{IsShowing, IsUnchanged, MayCommit, Rests, Seen, Shows, Survives, View, Writes, at_rest, inside}
-pub use Rattle.station_schema.specs.Streams.{taking}
-pub use Rattle.station_schema.specs.Tables.{Build, BuildKey, Count, CountKey, Expected, ExpectedKey, Flight, FlightKey, Kept, Message, Move, PartKey, Station, Stock, StockKey, Tables, TrailLine, Waybill, build_row, count_row, expected_row, flight_row, kept_row, kept_text_row, message_id, move_id, part_row, station_id, stock_row, tables_of, trail_id, waybill_id}

@@ -1,11 +1,9 @@
 ghost use Rattle.std.specs.Prelude.{◌≡◌, map, filter, option_map, IfOk};
 ghost use Rattle.station_rows.specs.Common.{entries, get, LeavesAll, Tells, build_row};
-ghost use Rattle.station_rows.specs.Meant.{build_meant, with_build, changing_build, without_build, is_on, pieces_in};
+ghost use Rattle.station_rows.specs.Meant.{build_meant, with_build, changing_build, without_build, is_on, pieces_in, insert_build_text, update_build_text, delete_build_text, build_key_params};
 ghost use Rattle.station_rows.specs.Shown.{build_read, pieces_shown, pieces_read};
-ghost use Rattle.station_rows.specs.Ran.{insert_build_text, update_build_text, delete_build_text, build_key_params};
 
-use crate::queries::{all_rows, first_row};
-use crate::statements::{Read, Write};
+use crate::statements::{Read, Write, all_rows, first_row};
 use sqlite::{Alter, Connection, Error, Row, params};
 use station_schema::ReadRow;
 use std::alloc::Global;

@@ -1,11 +1,9 @@
-ghost use Rattle.std.specs.Prelude.{◌≡◌, map, filter};
-ghost use Rattle.station_rows.specs.Common.{entries, count_row};
-ghost use Rattle.station_rows.specs.Meant.{count_meant, with_count, changing_count, without_count, counts_for};
+ghost use Rattle.std.specs.Prelude.{◌≡◌, map, filter, option_map};
+ghost use Rattle.station_rows.specs.Common.{entries, count_row, get};
+ghost use Rattle.station_rows.specs.Meant.{count_meant, with_count, changing_count, without_count, counts_for, insert_count_text, update_count_text, delete_count_text, count_key_params};
 ghost use Rattle.station_rows.specs.Shown.{count_read};
-ghost use Rattle.station_rows.specs.Ran.{insert_count_text, update_count_text, delete_count_text, count_key_params};
 
-use crate::queries::all_rows;
-use crate::statements::{Read, Write};
+use crate::statements::{Read, Write, all_rows, first_row};
 use sqlite::{Alter, Connection, Error, Row, params};
 use station_schema::ReadRow;
 
@@ -143,6 +141,30 @@ impl Read for AllCounts {
             conn,
             "SELECT awb, place, pieces, tenths FROM counts ORDER BY awb, place",
             &[],
+        )
+    }
+}
+
+/// Reads the balance of a waybill at a place.
+#[derive(Drop)]
+pub struct CountAt {
+    /// The waybill's number.
+    pub awb: i64,
+    /// The place, by its number.
+    pub place: i64,
+}
+
+impl Read for CountAt {
+    type Found = Option<CountRow>;
+
+    ghost tells = { λ it tables found. option_map count_meant found
+        ≡ option_map (λ v. ((it.awb, it.place), v)) (get tables.counts (it.awb, it.place)) };
+
+    fn run<S: Alter>(self, conn: &mut Connection<S>) -> Result<Option<CountRow>, Error> {
+        first_row(
+            conn,
+            "SELECT awb, place, pieces, tenths FROM counts WHERE awb = ?1 AND place = ?2",
+            params![&self.awb, &self.place],
         )
     }
 }

@@ -1,11 +1,9 @@
 ghost use Rattle.std.specs.Prelude.{◌≡◌, map, option_map};
 ghost use Rattle.station_rows.specs.Common.{entries, get, expected_row};
-ghost use Rattle.station_rows.specs.Meant.{expected_meant, listed_waybill_meant, with_expected, changing_expected};
+ghost use Rattle.station_rows.specs.Meant.{expected_meant, listed_waybill_meant, with_expected, changing_expected, insert_expected_text, update_expected_text};
 ghost use Rattle.station_rows.specs.Shown.{expected_read, listed_waybill_read};
-ghost use Rattle.station_rows.specs.Ran.{insert_expected_text, update_expected_text};
 
-use crate::queries::{all_rows, first_row};
-use crate::statements::{Read, Write};
+use crate::statements::{Read, Write, all_rows, first_row};
 use sqlite::{Alter, Connection, Error, Row, params};
 use station_schema::ReadRow;
 

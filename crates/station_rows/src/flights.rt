@@ -1,11 +1,9 @@
 ghost use Rattle.std.specs.Prelude.{◌≡◌, map, option_map};
 ghost use Rattle.station_rows.specs.Common.{entries, get, flight_row};
-ghost use Rattle.station_rows.specs.Meant.{flight_meant, noted_flight_meant, with_flight, changing_flight};
+ghost use Rattle.station_rows.specs.Meant.{flight_meant, noted_flight_meant, with_flight, changing_flight, insert_flight_text, update_flight_text};
 ghost use Rattle.station_rows.specs.Shown.{flight_read, noted_flight_read};
-ghost use Rattle.station_rows.specs.Ran.{insert_flight_text, update_flight_text};
 
-use crate::queries::{all_rows, first_row};
-use crate::statements::{Read, Write};
+use crate::statements::{Read, Write, all_rows, first_row};
 use sqlite::{Alter, Connection, Error, Row, params};
 use station_schema::ReadRow;
 

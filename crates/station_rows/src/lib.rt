@@ -6,18 +6,13 @@
 #![tactic(auto)]
 
 mod builds;
-mod count_at;
 mod counts;
 mod expected;
 mod flights;
 mod kept;
-mod kept_texts;
-mod memory;
 mod moves;
-mod moves_within;
 mod outbox;
 mod parts;
-mod queries;
 mod rows;
 mod statements;
 mod station;
@@ -27,22 +22,18 @@ mod trail;
 mod waybills;
 
 pub use builds::{BuildOn, BuildRow, BuildsOn, DeleteBuild, InsertBuild, PiecesOn, UpdateBuild};
-pub use count_at::CountAt;
-pub use counts::{AllCounts, CountRow, CountsOf, DeleteCount, InsertCount, UpdateCount};
+pub use counts::{AllCounts, CountAt, CountRow, CountsOf, DeleteCount, InsertCount, UpdateCount};
 pub use expected::{
     AllExpected, ExpectedOn, ExpectedRow, InsertExpected, ListedWaybillRow, UpdateExpected,
 };
 pub use flights::{AllFlights, FlightOn, FlightRow, InsertFlight, NotedFlightRow, UpdateFlight};
-pub use kept::{InsertKept, KeptRow, KeptUnder};
-pub use kept_texts::{InsertKeptText, KeptTextCount};
-pub use memory::{files_are_sound, memory_is_sound};
-pub use moves::{InsertMove, MoveQuery, MoveRow, MovesFor, MovesOf};
-pub use moves_within::MovesWithin;
+pub use kept::{InsertKept, InsertKeptText, KeptRow, KeptTextCount, KeptUnder};
+pub use moves::{InsertMove, MoveQuery, MoveRow, MovesFor, MovesOf, MovesWithin};
 pub use outbox::{InsertMessage, MessageRow, MessagesAfter};
 pub use parts::{InsertPart, PartBody};
 pub use row_sinks::StoreFault;
 pub use rows::{CreateFault, Rows, crash_leaves_station};
-pub use statements::{Listing, Read, Write};
+pub use statements::{Listing, Read, Write, files_are_sound, memory_is_sound};
 pub use station::{StationRow, TheStation, UpdateConfirmed};
 pub use station_schema::open_memory;
 pub use stock::{

@@ -1,11 +1,9 @@
 ghost use Rattle.std.specs.Prelude.{◌≡◌, map, filter};
 ghost use Rattle.station_rows.specs.Common.{Move};
-ghost use Rattle.station_rows.specs.Meant.{move_meant, with_move, is_of, moves_for};
+ghost use Rattle.station_rows.specs.Meant.{move_meant, with_move, is_of, moves_for, insert_move_text, is_flown_within};
 ghost use Rattle.station_rows.specs.Shown.{move_shown, move_read};
-ghost use Rattle.station_rows.specs.Ran.{insert_move_text};
 
-use crate::queries::all_rows;
-use crate::statements::{Listing, Read, Write};
+use crate::statements::{Listing, Read, Write, all_rows};
 use row_sinks::Sink;
 use sqlite::{Alter, Connection, Error, Row, params};
 use station_schema::{ReadRow, stream};
@@ -167,5 +165,42 @@ impl Listing for MovesFor<'_> {
                 sink,
             ),
         }
+    }
+}
+
+/// Lists the moves of a flight whose numbers lie in a range, in order.
+#[derive(Drop)]
+pub struct MovesWithin<'a> {
+    /// The flight, as it is written.
+    pub flight: &'a str,
+    /// Its day.
+    pub day: i64,
+    /// The number before the range.
+    pub after: i64,
+    /// The last number of the range.
+    pub last: i64,
+}
+
+impl Listing for MovesWithin<'_> {
+    type Row = MoveRow;
+
+    ghost Item = { Move };
+
+    ghost means = { λ movement row. move_meant row ≡ movement };
+
+    ghost lists = { λ it tables.
+        filter (is_flown_within it.flight.now it.day it.after it.last) tables.moves };
+
+    fn run<S: Alter, K: Sink<MoveRow>>(
+        self,
+        conn: &mut Connection<S>,
+        sink: &mut K,
+    ) -> Result<(), Error> {
+        stream::<S, MoveRow, K>(
+            conn,
+            "SELECT number, awb, src, dst, pieces, tenths, flight, fday, day, minute FROM moves WHERE number > ?3 AND number <= ?4 AND flight = ?1 AND fday = ?2 ORDER BY number",
+            params![self.flight, &self.day, &self.after, &self.last],
+            sink,
+        )
     }
 }

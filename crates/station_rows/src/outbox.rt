@@ -1,8 +1,7 @@
 ghost use Rattle.std.specs.Prelude.{◌≡◌, filter};
 ghost use Rattle.station_rows.specs.Common.{Message};
-ghost use Rattle.station_rows.specs.Meant.{message_meant, with_message, is_message_after};
+ghost use Rattle.station_rows.specs.Meant.{message_meant, with_message, is_message_after, insert_message_text};
 ghost use Rattle.station_rows.specs.Shown.{message_shown, message_read};
-ghost use Rattle.station_rows.specs.Ran.{insert_message_text};
 
 use crate::statements::{Listing, Write};
 use row_sinks::Sink;

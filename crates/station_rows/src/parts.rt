@@ -1,8 +1,7 @@
 ghost use Rattle.std.specs.Prelude.{◌≡◌, map, option_map, option_to_list, string_bytes, IfOk};
 ghost use Rattle.station_rows.specs.Common.{get, LeavesAll, Tells, part_row};
-ghost use Rattle.station_rows.specs.Meant.{with_part};
+ghost use Rattle.station_rows.specs.Meant.{with_part, insert_part_text};
 ghost use Rattle.station_rows.specs.Shown.{part_shown, part_read};
-ghost use Rattle.station_rows.specs.Ran.{insert_part_text};
 
 use crate::statements::{Read, Write};
 use sqlite::{Alter, Connection, Error, Row, params};

@@ -1,11 +1,9 @@
 ghost use Rattle.std.specs.Prelude.{◌≡◌, pos, option_map};
 ghost use Rattle.station_rows.specs.Common.{get_by, station_id};
-ghost use Rattle.station_rows.specs.Meant.{station_meant, confirming};
+ghost use Rattle.station_rows.specs.Meant.{station_meant, confirming, confirm_text, confirm_params};
 ghost use Rattle.station_rows.specs.Shown.{station_read};
-ghost use Rattle.station_rows.specs.Ran.{confirm_text, confirm_params};
 
-use crate::queries::first_row;
-use crate::statements::{Read, Write};
+use crate::statements::{Read, Write, first_row};
 use sqlite::{Alter, Connection, Error, Row, params};
 use station_schema::ReadRow;
 

@@ -1,8 +1,7 @@
 ghost use Rattle.std.specs.Prelude.{◌≡◌};
 ghost use Rattle.station_rows.specs.Common.{TrailLine};
-ghost use Rattle.station_rows.specs.Meant.{trail_meant, with_trail_line, lines_for};
+ghost use Rattle.station_rows.specs.Meant.{trail_meant, with_trail_line, lines_for, insert_trail_text};
 ghost use Rattle.station_rows.specs.Shown.{trail_shown, trail_read};
-ghost use Rattle.station_rows.specs.Ran.{insert_trail_text};
 
 use crate::statements::{Listing, Write};
 use row_sinks::Sink;

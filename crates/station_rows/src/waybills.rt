@@ -1,11 +1,9 @@
 ghost use Rattle.std.specs.Prelude.{◌≡◌, map, option_map};
 ghost use Rattle.station_rows.specs.Common.{IsKeyedBy, get_by, waybill_id};
-ghost use Rattle.station_rows.specs.Meant.{waybill_meant, with_waybill, changing_waybill};
+ghost use Rattle.station_rows.specs.Meant.{waybill_meant, with_waybill, changing_waybill, insert_waybill_text, update_waybill_text};
 ghost use Rattle.station_rows.specs.Shown.{waybill_shown, waybill_read};
-ghost use Rattle.station_rows.specs.Ran.{insert_waybill_text, update_waybill_text};
 
-use crate::queries::{all_rows, first_row};
-use crate::statements::{Read, Write};
+use crate::statements::{Read, Write, all_rows, first_row};
 use sqlite::{Alter, Connection, Error, Row, params};
 use station_schema::ReadRow;
 

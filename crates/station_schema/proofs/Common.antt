@@ -51,13 +51,9 @@ pub use Rattle.sqlite_typed.specs.Tests.{bytes_cmp}
 pub use Rattle.sqlite_value.proofs.OrderLemmas.{value_cmp-Int}
 pub use Rattle.sqlite_value.specs.Keys.{plain}
 pub use Rattle.sqlite_value.specs.declared.keys.Key.{Key}
-pub use Rattle.station_schema.specs.Calls.{Changes, Edits, IsInside, new_station, with_station}
-pub use Rattle.station_schema.specs.ColumnKeys.{AreEntries, AreListed, adjust, numbered, numbered_in}
-pub use Rattle.station_schema.specs.Effects.{Commits, IsMade, IsUndone, Makes, Reads, Stops}
-pub use Rattle.station_schema.specs.Own.{IsNewStation, IsOldOwn, IsOwn, LiesInOrder}
-pub use Rattle.station_schema.specs.Schema.{build, column_of, counts, expected, flight, kept_key, kept_text, key_column, moves, moves_index, no_schema, old_schema, outbox, part, schema_with, station, station_schema, stock, trail, waybill, waybill2}
-pub use Rattle.station_schema.specs.Shapes.{index_of, table_of}
-pub use Rattle.station_schema.specs.Tables.{ExpectedKey, FlightKey, IsOldStation, IsStation, IsTyped, PartKey, StockKey, Tables, build_cmp, count_cmp, expected_cmp, flight_cmp, kept_cmp, kept_text_cmp, part_cmp, station_id, station_row, stock_cmp, tables_of}
+pub use Rattle.station_schema.specs.Connection.{Changes, Edits, IsInside, new_station, with_station, IsNewStation, IsOldOwn, IsOwn, LiesInOrder}
+pub use Rattle.station_schema.specs.Tables.{AreEntries, AreListed, adjust, numbered, numbered_in, ExpectedKey, FlightKey, IsOldStation, IsStation, IsTyped, PartKey, StockKey, Tables, build_cmp, count_cmp, expected_cmp, flight_cmp, kept_cmp, kept_text_cmp, part_cmp, station_id, station_row, stock_cmp, tables_of}
+pub use Rattle.station_schema.specs.Schema.{Commits, IsMade, IsUndone, Makes, Reads, Stops, build, column_of, counts, expected, flight, kept_key, kept_text, key_column, moves, moves_index, no_schema, old_schema, outbox, part, schema_with, station, station_schema, stock, trail, waybill, waybill2, index_of, table_of}
 pub use Rattle.station_schema.specs.declared.declarations.TheConstants.{DECLARATIONS, MOVES_AWB, WAYBILL2}
 pub use Rattle.std.proofs.Common.{Equal, Greater, Less, None, Ordering, Some, T, ap, append-nil, append_assoc, ap₂, arith, codes, cond, drop-drop, filter, get_or, inl, inr, int_eq, is_eq, is_some, length, map-id, nat_le, negsuc, not, option_map, pos, rules, slice_get, slice_index_or, subst, subst₂, sym, take, ℤ, ◌++◌, ◌+ℤ◌, ◌+◌, ◌/◌, ◌<ℤ◌, ◌<◌, ◌^◌, ◌∙◌, ◌≢◌, ◌≤◌, ◌⊎◌}
 pub use Rattle.std.proofs.Math.Logic.{∥∥₁_elim}

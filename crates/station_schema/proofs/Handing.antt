@@ -6,7 +6,7 @@ use Rattle.sqlite.specs.State.{FailsToQuery, Shown, Begins}
 use Rattle.sqlite.proofs.StreamLemmas.{given_plain, rolled_back_since}
 use Rattle.station_schema.proofs.Inside.{query_stops}
 use Rattle.station_schema.proofs.AnyTexts.{asks}
-use Rattle.station_schema.specs.Streams.{IsBeginning, Moves, Streams, StreamsRows, taking}
+use Rattle.station_schema.specs.Connection.{IsBeginning, Moves, Streams, StreamsRows, taking}
 use Rattle.row_sinks.specs.Handed.{HandedOut}
 
 module _ {K X : Type 0} (takes : K → X → Bool → K → Type 0) where

@@ -1,11 +1,10 @@
 -- That tables, or trees, are a station's has at most one proof.
 use Rattle.std.specs.Prelude.{◌<ℤ◌, ◌==◌, ℤ, ℕ, List, [], ◌∷◌, refl, Bool, true, false, MatchBool}
 use Rattle.station_schema.specs.Common.{AllByRecursion, Table, Ordering, Row, Database, Trees, IsAscending-prop, rows_set, IsKeyedBy}
-use Rattle.station_schema.specs.Own.{IsOwn}
+use Rattle.station_schema.specs.Connection.{IsOwn}
 use Rattle.station_schema.specs.Schema.{station_schema}
 use Rattle.sqlite_schema.specs.contracts.schema.Schema.{the_row as schema_row}
-use Rattle.station_schema.specs.ColumnKeys.{AreEntries, AreListed}
-use Rattle.station_schema.specs.Tables.{IsTyped, IsStation}
+use Rattle.station_schema.specs.Tables.{AreEntries, AreListed, IsTyped, IsStation}
 use base.Stored.{Coded-set}
 use lib.Dec.{T_prop}
 use mathlib.Core.Bool.{Bool-set}

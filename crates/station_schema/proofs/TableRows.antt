@@ -1,8 +1,7 @@
 -- The rows of all tables by tree, and that the rows of each table of a station are typed.
 use Rattle.std.specs.Prelude.{List, map}
 use Rattle.station_schema.specs.Common.{Row, Trees, Database, from_entries}
-use Rattle.station_schema.specs.ColumnKeys.{AreEntries, AreListed}
-use Rattle.station_schema.specs.Tables.{IsStation, Tables, build_cmp, build_in, build_row, count_cmp, count_in, count_row, expected_cmp, expected_in, expected_row, flight_cmp, flight_in, flight_row, kept_cmp, kept_in, kept_row, kept_text_cmp, kept_text_in, kept_text_row, message_id, message_in, message_row, move_id, move_in, move_row, old_waybill_id, old_waybill_in, old_waybill_row, part_cmp, part_in, part_row, station_id, station_in, station_row, stock_cmp, stock_in, stock_row, trail_id, trail_in, trail_row, waybill_id, waybill_in, waybill_row}
+use Rattle.station_schema.specs.Tables.{AreEntries, AreListed, IsStation, Tables, build_cmp, build_in, build_row, count_cmp, count_in, count_row, expected_cmp, expected_in, expected_row, flight_cmp, flight_in, flight_row, kept_cmp, kept_in, kept_row, kept_text_cmp, kept_text_in, kept_text_row, message_id, message_in, message_row, move_id, move_in, move_row, old_waybill_id, old_waybill_in, old_waybill_row, part_cmp, part_in, part_row, station_id, station_in, station_row, stock_cmp, stock_in, stock_row, trail_id, trail_in, trail_row, waybill_id, waybill_in, waybill_row}
 
 -- the rows of each table, as stored in its tree
 pub record TreeRows : Type 0 where

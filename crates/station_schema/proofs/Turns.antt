@@ -9,7 +9,7 @@ use Rattle.sqlite.specs.State.{ExecutesIn, IsNotRun, CommitsBy}
 use Rattle.sqlite.specs.Calls.{IsWrite}
 use Rattle.sqlite.specs.declared.error.Error.TheVariants.{ExecuteReturnedResults, SqliteFailure}
 use Rattle.sqlite.specs.declared.error.ErrorCode.TheVariants as code
-use Rattle.station_schema.specs.Effects.{Begins}
+use Rattle.station_schema.specs.Schema.{Begins}
 use Rattle.station_schema.proofs.Inside.{execute_stops}
 use Rattle.station_schema.proofs.AnyTexts.{begin_text, begin_is, commit_text, commit_is, rollback_text, rollback_is}
 

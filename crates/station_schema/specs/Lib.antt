@@ -1,14 +1,5 @@
 pub mod Common
-pub mod Beside
-pub mod Calls
-pub mod Connection
-pub mod Names
-pub mod Own
 pub mod Schema
-pub mod Shapes
+pub mod Connection
 pub mod Store
 pub mod Tables
-pub mod Wanted
-pub mod ColumnKeys
-pub mod Effects
-pub mod Streams

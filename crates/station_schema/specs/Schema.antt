@@ -1,7 +1,76 @@
--- The tables of a station, as SQLite lists them.
-use Rattle.station_schema.specs.Common.{Binary, Null, Column, Index, plain, Table, Schema, Kind, Integer}
-use Rattle.std.specs.Prelude.{true, false, [], ◌∷◌, Some, None, codes, List, ℕ}
+-- The schema of a station, and statements on a connection.
+use Rattle.std.specs.Prelude.{◌≡◌, ℕ, Bool, ◌||◌, List, [], ◌∷◌, codes, is_some, ◌⊎◌, true, false, IsTrue, Result, Ok, Err, Some, None, map}
+use Rattle.station_schema.specs.Common.{Trees, State, Survives, list_any, Schema, table_named, index_named, view_named, AllByRecursion, Error, Table, Shows, IsUnchanged, IsRolledBack, KeepsCommit, Binary, Null, Column, Index, plain, Kind, Integer, Bor}
 use Rattle.sqlite.specs.Kind.TheVariants.{Text}
+use Rattle.station_schema.specs.declared.shapes.IndexShape.{IndexShape}
+use Rattle.station_schema.specs.declared.shapes.Key.{Key}
+use Rattle.station_schema.specs.declared.shapes.Key.TheVariants.{Number, Columns}
+use Rattle.station_schema.specs.declared.shapes.TableShape.{TableShape}
+
+-- A change of a store in one step, whatever its tables.
+
+-- the crash states are those from before, or one more database: the transaction's
+abbrev pub IsOneStep : State → State → Type 0
+IsOneStep old new = (made : Trees) × Survives old new (λ db. db ≡ made)
+
+-- The names of a new station's tables and of its own index.
+
+-- fourteen tables, and the index of the moves by waybill
+abbrev pub station_names : List (List ℕ)
+station_names =
+    codes "station" ∷ codes "waybill" ∷ codes "stock" ∷ codes "flight" ∷ codes "moves" ∷ codes "moves_awb" ∷ codes "expected"
+    ∷ codes "part" ∷ codes "trail" ∷ codes "outbox" ∷ codes "kept_key" ∷ codes "kept_text" ∷ codes "counts" ∷ codes "build" ∷ codes "waybill2" ∷ []
+
+-- a table, an index or a view has this name, in any case of ASCII letters
+abbrev pub is_taken : Schema → List ℕ → Bool
+is_taken schema name = is_some (table_named schema name) || is_some (index_named schema name) || is_some (view_named schema name)
+
+-- one of a new station's names is taken
+abbrev pub takes_name : Schema → Bool
+takes_name schema = list_any (λ name. is_taken schema name) station_names
+
+-- The effect of a statement on a connection, whatever its tables.
+
+-- nothing was done, or the transaction was rolled back
+abbrev pub Stops : State → State → Type 0
+Stops old new = IsUnchanged old new ⊎ IsRolledBack old new
+
+-- a read: at Ok `Is` holds of what was read
+abbrev pub Reads : {X : Type 0} → State → State → Result X Error → (X → Type 0) → Type 0
+Reads old new (Ok x) Is = Is x × IsUnchanged old new
+Reads old new (Err e) Is = Stops old new
+
+abbrev pub Begins : {X : Type 0} → State → State → Result X Error → Type 0
+Begins old new (Ok x) = Shows old new old.now old.committed true
+Begins old new (Err e) = Stops old new
+
+abbrev pub Commits : {X : Type 0} → State → State → Result X Error → Type 0
+Commits old new (Ok x) = Shows old new old.now old.now false
+Commits old new (Err e) = Stops old new
+
+-- no transaction is open, and if the connection is open it is back at the last commit
+pub record IsUndone (old new : State) : Type 0 where
+  pub outside : new.in_transaction ≡ false
+  pub was_open : IsTrue new.is_open → IsTrue old.is_open
+  pub committed : IsTrue new.is_open → new.committed ≡ old.committed
+  pub now : IsTrue new.is_open → new.now ≡ old.committed
+
+-- no transaction is open, and if the connection is open it shows the last commit
+pub record IsSettled (s : State) : Type 0 where
+  pub outside : s.in_transaction ≡ false
+  pub settled : IsTrue s.is_open → s.now ≡ s.committed
+
+-- a transaction is open, with this schema, and its tables are empty
+pub record IsMade (schema : Schema) (s : State) : Type 0 where
+  pub begun : IsTrue s.in_transaction
+  pub made : s.now.schema ≡ schema
+  pub empty : AllByRecursion (λ (t : Table). s.now.trees t.tree ≡ []) schema.tables
+
+abbrev pub Makes : {X : Type 0} → State → State → Result X Error → Schema → Type 0
+Makes old new (Ok x) schema = IsMade schema new × Shows old new new.now old.committed true
+Makes old new (Err e) schema = KeepsCommit old new
+
+-- The tables of a station, as SQLite lists them.
 
 -- a column of a STRICT table
 abbrev pub key_column : List ℕ → Kind → Column
@@ -178,3 +247,25 @@ old_schema = schema_with []
 -- the schema of a file of version 2
 abbrev pub station_schema : Schema
 station_schema = schema_with (waybill2 ∷ [])
+
+-- Columns that a table must have, by name and type.
+
+-- such a column of a STRICT table, NOT NULL
+abbrev pub column_as : Bor (List ℕ) × Kind → Column
+column_as wanted = column_of wanted.0.now wanted.1
+
+-- A table and an index by their shapes.
+
+abbrev pub table_with : TableShape → Key → Table
+table_with shape (Number key) =
+    keyed_table shape.tree shape.name.now (key_column key.now Integer ∷ map column_as shape.columns.now)
+table_with shape (Columns places) =
+    table_by shape.tree places.now shape.name.now (map column_as shape.columns.now)
+
+abbrev pub table_of : TableShape → Table
+table_of shape = table_with shape shape.key
+
+abbrev pub index_of : IndexShape → Index
+index_of shape = record (key_index shape.tree shape.table shape.places.now shape.name.now) {
+  is_unique = shape.is_unique;
+}

@@ -1,10 +1,36 @@
+-- The tables of a station as typed rows.
+use Rattle.std.specs.Prelude.{◌≡◌, false, ℤ, List, ◌∷◌, map, option_map, unwrap_or, ◌==◌, pos, ℕ, [], MatchBool}
+use Rattle.station_schema.specs.Common.{Ordering, eq_by_cmp, FinMap, get, insert, Int, Row, column, IsAscending, IsKeyedBy, int_of, Null, Text, AllByRecursion, Trees, Table, Database, bytes_of, bytes_cmp, int_cmp, int_eq, from_entries, update_where}
+use Rattle.sqlite_keyed.proofs.SortLemmas.{pair_cmp}
+use Rattle.station_schema.specs.Schema.{old_schema, station_schema}
+
+-- A table whose key is made of columns. Its map has neither the rowids, which SQLite chose, nor the
+-- order of insertion.
+
+-- a row with its rowid, and the conversion back
+abbrev pub numbered : {E : Type 0} → (E → Row) → ℤ × E → Row
+numbered to_row n = Int n.0 ∷ to_row n.1
+
+abbrev pub numbered_in : {E : Type 0} → (Row → E) → Row → ℤ × E
+numbered_in from_row r = (int_of (column r 0), from_row r)
+
+-- the rows of a tree are the entries of a map, in some order, each key once
+pub record AreEntries {K V : Type 0} (R : K → K → Ordering) (to_row : K × V → Row) (from_row : Row → K × V) (stored : List Row) : Type 0 where
+  pub rows : stored ≡ map (numbered to_row) (map (numbered_in from_row) stored)
+  pub keyed : IsKeyedBy (λ n. n.0) (map (numbered_in from_row) stored)
+  pub apart : IsAscending (λ a b. eq_by_cmp R a.1.0 b.1.0 ≡ false) (map (numbered_in from_row) stored)
+
+-- the rows of a tree are typed, and their keys ascend: SQLite gets the key as the rowid
+pub record AreListed {X : Type 0} (key : X → ℤ) (to_row : X → Row) (from_row : Row → X) (stored : List Row) : Type 0 where
+  pub rows : stored ≡ map to_row (map from_row stored)
+  pub keyed : IsKeyedBy key (map from_row stored)
+
+-- the map, with the value at a key changed, if it has one
+abbrev pub adjust : {K V : Type 0} {R : K → K → Ordering} → FinMap R V → K → (V → V) → FinMap R V
+adjust m k g = unwrap_or (option_map (λ v. insert m k (g v)) (get m k)) m
+
 -- The tables of a station as typed rows: a list if SQLite gets the key as a rowid, and a map if the
 -- key has columns.
-use Rattle.std.specs.Prelude.{◌≡◌, ◌==◌, ℤ, pos, ℕ, List, [], ◌∷◌, map, MatchBool}
-use Rattle.station_schema.specs.Common.{Null, Int, Text, Row, column, AllByRecursion, Trees, Table, Database, int_of, bytes_of, bytes_cmp, Ordering, int_cmp, int_eq, FinMap, from_entries, update_where}
-use Rattle.sqlite_keyed.proofs.SortLemmas.{pair_cmp}
-use Rattle.station_schema.specs.ColumnKeys.{AreEntries, AreListed}
-use Rattle.station_schema.specs.Schema.{old_schema, station_schema}
 
 -- For each table: a row (without a key of columns), the stored row, and the conversion back. A
 -- stored row begins with its rowid; SQLite stores NULL instead of an INTEGER PRIMARY KEY.

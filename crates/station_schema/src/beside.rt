@@ -1,7 +1,6 @@
 ghost use Rattle.std.specs.Prelude.{◌≡◌, false, IsTrue, OnOk, OnErr};
 ghost use Rattle.station_schema.specs.Common.{HasCleanDisk, KeepsCommit, Survives, state};
-ghost use Rattle.station_schema.specs.Effects.{IsSettled, IsUndone};
-ghost use Rattle.station_schema.specs.Beside.{IsOneStep};
+ghost use Rattle.station_schema.specs.Schema.{IsSettled, IsUndone, IsOneStep};
 
 use crate::declarations::DECLARATIONS;
 use sqlite::{Alter, Connection, Error, Transaction, params};

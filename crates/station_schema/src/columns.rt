@@ -1,10 +1,10 @@
 ghost use Rattle.std.specs.Prelude.{◌≡◌, true, IsTrue, map};
 ghost use Rattle.station_schema.specs.Common.{Integer};
-ghost use Rattle.station_schema.specs.Schema.{column_of, key_column};
-ghost use Rattle.station_schema.specs.Wanted.{column_as};
+ghost use Rattle.station_schema.specs.Schema.{column_of, key_column, column_as, index_of};
 
-use sqlite_schema::schema::{Column, Kind};
-use sqlite_value::keys::Collation;
+use crate::shapes::IndexShape;
+use sqlite_schema::schema::{Column, Index, Kind};
+use sqlite_value::keys::{Collation, Order};
 use sqlite_value::value::Value;
 
 /// Returns whether the column has this name and type, in a STRICT table, and is NOT NULL.
@@ -52,6 +52,35 @@ pub(crate) fn are_columns(columns: &[Column], wanted: &[(&str, Kind)]) -> bool
     for i in 0..columns.len() {
         let (name, kind) = wanted[i];
         if !is_typed(&columns[i], name, kind) {
+            return false;
+        }
+    }
+    true
+}
+
+/// Returns whether the index has this shape.
+fn is_index(index: &Index, shape: &IndexShape) -> bool
+    ensures on { IsTrue result → index.now ≡ index_of shape.now }
+    ensures back { index.now ≡ index_of shape.now → result ≡ true }
+{
+    index.name.as_slice() == shape.name.as_bytes()
+        && index.tree == shape.tree
+        && index.table == shape.table
+        && index.columns.as_slice() == shape.places
+        && index.order == Order::PLAIN
+        && index.is_unique == shape.is_unique
+}
+
+/// Returns whether these are the indexes of these shapes, in this order.
+pub(crate) fn are_indexes(indexes: &[Index], shapes: &[IndexShape]) -> bool
+    ensures on { IsTrue result → indexes.now ≡ map index_of shapes.now }
+    ensures back { indexes.now ≡ map index_of shapes.now → result ≡ true }
+{
+    if indexes.len() != shapes.len() {
+        return false;
+    }
+    for i in 0..indexes.len() {
+        if !is_index(&indexes[i], &shapes[i]) {
             return false;
         }
     }

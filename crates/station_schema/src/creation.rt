@@ -1,14 +1,11 @@
 ghost use Rattle.std.specs.Prelude.{◌≡◌, map, OnOk, OnErr};
 ghost use Rattle.station_schema.specs.Common.{HasCleanDisk, Survives, state};
-ghost use Rattle.station_schema.specs.Effects.{IsMade, IsSettled, IsUndone, Makes};
-ghost use Rattle.station_schema.specs.Schema.{no_schema, station_schema};
-ghost use Rattle.station_schema.specs.Connection.{IsVacant};
-ghost use Rattle.station_schema.specs.Own.{IsNewStation};
-ghost use Rattle.station_schema.specs.Calls.{IsInside, Changes, Fills, Founds, IsFounded, with_station};
+ghost use Rattle.station_schema.specs.Schema.{IsMade, IsSettled, IsUndone, Makes, no_schema, station_schema};
+ghost use Rattle.station_schema.specs.Connection.{IsVacant, IsNewStation, IsInside, Changes, Fills, Founds, IsFounded, with_station};
 
+use crate::connection::{begin, commit, roll_back};
 use crate::declarations::DECLARATIONS;
-use crate::own::shows_own;
-use crate::transaction::{begin, commit, roll_back};
+use crate::names::shows_own;
 use sqlite::{Alter, Connection, Error, params};
 
 /// Runs the declarations, up to the first that fails, inside a transaction.

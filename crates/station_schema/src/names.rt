@@ -1,6 +1,12 @@
-ghost use Rattle.std.specs.Prelude.{◌≡◌};
-ghost use Rattle.station_schema.specs.Names.{is_taken, takes_name};
+ghost use Rattle.std.specs.Prelude.{◌≡◌, IsTrue, true};
+ghost use Rattle.station_schema.specs.Schema.{is_taken, takes_name, station_schema};
+ghost use Rattle.station_schema.specs.Common.{state};
+ghost use Rattle.station_schema.specs.Connection.{IsOwn};
 
+use crate::columns::are_indexes;
+use crate::shapes::{INDEXES, TABLES};
+use crate::tables::are_tables;
+use sqlite::{Alter, Connection};
 use sqlite_schema::schema::Schema;
 
 fn is_taken(schema: &Schema, name: &str) -> bool
@@ -32,4 +38,28 @@ pub fn takes_name(schema: &Schema) -> bool
         || is_taken(schema, "counts")
         || is_taken(schema, "build")
         || is_taken(schema, "waybill2")
+}
+
+/// An open connection with the schema of a station shows trees that allow no other schema.
+pub fn shows_own<S: Alter>(conn: &Connection<S>)
+    ensures { IsTrue (state S.Store conn.now).is_open
+        → (state S.Store conn.now).now.schema ≡ station_schema
+        → IsOwn (state S.Store conn.now).now.trees }
+{
+    let _ = conn.schema();
+}
+
+/// Returns whether the schema is that of a new station: its fourteen tables and their indexes, with
+/// the same columns, keys and numbers, and nothing else.
+pub fn is_declared(schema: &Schema) -> bool
+    ensures on { IsTrue result → schema.now ≡ station_schema }
+    ensures back { schema.now ≡ station_schema → result ≡ true }
+{
+    if !are_tables(schema.tables.as_slice(), &TABLES) {
+        return false;
+    }
+    if !are_indexes(schema.indexes.as_slice(), &INDEXES) {
+        return false;
+    }
+    schema.views.len() == 0
 }

@@ -1,7 +1,7 @@
 ghost use Rattle.std.specs.Prelude.{◌≡◌, ℕ, [], List, IsTrue};
 ghost use Rattle.station_schema.specs.Common.{IsPlain, HasGiven, state, understood, HasCleanDisk, Survives, CommitsShowing, bound, HandedOut};
 ghost use Rattle.sqlite.specs.Order.{Row as AnyRow};
-ghost use Rattle.station_schema.specs.Streams.{Moves, Streams, taking};
+ghost use Rattle.station_schema.specs.Connection.{Moves, Streams, taking};
 
 use row_sinks::Sink;
 use sqlite::types::ValueRef;

@@ -1,8 +1,6 @@
 ghost use Rattle.std.specs.Prelude.{◌≡◌, [], ◌∷◌, Some, None, true, false, map, IsTrue};
 ghost use Rattle.station_schema.specs.Common.{plain, Integer};
-ghost use Rattle.station_schema.specs.Schema.{key_column, keyed_table, table_by};
-ghost use Rattle.station_schema.specs.Shapes.{table_of};
-ghost use Rattle.station_schema.specs.Wanted.{column_as};
+ghost use Rattle.station_schema.specs.Schema.{key_column, keyed_table, table_by, table_of, column_as};
 
 use crate::columns::{are_columns, is_key};
 use crate::shapes::{Key, TableShape};

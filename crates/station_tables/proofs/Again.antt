@@ -5,8 +5,8 @@ use Rattle.station_core.specs.declared.answer.ActFault.TheVariants as cause
 use Rattle.station_core.specs.declared.answer.Answer.{Answer}
 use Rattle.station_core.specs.declared.answer.Answer.TheVariants.{Done}
 use Rattle.station_core.specs.declared.answer.Reply.{Reply}
-use Rattle.station_tables.specs.Repeated.{HasAnswered, HasRepeated, IsBeforeOrAfter}
-use Rattle.station_tables.specs.declared.fault.AttachFault.TheVariants as fault
+use Rattle.station_tables.specs.Called.{HasAnswered, HasRepeated, IsBeforeOrAfter}
+use Rattle.station_tables.specs.declared.attaching.AttachFault.TheVariants as fault
 
 -- a known input is answered by what was kept
 known_step : (s : State) (i : Input) (at : LocalMinute) (reply : Reply) → repeated s i ≡ Some (Done reply) → step s i at ≡ stepped (Done reply) s

@@ -2,17 +2,16 @@
 use Rattle.station_tables.proofs.Common.{AttachFault, Database, Err, First, FoundState, IfErr, IfOk, IsBreakdown, IsFoundIn, IsJudged, IsLawfulState, IsOldStateIn, IsReadable, IsStateIn, IsStateOf, IsStation, IsTypedState, IsUnchanged, Judges, Means, Message, Ok, Reading, Reads, Refuses, RefusesAs, Result, Second, Some, State, Tables, Tells, Unfit, View, ap, each_lawful, false, meaning_of, read_as, refl, same_tables, subst, sym, tables_of, view_of, ◌∙◌, ◌≡◌}
 use Rattle.std.proofs.lemmas.List.{length-map}
 use Rattle.sqlite.specs.State as sqlite
-use Rattle.row_codec.specs.Logs.{line_by}
-use Rattle.row_codec.specs.Moves.{move_by}
+use Rattle.row_codec.specs.Stored.{line_by, move_by}
 use Rattle.state_store.specs.Store.{at_rest}
 use Rattle.table_state.specs.Shown.{Knows, HasThese}
 use Rattle.table_audits.proofs.LawfulTables.{lawful_each}
 use Rattle.table_audits.proofs.Judged.{fit}
 use Rattle.table_audits.proofs.Typed.{station_held_whole}
-use Rattle.table_audits.specs.Good.{IsStationOf}
-use Rattle.table_audits.specs.declared.unfit.Unfit.TheVariants as unfit
+use Rattle.table_audits.specs.Verdict.{IsStationOf}
+use Rattle.table_audits.specs.declared.rows.Unfit.TheVariants as unfit
 use Rattle.sqlite.specs.declared.error.Error.{Error}
-use Rattle.station_tables.specs.declared.fault.AttachFault.TheVariants as fault
+use Rattle.station_tables.specs.declared.attaching.AttachFault.TheVariants as fault
 
 both : (db : Reading) (t : Tables) → IsStationOf db t → IsReadable t × IsLawfulState (meaning_of t)
 both db t all = (lawful_each t).0 (each_lawful db t all)

@@ -2,7 +2,7 @@
 use Rattle.station_tables.proofs.Common.{Err, Input, List, LocalMinute, None, Ok, Some, State, [], ap, false, if◌then◌else◌, inl, inr, refl, step, subst, sym, true, ◌++◌, ◌∙◌, ◌∷◌, ◌≡◌}
 use Rattle.station_core.specs.declared.answer.ActFault.TheVariants as fault
 use Rattle.station_core.specs.Retries.{RetryEvent, sent, cut_before, cut_after, reopened, World, world_after, after_events, started, ActsOnce}
-use Rattle.station_tables.specs.Calls.{Call, acted, attached, repeated, Desk, at, Does, DoAll, StandsFor, StandForAll, CallsActOnce}
+use Rattle.station_tables.specs.Lives.{Call, acted, attached, repeated, Desk, at, Does, DoAll, StandsFor, StandForAll, CallsActOnce}
 
 -- a world and a desk that agree, but for a station that is to be opened again, of which a world may know only later
 abbrev Agrees : World → Desk → Type 0

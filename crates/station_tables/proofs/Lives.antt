@@ -1,7 +1,7 @@
 -- The state after the lives of a file.
 use Rattle.station_tables.proofs.Common.{Input, IsLawfulState, List, LocalMinute, None, Option, Some, State, [], after_all, ap, are_balances, arith, inl, inr, is_conserved, refl, step, subst, suc, sym, take, zero, ℕ, ◌++◌, ◌+◌, ◌↔◌, ◌∙◌, ◌∷◌, ◌≡◌}
 use Rattle.std.specs.List.{AllByRecursion}
-use Rattle.station_core.specs.Ranges.{IsInput, AreInputs}
+use Rattle.station_core.specs.Retries.{IsInput, AreInputs}
 use Rattle.station_tables.specs.Lives.{Life, IsAfterLife, AreLives, Counts, AreCounted, in_order, IsAfterLives, migration}
 
 after_append : (s : State) (xs ys : List (Input × LocalMinute)) → after_all s (xs ++ ys) ≡ after_all (after_all s xs) ys

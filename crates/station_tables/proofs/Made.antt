@@ -1,7 +1,7 @@
 -- What a reopening may find where no station was made.
 use Rattle.station_tables.proofs.Common.{Finds, IsLawfulState, List, None, Option, Some, State, View, ap, inl, inr, opening, subst, sym, ℕ, ⊎_elim, ◌≡◌, ◌⊎◌}
 use Rattle.shipment_machine.proofs.Opening.{opening_lawful}
-use Rattle.station_engine.specs.Found as stored
+use Rattle.station_engine.specs.Serving as stored
 use Rattle.table_state.specs.Shown as tables
 
 -- the opening state is lawful

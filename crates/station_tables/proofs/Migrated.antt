@@ -3,8 +3,8 @@ use Rattle.station_tables.proofs.Common.{AttachFault, Bool, Database, Err, First
 use Rattle.sqlite.specs.State as sqlite
 use Rattle.station_schema.specs.Schema.{station_schema}
 use Rattle.table_load.specs.Upgrade.{IsUpgraded, MeansUpgraded}
-use Rattle.station_tables.specs.Migrated.{IsMigrated, HasMigrated}
-use Rattle.station_tables.specs.declared.fault.AttachFault.TheVariants as fault
+use Rattle.station_tables.specs.Attached.{IsMigrated, HasMigrated}
+use Rattle.station_tables.specs.declared.attaching.AttachFault.TheVariants as fault
 use Rattle.station_tables.proofs.Attached.{means, is_lawful, in_state, old_breaks_down}
 use Rattle.station_tables.proofs.Looked.{IsSeen, clean_before, either, survives_both, was_clean}
 

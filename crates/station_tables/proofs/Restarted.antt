@@ -3,8 +3,8 @@ use Rattle.station_tables.proofs.Common.{AttachFault, Bool, Database, Err, Finds
 use Rattle.sqlite_trees.specs.declared.store.Store.{Ghosts}
 use Rattle.station_core.specs.declared.answer.ActFault.{ActFault}
 use Rattle.station_tables.proofs.Attached.{is_lawful}
-use Rattle.station_tables.specs.Restarted.{IsRestored}
-use Rattle.station_tables.specs.declared.fault.AttachFault.TheVariants as fault
+use Rattle.station_tables.specs.Called.{IsRestored}
+use Rattle.station_tables.specs.declared.attaching.AttachFault.TheVariants as fault
 use Rattle.station_tables.specs.declared.station.Station.{Station}
 
 -- trees that a station leaves have the schema of one

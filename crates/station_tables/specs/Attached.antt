@@ -1,10 +1,14 @@
+-- Stores whose tables were found to be a station's, and what upgrading and reopening them may
+-- find.
+use Rattle.std.specs.Prelude.{◌≡◌, ⊤, Some, Result, Ok, Err, IsTrue, Option}
+use Rattle.station_tables.specs.Common.{Database, Held, Ghosts, State, Tables, tables_of, meaning_of, Means, FoundState, Unfit, IsStationOf, Reading, read_as, FileVersion, First, Second, TableName, Waybill, Waybill2, IsUnfit, Tells, Trees, IsSettled, IsOwn, View, AttachFault, Station}
+use Rattle.table_audits.specs.declared.rows.Unfit.TheVariants as unfit
+use Rattle.sqlite.specs.State as sqlite
+use Rattle.station_engine.specs.Serving as stored
+use Rattle.table_state.specs.Shown as state_tables
+use Rattle.station_tables.specs.declared.attaching.AttachFault.TheVariants as fault
+
 -- Stores whose tables were found to be a station's.
-use Rattle.std.specs.Prelude.{◌≡◌, ⊤, Some, Result, Ok, Err}
-use Rattle.station_tables.specs.Common.{Database, Held, Ghosts, State, Tables, tables_of, meaning_of, Means, FoundState, Unfit, IsStationOf, Reading, read_as, FileVersion, First, Second, TableName, Waybill, Waybill2, IsUnfit, Tells}
-use Rattle.table_audits.specs.declared.unfit.Unfit.TheVariants as unfit
-use Rattle.station_tables.specs.declared.fault.AttachFault.{AttachFault}
-use Rattle.station_tables.specs.declared.fault.AttachFault.TheVariants as fault
-use Rattle.station_tables.specs.declared.station.Station.{Station}
 
 -- the database, read as a version, is a station's, and its tables mean this state
 pub record IsStateOf (r : Reading) (s : State) : Type 0 where
@@ -65,3 +69,26 @@ IsBreakdown _ = ⊥
 
 abbrev pub connection_in : {S : Type 0} {g : Ghosts S} → Station S g → Held S
 connection_in station = station.stored.store.store.conn
+
+-- The effect of an upgrade on a file of version 1.
+
+-- the trees are of version 2, as a station declares it, with the state that the database had as
+-- version 1
+pub record IsMigrated (old : Database) (db : Trees) : Type 0 where
+  pub own : IsOwn db
+  pub means : (s : State) → IsOldStateIn old s → Means (tables_of db) (Some s)
+
+-- the file is of version 2 with that state, the connection is open and at rest, and there is no
+-- other crash state
+pub record HasMigrated (old : Database) (new : sqlite.State) : Type 0 where
+  pub is_open : IsTrue new.is_open
+  pub settled : IsSettled new
+  pub migrated : IsMigrated old new.now.trees
+  pub kept : (s : State) → IsOldStateIn old s → IsStateIn new.now s
+  pub alone : (db : Trees) → new.may_leave db → db ≡ new.now.trees
+
+-- States that reopening a store of tables may find.
+
+-- a lawful state of some tables that a crash may leave, or none
+abbrev pub Finds : View → Option State → Type 0
+Finds v found = stored.Finds (state_tables.Finds v) found

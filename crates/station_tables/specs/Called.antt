@@ -1,13 +1,11 @@
--- The effect of each call over a file, as records that a caller's contract can cite.
-use Rattle.std.specs.Prelude.{◌≡◌, ◌≢◌, ◌⊎◌, ◌↔◌, ℕ, true, false, IsTrue, Option, Some, None, Result, Err, IfOk, IfErr, OnOk, List}
-use Rattle.station_tables.specs.Common.{Held, state, HasCleanDisk, Survives, Trees, Ghosts, IsUndone, IsOneStep, connection_view, IsVacant, takes_name, IsOldOwn, IsOwn, LiesInOrder, IsUnchanged, First, Keeping, State, IsLawfulState, opening, are_declared, rows_view, IsFileOf, IfGivenBack}
+-- The effect of each call over a file.
+use Rattle.std.specs.Prelude.{◌≡◌, ◌≢◌, ◌⊎◌, ◌↔◌, ℕ, true, false, IsTrue, Option, Some, None, Result, Err, IfOk, IfErr, OnOk, List, Bool}
+use Rattle.station_tables.specs.Common.{Held, state, HasCleanDisk, Survives, Trees, Ghosts, IsUndone, IsOneStep, connection_view, IsVacant, takes_name, IsOldOwn, IsOwn, LiesInOrder, IsUnchanged, First, Keeping, State, IsLawfulState, opening, are_declared, rows_view, IsFileOf, IfGivenBack, LocalMinute, Database, View, Answer, Done, Reply, Input, repeated, step, IsConserved, AreBalances, ActFault, IsAfterAnswered, AttachFault, Station}
 use Rattle.sqlite.specs.State as connection
-use Rattle.station_tables.specs.declared.fault.AttachFault.{AttachFault}
-use Rattle.station_tables.specs.declared.fault.AttachFault.TheVariants as fault
-use Rattle.station_tables.specs.declared.station.Station.{Station}
-use Rattle.station_tables.specs.Attached.{connection_in, IsBreakdown, IsOldStateIn, IsStateIn, IsTypedState, Refuses, RefusesAs}
-use Rattle.station_tables.specs.Found.{Finds}
-use Rattle.station_tables.specs.Migrated.{HasMigrated, IsMigrated}
+use Rattle.station_tables.specs.Attached.{connection_in, IsBreakdown, IsOldStateIn, IsStateIn, IsTypedState, Refuses, RefusesAs, Finds, HasMigrated, IsMigrated}
+use Rattle.station_tables.specs.declared.attaching.AttachFault.TheVariants as fault
+
+-- The effect of each call over a file, as records that a caller's contract can cite.
 
 -- The effect of `create`: a new station over a connection, or a fault.
 pub record HasMade {S : Type 0} (g : Ghosts S) (k : Keeping (Station S g)) (conn : Held S) (here : List ℕ)
@@ -142,3 +140,48 @@ pub record GoesOn {S : Type 0} (g : Ghosts S) (k : Keeping (Station S g)) (last 
   pub sound : IfOk opened (λ again. HasCleanDisk (state g (connection_in again)) → k.is_sound again)
   pub opens : ¬ (k.may_find last None)
       → IfErr opened (λ e. HasCleanDisk (state g e.0) → IsBreakdown e.1)
+
+-- The effect of an input given to a station as it is opened again.
+
+-- The answer is the step's, the state after it is kept, and reopening finds exactly that state. An
+-- input that was accepted before gets the same reply, and the state stays.
+pub record HasAnswered (s : State) (i : Input) (at : LocalMinute) (answer : Answer) (keeps : State → Type 0) (may_find : Option State → Type 0) : Type 0 where
+  pub answered : (step s i at).answer ≡ answer
+  pub kept : keeps (step s i at).state
+  pub left : (found : Option State) → may_find found → found ≡ Some (step s i at).state
+  pub again : (reply : Reply) → repeated s i ≡ Some (Done reply) → (answer ≡ Done reply) × keeps s
+
+-- the same for the state of a database's tables
+pub record HasRepeated (db : Database) (i : Input) (at : LocalMinute) (answer : Answer) (keeps : State → Type 0) (may_find : Option State → Type 0) : Type 0 where
+  pub state : State
+  pub is_in : IsStateIn db state
+  pub has : HasAnswered state i at answer keeps may_find
+
+-- the state before the input, or the one after it
+abbrev pub IsBeforeOrAfter : State → Input → LocalMinute → Option State → Type 0
+IsBeforeOrAfter s i at found = (found ≡ Some s) ⊎ (found ≡ Some (step s i at).state)
+
+-- the crash states from before, or the state of a database's tables
+abbrev pub IsBeforeIn : View → Database → Option State → Type 0
+IsBeforeIn before db found = Finds before found ⊎ ((s : State) × IsStateIn db s × (found ≡ Some s))
+
+-- the crash states from before, the state of a database's tables, or the one after the input
+abbrev pub IsBeforeOrAfterIn : View → Database → Input → LocalMinute → Option State → Type 0
+IsBeforeOrAfterIn before db i at found = Finds before found ⊎ ((s : State) × IsStateIn db s × IsBeforeOrAfter s i at found)
+
+-- The state found by opening a station again after a stop.
+
+-- The state after the inputs that were answered or, if they ended with `Store`, perhaps after one
+-- more. The tables mean it, so the running counts are the book's sums. The opened station works and
+-- keeps it. It is lawful. For each waybill what was received or found is in store, departed,
+-- delivered, transferred or missing, in pieces and in tenths, and the amounts shown are the
+-- balances of its moves.
+pub record IsRestored (s : State) (inputs : List (Input × LocalMinute)) (answered : ℕ) (ended : Option ActFault) (db : Database) (broken : Bool) (keeps : State → Type 0) : Type 0 where
+  pub state : State
+  pub is_after : IsAfterAnswered s inputs answered ended (Some state)
+  pub is_meant : IsTypedState db state
+  pub works : broken ≡ false
+  pub is_kept : keeps state
+  pub is_lawful : IsLawfulState state
+  pub conserved : (w : ℕ) → IsConserved state.cargo.book w
+  pub shown : (w : ℕ) → AreBalances state.cargo.book w

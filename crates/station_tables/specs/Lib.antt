@@ -1,9 +1,4 @@
 pub mod Common
-pub mod Found
 pub mod Attached
-pub mod Migrated
-pub mod Repeated
-pub mod Restarted
-pub mod Lives
-pub mod Calls
 pub mod Called
+pub mod Lives

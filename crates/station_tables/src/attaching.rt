@@ -3,19 +3,39 @@ ghost use Rattle.station_tables.specs.Common.{HasCleanDisk, Survives, IsSettled,
 ghost use Rattle.sqlite.specs.State.{IsUnchanged};
 ghost use Rattle.station_schema.specs.Store as store;
 ghost use Rattle.station_tables.specs.Attached.{connection_in, IsBreakdown, IsJudged, IsStateIn, IsTypedState, Refuses};
-ghost use Rattle.station_tables.specs.Called.{HasFound};
+ghost use Rattle.station_tables.specs.Called.{HasFound, HasMade};
 
-use crate::fault::AttachFault;
 use crate::station::Station;
+use imp_fields::Airport;
 use sqlite::{Alter, Connection, Error, ErrorCode};
 use station_core::Keeper;
 use station_engine::StoredStation;
-use station_rows::{Rows, TableStore};
+use station_rows::{CreateFault, Rows, TableStore};
 use station_schema::has_station;
 use std::alloc::Global;
-use table_audits::{FoundState, Unfit, found_state};
+use table_audits::{FoundState, TableName, Unfit, found_state};
 use table_load::FileVersion;
 use table_state::TableState;
+
+/// The reason why there is no station. The connection is returned with it.
+#[derive(Clone, Copy, Debug)]
+pub enum AttachFault {
+    /// The first table, in the order of `TableName`, that is missing or unlawful.
+    Unlawful(TableName),
+    /// The table `station` is missing or has no row.
+    NoStation,
+    /// The version of the file, which isn't the expected one: 2, or 1 for an upgrade.
+    Version(i64),
+    /// A table, an index or a view has the name of one of a station's. The store is unchanged. Only
+    /// `create` returns it.
+    Occupied,
+    /// The store failed, or the connection was closed or inside a transaction. The store is
+    /// unchanged, or the call was done: `create` made a station, `migrate` raised the version,
+    /// `attach_and_repeat` took the input.
+    Store,
+    /// Memory ran out. The store is unchanged. `create` never returns it.
+    Memory,
+}
 
 /// Returns the fault for a database that isn't a station's.
 fn unfit_fault(unfit: Unfit) -> AttachFault
@@ -194,5 +214,26 @@ pub fn attach<S: Alter>(
             let fault = breakdown(&error);
             Err((conn, fault))
         }
+    }
+}
+
+/// Creates the tables of an empty station at an airport, in one transaction, in a store in which
+/// none of their names is taken.
+///
+/// Returns [`AttachFault::Occupied`] if a table, an index or a view has one of these names, in
+/// upper or lower case, and [`AttachFault::Store`] if a transaction is open or the store fails. The
+/// connection is returned with the fault. Other tables are kept, but there is no guarantee about
+/// their contents, neither here nor when such tables are opened.
+pub fn create<S: Alter>(
+    alloc: Global,
+    conn: Connection<S>,
+    here: Airport,
+) -> Result<Station<S>, (Connection<S>, AttachFault)>
+    ensures { HasMade S.Store ⟦<Station<S> as Keeper>⟧.keeping conn here result }
+{
+    match table_state::create(alloc, conn, here) {
+        Ok(tables) => Ok(Station::over(StoredStation::over(alloc, tables))),
+        Err((conn, CreateFault::Occupied)) => Err((conn, AttachFault::Occupied)),
+        Err((conn, CreateFault::Store)) => Err((conn, AttachFault::Store)),
     }
 }

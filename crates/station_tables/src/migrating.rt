@@ -1,12 +1,11 @@
 //! Upgrades of files from version 1 to version 2.
+
 ghost use Rattle.std.specs.Prelude.{◌≡◌, ◌≢◌, Err, IsTrue, IfOk, IfErr};
 ghost use Rattle.station_tables.specs.Common.{read_as, First, IsSettled, IsUndone, IsOldOwn, LiesInOrder, IsOldStation, Database, state, HasCleanDisk, Survives, IsUnfit, State, MeansUpgraded};
-ghost use Rattle.station_tables.specs.Attached.{IsJudged, IsOldStateIn, RefusesAs, old_name};
+ghost use Rattle.station_tables.specs.Attached.{IsJudged, IsOldStateIn, RefusesAs, old_name, HasMigrated};
 ghost use Rattle.station_tables.specs.Called.{HasMoved};
-ghost use Rattle.station_tables.specs.Migrated.{HasMigrated};
 
-use crate::attaching::{breakdown, judge};
-use crate::fault::AttachFault;
+use crate::attaching::{AttachFault, breakdown, judge};
 use sqlite::{Alter, Connection};
 use station_schema::{shows_old_station, shows_own};
 use std::alloc::Global;

@@ -1,11 +1,9 @@
 ghost use Rattle.std.specs.Prelude.{◌≡◌, ◌≢◌, true, false, Err, Option, Some, IfOk, IfErr, OnOk};
 ghost use Rattle.station_tables.specs.Common.{HasCleanDisk, Survives, IsUndone, state, IsOwn, LiesInOrder, connection_view, Answers, FindsOnly, IfSound, IfWorks, IsMemoryOrStore, MayLeave, State, IsLawfulState};
-ghost use Rattle.station_tables.specs.Attached.{connection_in, IsBreakdown, IsStateIn, IsTypedState, Refuses};
-ghost use Rattle.station_tables.specs.Found.{Finds};
-ghost use Rattle.station_tables.specs.Repeated.{HasAnswered, HasRepeated, IsBeforeIn, IsBeforeOrAfter, IsBeforeOrAfterIn};
+ghost use Rattle.station_tables.specs.Attached.{connection_in, IsBreakdown, IsStateIn, IsTypedState, Refuses, Finds};
+ghost use Rattle.station_tables.specs.Called.{HasAnswered, HasRepeated, IsBeforeIn, IsBeforeOrAfter, IsBeforeOrAfterIn};
 
-use crate::attaching::attach;
-use crate::fault::AttachFault;
+use crate::attaching::{AttachFault, attach};
 use crate::station::Station;
 use sqlite::{Alter, Connection};
 use station_core::{ActFault, Answer, Input, Keeper};

@@ -1,10 +1,9 @@
 ghost use Rattle.std.specs.Prelude.{◌≡◌, ◌<◌, true, false, [], None, Some, length, take, IfOk, IfErr};
 ghost use Rattle.station_tables.specs.Common.{HasCleanDisk, Survives, state, IfSound, IfWorks, IsBrokenAtEnd, IsMemoryOrReopen, IsMemoryOrStore, State, after_all, answers_of, are_declared, rows_view, IfGivenBack};
 ghost use Rattle.station_tables.specs.Attached.{connection_in, IsBreakdown};
-ghost use Rattle.station_tables.specs.Restarted.{IsRestored};
+ghost use Rattle.station_tables.specs.Called.{IsRestored};
 
-use crate::attaching::attach;
-use crate::fault::AttachFault;
+use crate::attaching::{AttachFault, attach};
 use crate::station::Station;
 use sqlite::{Alter, Connection};
 use station_core::{ActFault, AllAnswers, Input, Keeper, act_all};

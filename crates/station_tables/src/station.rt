@@ -1,11 +1,17 @@
-ghost use Rattle.std.specs.Prelude.{◌≡◌, false, Err};
-ghost use Rattle.station_tables.specs.Common.{state, HasCleanDisk, Acts, Breaks, FindsOnly, IfWorks, Leaves, Reopens};
-ghost use Rattle.station_tables.specs.Attached.{connection_in};
-ghost use Rattle.station_tables.specs.Called.{HasReleased};
+//! Laws about the lives of a file.
 
+ghost use Rattle.std.specs.Prelude.{◌≡◌, false, Err, ◌↔◌, ℕ, List, Bool, true, Result};
+ghost use Rattle.station_tables.specs.Common.{state, HasCleanDisk, Acts, Breaks, FindsOnly, IfWorks, Leaves, Reopens, Held, AllByRecursion, AreInputs, State, IsLawfulState, opening};
+ghost use Rattle.station_tables.specs.Attached.{connection_in};
+ghost use Rattle.station_tables.specs.Called.{HasReleased, GoesOn, HasFound};
+ghost use Rattle.station_tables.specs.declared.station.Station.{Station as Kept};
+ghost use Rattle.station_tables.specs.Lives.{Call, Desk, DoAll, CallsActOnce, Life, AreLives, IsAfterLife, IsAfterLives, migration};
+
+use crate::attaching::AttachFault;
 use agent_stock::{Holder, StockRun};
 use awb_number::Awb;
 use sqlite::{Alter, Connection};
+use station_core::laws::{retry_law, step_law};
 use station_core::{
     ActFault, AnnouncedRow, BookQuery, BookRow, ExpectedQuery, ExpectedRow, FlightRow, Input,
     IrregularRow, Keeper, KeptReply, Key, Message, MessageQuery, Reply, ShedRow, Sink, Summary,
@@ -69,8 +75,8 @@ impl<S: Alter> Station<S> {
 
 impl<S: Alter> Keeper for Station<S> {
     ghost use Rattle.station_core.specs.Keeping.{around};
-    ghost use Rattle.station_engine.specs.Laws.{found_is};
-    ghost use Rattle.table_state.specs.Laws.{finds_what_it_shows};
+    ghost use Rattle.station_engine.specs.Serving.{found_is};
+    ghost use Rattle.table_state.specs.Shown.{finds_what_it_shows};
 
     ghost keeping = { around (λ k. k.stored)
         ⟦<StoredStation<TableState<Rows<S>>> as Keeper>⟧.keeping };
@@ -152,3 +158,45 @@ impl<S: Alter> Keeper for Station<S> {
         self.stored.trail_by(query, sink)
     }
 }
+
+/// Starting from any lawful state (a new station, an opened file or an upgraded one), after any
+/// number of lives, each of which begins with the state that its opening found, the last opening
+/// finds the state after all answered inputs and at most one more for each life that ended with a
+/// fault of the store.
+pub fn lives_law()
+    ensures lawful { (first : State) (lives : List Life) (found : State) → IsLawfulState first
+        → AllByRecursion (λ (life : Life). AreInputs life.inputs) lives
+        → AreLives first lives found → IsAfterLives first lives found }
+    ensures new { (here : List ℕ) (lives : List Life) (found : State)
+        → AllByRecursion (λ (life : Life). AreInputs life.inputs) lives
+        → AreLives (opening here) lives found → IsAfterLives (opening here) lives found }
+{
+    step_law();
+}
+
+/// An upgrade keeps the state, so it may come anywhere between the lives of a file.
+pub fn migration_law()
+    ensures { (s found : State) → IsAfterLife s migration found ↔ (found ≡ s) }
+{}
+
+/// Whatever is called, answered, cut off and repeated on a working station, each accepted input
+/// acts once, starting from a new station, an opened file or an upgraded one.
+pub fn calls_law()
+    ensures { (start : State) (calls : List Call) (new : Desk)
+        → DoAll (record { state = start; works = true }) calls new
+        → CallsActOnce start calls new.state }
+{
+    retry_law();
+}
+
+/// The next program goes on: a station opened over a crash state of one that returned its
+/// connection has a state that reopening the first one may find.
+pub fn next_call_law<S: Alter>()
+    ensures { (last : Kept S S.Store) (conn other : Held S)
+        (opened : Result (Kept S S.Store) (Held S × AttachFault))
+        → ⟦<Station<S> as Keeper>⟧.keeping.is_sound last → HasReleased
+        ⟦<Station<S> as Keeper>⟧.keeping last conn → HasCleanDisk (state S.Store conn)
+        → (state S.Store conn).may_leave (state S.Store other).now.trees → HasFound S.Store
+        ⟦<Station<S> as Keeper>⟧.keeping other opened → GoesOn S.Store
+        ⟦<Station<S> as Keeper>⟧.keeping last opened }
+{}

@@ -1,14 +1,13 @@
 -- The names that proofs of this crate cite, passed on from one place. Declares nothing.
 pub use Rattle.agent_stock.proofs.Serials.{find_here, find_next, given_as}
-pub use Rattle.agent_stock.specs.Runs.{AreRuns, AreStockRuns, IsRunRow, StandFrom, end_of, holders_by}
-pub use Rattle.agent_stock.specs.Stock.{Holders, assigned, covers, is_among, is_run, passes, refused_by}
+pub use Rattle.agent_stock.specs.Stock.{AreRuns, AreStockRuns, IsRunRow, StandFrom, end_of, holders_by, Holders, assigned, covers, is_among, is_run, passes, refused_by}
 pub use Rattle.agent_stock.specs.declared.runs.StockRun.{StockRun}
 pub use Rattle.agent_stock.specs.declared.stock.Holder.TheVariants.{Agent, Desk, Used, Void}
 pub use Rattle.agent_stock.specs.declared.stock.Holder.{Holder}
 pub use Rattle.agent_stock.specs.declared.stock.Run.{Run}
 pub use Rattle.awb_number.specs.Number.{IsNumber, prefix_of, serial_of}
-pub use Rattle.row_codec.specs.Numbers.{is_within, natural}
-pub use Rattle.row_codec.specs.Stock.{AreStockRows, are_apart, holder_by, holders_in, is_behind, is_stock_row, named, run_in, stands_for, unnamed_holder}
+pub use Rattle.row_codec.specs.Flights.{is_within, natural}
+pub use Rattle.row_codec.specs.Stored.{AreStockRows, are_apart, holder_by, holders_in, is_behind, is_stock_row, named, run_in, stands_for, unnamed_holder}
 pub use Rattle.station_rows.specs.Meant.{is_between, is_up_to, last_rows_up_to, last_up_to, stock_meant, with_stock}
 pub use Rattle.station_rows.specs.declared.stock.StockRow.{StockRow}
 pub use Rattle.station_schema.specs.Store.{Displays, IsShowing, Seen, Survives, View, at_rest, inside}
@@ -24,8 +23,4 @@ pub use Rattle.std.specs.List.{AllByRecursion, find, last_or, list_all, range_wi
 pub use Rattle.std.specs.Option.{option_and_then}
 pub use Rattle.std.specs.Ordering.{eq_by_cmp, int_cmp, int_eq, ordering_then}
 pub use Rattle.std.specs.Prelude.{Err, IfOk, IsTrue, Ok, OnOk, Result, int_le, int_lt, is_some, nat_eq, nat_le, nat_lt, ◌&&◌, ◌+◌, ◌==◌, ◌||◌, ◌≤◌}
-pub use Rattle.stock_tables.specs.Reads.{are_enough, begins_before, holder_at, reaches, reaching}
-pub use Rattle.stock_tables.specs.Rows.{AreAround, AreNear, Before, Behind, BehindBy, IsJoined, Touches, cut_before, cut_from, lies_ahead, lies_behind, listed, rows_ahead, rows_behind, rows_near, touches, written}
-pub use Rattle.stock_tables.specs.Runs.{IsWritable, code_of, entry_of, holder_number, key_of, row_in}
-pub use Rattle.stock_tables.specs.Stocked.{AreThere, IsCut, Restocked, Stocked, restocked, using_up}
-pub use Rattle.stock_tables.specs.Writes.{begins, cleared, put_in, without}
+pub use Rattle.stock_tables.specs.Stocked.{are_enough, begins_before, holder_at, reaches, reaching, AreAround, AreNear, Before, Behind, BehindBy, IsJoined, Touches, cut_before, cut_from, lies_ahead, lies_behind, listed, rows_ahead, rows_behind, rows_near, touches, written, IsWritable, code_of, entry_of, holder_number, key_of, row_in, AreThere, IsCut, Restocked, Stocked, restocked, using_up, begins, cleared, put_in, without}

@@ -1,6 +1,6 @@
 -- A row is a run, and a run is a row.
 use Rattle.stock_tables.proofs.Common.{Agent, AllByRecursion, Bool, Desk, Holder, IsRunRow, IsWritable, Less, List, None, Some, StandFrom, Stock, StockKey, StockRun, T, Used, Void, [], and_from, and_parts, ap, are_apart, arith, below_all, cases_lt, code_of, cond, end_of, entry_of, eqb-true, false, holder_by, holder_number, inl, inr, int_cmp, int_eq, int_lt, ints, is_behind, is_lt, is_some, is_sorted, is_stock_row, key_of, length, list_all, map, named, nat_eq, natural, ordering_then, pos, prefix_of, refl, run_in, serial_of, stock_cmp, subst, suc, sym, true, unnamed_holder, ℕ, ℤ, ◌%◌, ◌&&◌, ◌*◌, ◌+◌, ◌-◌, ◌/◌, ◌<◌, ◌==◌, ◌||◌, ◌∙◌, ◌∷◌, ◌≡◌, ◌≤◌, ◌⊎◌}
-use Rattle.agent_stock.specs.Code.{is_agent_code}
+use Rattle.agent_stock.specs.Fields.{is_agent_code}
 use Rattle.stock_tables.proofs.Meant.{fits, low_fits, natural_is, bounds, row_fits, has_holder}
 
 -- ---- a row, as a run, is the row again

@@ -1,6 +1,6 @@
 -- What a store shows after a call, from what it showed before.
 use Rattle.stock_tables.proofs.Common.{Err, IfOk, IsShowing, Ok, OnOk, Result, Seen, Survives, Tables, View, sym, ◌∙◌}
-use Rattle.station_rows.specs.Clauses.{Reads, RestsIfSound}
+use Rattle.station_rows.specs.Shown.{Reads, RestsIfSound}
 
 pub survives_itself : (a : View) → Survives a a
 survives_itself a = record { clean = λ clean. clean; still = λ was clean. was; sound = λ sound. sound; crash = λ sound t left. left }

@@ -1,15 +1,17 @@
 //! A run of numbers is given to a holder, in a transaction.
-ghost use Rattle.std.specs.Prelude.{◌≡◌, true, map, OnOk};
-ghost use Rattle.stock_tables.specs.Common.{entries, is_run, assigned, IsShowing, Survives, at_rest, inside, Tables, holders_in, run_in};
-ghost use Rattle.stock_tables.specs.Rows.{rows_near};
-ghost use Rattle.stock_tables.specs.Stocked.{Stocked, Restocked, using_up};
+//! The holder of a number.
+
+ghost use Rattle.std.specs.Prelude.{◌≡◌, true, map, OnOk, IfOk};
+ghost use Rattle.stock_tables.specs.Common.{entries, is_run, assigned, IsShowing, Survives, at_rest, inside, Tables, holders_in, run_in, Reads, stock_meant};
+ghost use Rattle.stock_tables.specs.Stocked.{rows_near, Stocked, Restocked, using_up, holder_at};
 
 use crate::join_rows;
 use crate::near::{near_of, without_neighbours};
 use crate::writing::{clear, put_all};
 use agent_stock::{Holder, Run, StockRun};
 use awb_number::Awb;
-use station_rows::{StoreFault, TableStore};
+use row_codec::run_by;
+use station_rows::{StockRow, StockUpTo, StoreFault, TableStore};
 use std::alloc::Global;
 
 /// Gives a run to a holder, by the rows that it touches.
@@ -69,4 +71,35 @@ pub fn use_up<S: TableStore>(alloc: Global, store: &mut S, awb: &Awb) -> Result<
     let near = near_of(alloc, store, &run)?;
     give(alloc, store, &run, &near, &Holder::Used)?;
     Ok(())
+}
+
+/// The holder in a row, where the row reaches a number. A fault: the row is out of range.
+fn holder_in(row: &StockRow, awb: &Awb) -> Result<Option<Holder>, StoreFault>
+    ensures { IfOk result (λ holder. holder ≡ holder_at awb.now (run_in (stock_meant row.now))) }
+{
+    let Some(run) = run_by(row) else {
+        return Err(StoreFault);
+    };
+    if awb.key() < run.first.key() + u64::from(run.count) {
+        Ok(Some(run.holder))
+    } else {
+        Ok(None)
+    }
+}
+
+/// Returns the holder of a number, `None` if it isn't in stock, inside a transaction or outside. A
+/// fault: the database call failed, or an earlier one did; outside a transaction it changes
+/// nothing.
+pub fn holder<S: TableStore>(store: &mut S, awb: &Awb) -> Result<Option<Holder>, StoreFault>
+    ensures { Reads (S.view store.old) (S.view store.new) result
+        (λ tables holder. Stocked tables → holder ≡ holders_in tables.stock awb.now) }
+{
+    let row = store.read(StockUpTo {
+        prefix: i64::from(awb.prefix()),
+        low: i64::from(awb.serial()),
+    })?;
+    match row {
+        Some(row) => holder_in(&row, awb),
+        None => Ok(None),
+    }
 }

@@ -1,10 +1,12 @@
 //! The rows in place of those that a run touches.
-ghost use Rattle.std.specs.Prelude.{◌≡◌, ◌++◌, true, List, IsSome, IfSome};
-ghost use Rattle.stock_tables.specs.Common.{is_run, assigned, AreRuns, holders_by};
-ghost use Rattle.agent_stock.specs.declared.runs.StockRun.{StockRun as Row};
-ghost use Rattle.stock_tables.specs.Rows.{AreAround, AreNear, written, IsJoined};
+//! The rows before a run, those that it touches, and those behind it.
 
-use crate::edges::{before, behind};
+ghost use Rattle.std.specs.Prelude.{◌≡◌, ◌++◌, true, List, IsSome, IfSome, ℕ, IsTrue};
+ghost use Rattle.stock_tables.specs.Common.{is_run, assigned, AreRuns, holders_by, covers};
+ghost use Rattle.agent_stock.specs.declared.runs.StockRun.{StockRun as Row};
+ghost use Rattle.stock_tables.specs.Stocked.{AreAround, AreNear, written, IsJoined, rows_ahead, rows_near, rows_behind};
+
+use crate::near::{before, behind};
 use agent_stock::{Holder, Run, StockRun};
 use awb_number::Awb;
 
@@ -56,3 +58,16 @@ pub fn join_rows(near: &[StockRun], run: &Run, to: &Holder) -> Option<Joined>
     };
     Some(Joined { left, row, right })
 }
+
+/// Rows in ascending order are those that lie before a run, those that it touches, and those that
+/// lie behind it; and the rows that it touches say who has its numbers.
+pub fn parts_law(run: &Run)
+    requires { is_run run.now ≡ true }
+    ensures parted { (rows : List Row) → AreRuns rows
+        → rows ≡ rows_ahead run.now rows ++ (rows_near run.now rows ++ rows_behind run.now rows) }
+    ensures around { (rows : List Row) → AreRuns rows
+        → AreAround run.now (rows_ahead run.now rows) (rows_behind run.now rows) }
+    ensures near { (rows : List Row) → AreNear run.now (rows_near run.now rows) }
+    ensures holders { (rows : List Row) → AreRuns rows → (q : ℕ) → IsTrue (covers run.now q)
+        → holders_by (rows_near run.now rows) q ≡ holders_by rows q }
+{}

@@ -1,10 +1,7 @@
 //! New rows in place of those that a run touches.
 ghost use Rattle.std.specs.Prelude.{◌≡◌, ◌∷◌, [], true, Some, OnOk};
 ghost use Rattle.stock_tables.specs.Common.{get, AllByRecursion, IsShowing, Survives, inside, Tables, Stock, ShowsChange, stock_meant, with_stock};
-ghost use Rattle.stock_tables.specs.Rows.{listed, written};
-ghost use Rattle.stock_tables.specs.Runs.{IsWritable};
-ghost use Rattle.stock_tables.specs.Writes.{begins, without, cleared, put_in};
-ghost use Rattle.stock_tables.specs.Stocked.{restocked, AreThere};
+ghost use Rattle.stock_tables.specs.Stocked.{listed, written, IsWritable, begins, without, cleared, put_in, restocked, AreThere};
 
 use crate::Joined;
 use crate::row::row_of;

@@ -1,7 +1,7 @@
 -- The sums on a flight are those of the waybills that are built on it.
 use Rattle.table_audits.proofs.Common.{AllByRecursion, AreSums, BookSums, Bool, Build, BuildPlace, Built, FlightDate, Less, List, Move, None, Option, Some, Tally, [], ap, arith, build_due, build_place_cmp, build_row, built, cond, false, int_cmp, int_eq, int_pos, ints, is_at, is_left, is_some, keys_of, length, lookup, map, nat_cmp, nat_cmp_total, nat_lt, nat_tests, natural, negsuc, none_is, on_flight, option_map, ordering_then, pos, refl, running, running_on, slice_get, subst, sym, tied_itself, true, true≢false, unless_nothing, waybills_on, ℕ, ℤ, ◌&&◌, ◌<◌, ◌==◌, ◌∙◌, ◌∷◌, ◌≡◌, length-map}
 use Rattle.std.specs.List.Sorted.{IsStrictlySortedBy}
-use Rattle.shipment_machine.specs.Numbers.{IsAscending as Rising, is_in}
+use Rattle.shipment_machine.specs.Cargo.{IsAscending as Rising, is_in}
 use Rattle.shipment_machine.proofs.Rising.{same_rising}
 use Rattle.shipment_machine.proofs.FlightMoves.{Rising-waybills_on}
 use Rattle.shipment_machine.proofs.OnFlight.{is_in-waybills_on}

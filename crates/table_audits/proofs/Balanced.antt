@@ -4,9 +4,9 @@ use Rattle.table_audits.proofs.Common.{AllByRecursion, AreBalances, AreFlightsOf
 use Rattle.std.proofs.lemmas.Option.{slice_get-map}
 use Rattle.sqlite_keyed.proofs.ListLemmas.{all-slice_get}
 use Rattle.std.specs.FinMap.{find}
-use Rattle.shipment_machine.specs.Amount.{plus, fits}
+use Rattle.shipment_machine.specs.Book.{plus, fits}
 use Rattle.row_codec.proofs.Codes as codes
-use Rattle.table_audits.specs.Balances.{is_within}
+use Rattle.table_audits.specs.Moves.{is_within}
 use Rattle.table_audits.proofs.Sorted.{each_looked_up}
 use Rattle.table_audits.proofs.Mapped.{index_of, listed}
 use Rattle.table_audits.proofs.Made.{distinct, build_places_total}

@@ -4,8 +4,8 @@ use Rattle.sqlite.specs.Order.{column}
 use Rattle.sqlite.specs.Table.{Table}
 use Rattle.sqlite_tied.specs.Compute.{everything}
 use Rattle.station_schema.specs.Schema.{schema_with, waybill2}
-use Rattle.table_load.specs.Raw.{found, rows_of}
-use Rattle.station_schema.specs.ColumnKeys.{AreListed}
+use Rattle.table_load.specs.Held.{found, rows_of}
+use Rattle.station_schema.specs.Tables.{AreListed}
 use Rattle.table_audits.proofs.Judged.{same_mark, same_words, through}
 
 -- ---- lawful table by table, so lawful

@@ -4,10 +4,10 @@ use Rattle.sqlite.specs.State.{State, HasCleanDisk, IsUnchanged, Survives}
 use Rattle.sqlite_trees.specs.declared.store.Store.{Ghosts}
 use Rattle.sqlite.proofs.Callers.{unchanged_then}
 use Rattle.sqlite.proofs.StreamLemmas.{rolled_back_since}
-use Rattle.station_schema.specs.Effects.{Reads, Stops}
+use Rattle.station_schema.specs.Schema.{Reads, Stops}
 use Rattle.table_audits.specs.declared.name.TableName.TheVariants as table
-use Rattle.table_audits.specs.declared.unfit.Unfit.{Unfit}
-use Rattle.table_audits.specs.declared.unfit.Unfit.TheVariants as unfit
+use Rattle.table_audits.specs.declared.rows.Unfit.{Unfit}
+use Rattle.table_audits.specs.declared.rows.Unfit.TheVariants as unfit
 use Rattle.table_audits.specs.Verdict.{is_ours, IsUnfit}
 
 -- ---- the tables before one are good too

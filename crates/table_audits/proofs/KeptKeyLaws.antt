@@ -1,6 +1,6 @@
 -- Rows of `kept_key` that are taken one by one.
 use Rattle.table_audits.proofs.Common.{AllByRecursion, AreKeptKeys, AreRequests, Bool, IsLawfulKept, IsTrue, Kept, KeptKeyEntry, List, Tables, [], all_both, all_from_test, all_weaker, at_key, each_entry, entries, false, is_kept_row, kept_cmp, kept_key_entry, kept_same, kept_total, map, map-append, subst, sym, test_from_all, true, true≢false, ℕ, ◌++◌, ◌↔◌, ◌∙◌, ◌∷◌, ◌≡◌}
-use Rattle.station_core.specs.Told.{IsRequest}
+use Rattle.station_core.specs.Keeping.{IsRequest}
 use Rattle.sqlite_keyed.proofs.ListLemmas.{all-append}
 use Rattle.table_audits.proofs.Lists.{all_pop}
 

@@ -1,6 +1,6 @@
 -- What a sum at a place says of the place.
 use Rattle.table_audits.proofs.Common.{BookSums, Bool, Built, FlightDate, Hand, IsCovered, IsStocked, List, Move, None, Option, Place, Some, Tally, amount, ap, ap₂, arith, built, cond, drawn, drawn_at, drawn_by, false, int_eq, int_le, ints, is_covered, is_left, is_nothing, moved_in, moved_out, nat_le, nat_lt, nat_tests, natural, neg_ℤ, negsuc, option_map, pieces_of, pos, refl, rows_again, running, same_place, some_is, suc, sym, tenths_of, true, unless_nothing, zero, ℕ, ℤ, ◌&&◌, ◌+◌, ◌-ℤ◌, ◌-◌, ◌<◌, ◌∙◌, ◌≡◌, ◌≤◌}
-use Rattle.table_audits.specs.Balances.{is_within}
+use Rattle.table_audits.specs.Moves.{is_within}
 
 -- ---- rows and what they mean
 

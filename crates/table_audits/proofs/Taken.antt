@@ -1,6 +1,6 @@
 -- Rows that are taken one after another.
 use Rattle.table_audits.proofs.Common.{AreCounted, AreLinesTaken, AreMessages, AreMessagesTaken, AreNumbered, AreSound, AreSoundOr, Bool, Err, Error, IfSome, IsSome, List, Message, MessageRow, None, Ok, OnOk, Option, Result, RisesByNumber, Some, Tables, TrailRow, Waybill, [], and_parts, ap, ap₂, arith, cargo_in, cond, confirmed_in, false, if_confirmed, is_lawful_line, is_message_row, length, length-append, length-map, list_all, list_all-append, list_all-map, list_all_push, map, map-append, map-map, message_id, message_meant, nat_le, nat_tests, pos, range_with_len, refl, subst, sym, trail_id, trail_meant, true, true≢false, ℕ, ℤ, ◌&&◌, ◌++◌, ◌+◌, ◌↔◌, ◌∙◌, ◌∷◌, ◌≡◌, ◌≤◌}
-use Rattle.table_audits.specs.declared.numbers.NumberedRows.{NumberedRows}
+use Rattle.table_audits.specs.declared.lookups.NumberedRows.{NumberedRows}
 use Rattle.table_audits.proofs.NumberLaws.{numbered_push, numbered_pop}
 use Rattle.table_audits.proofs.Texts.{messages_are}
 

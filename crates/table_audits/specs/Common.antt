@@ -12,28 +12,15 @@ pub use Rattle.std.specs.declared.cmp.Ordering.{Ordering}
 pub use Rattle.std.specs.declared.cmp.Ordering.TheVariants.{Less}
 pub use Rattle.agent_stock.specs.declared.stock.Holder.TheVariants.{Used}
 pub use Rattle.awb_number.specs.Number.{serials}
-pub use Rattle.imp_fields.specs.Characters.{is_line}
-pub use Rattle.imp_fields.specs.Flight.{most_waybills}
-pub use Rattle.row_codec.specs.Counts.{AreBuilds, AreCounts, Sums, build_row, count_in, count_row, running, unless_nothing}
-pub use Rattle.row_codec.specs.Flights.{flight_date_of, flight_key, is_designator, is_flight_row, noted_by}
-pub use Rattle.row_codec.specs.Logs.{is_message_row, is_trail_row}
-pub use Rattle.row_codec.specs.Manifests.{expectation_by, is_expected_row, is_part_row}
-pub use Rattle.row_codec.specs.Meaning.{IsReadable, airport_in, confirmed_in, is_station, meaning_of}
-pub use Rattle.row_codec.specs.Moves.{are_flight_columns, book_in, is_move_row, move_by, place_code}
-pub use Rattle.row_codec.specs.Numbers.{AreNumbered, is_set, natural}
-pub use Rattle.row_codec.specs.Replies.{AreRequests, is_kept_row, is_kept_text_row}
-pub use Rattle.row_codec.specs.Stock.{AreStockRows, are_apart, is_behind, is_stock_row}
-pub use Rattle.row_codec.specs.Stored.{come_to}
-pub use Rattle.row_codec.specs.Sums.{is_built, posting}
-pub use Rattle.row_codec.specs.Waybills.{declared_in, is_waybill_row}
+pub use Rattle.imp_fields.specs.Fields.{is_line, most_waybills}
+pub use Rattle.row_codec.specs.Stored.{AreBuilds, AreCounts, Sums, build_row, count_in, count_row, running, unless_nothing, is_message_row, is_trail_row, IsReadable, airport_in, confirmed_in, is_station, meaning_of, are_flight_columns, book_in, is_move_row, move_by, place_code, AreRequests, is_kept_row, is_kept_text_row, AreStockRows, are_apart, is_behind, is_stock_row, come_to, is_built, posting}
+pub use Rattle.row_codec.specs.Flights.{flight_date_of, flight_key, is_designator, is_flight_row, noted_by, expectation_by, is_expected_row, is_part_row, AreNumbered, is_set, natural, declared_in, is_waybill_row}
 pub use Rattle.row_codec.specs.declared.tally.Tally.{Tally}
-pub use Rattle.shipment_machine.specs.Amount.{amount, fits, plus}
-pub use Rattle.shipment_machine.specs.Book.{built, taken_and_found, waybills_on}
+pub use Rattle.shipment_machine.specs.Book.{amount, fits, plus, built, taken_and_found, waybills_on, is_pair}
 pub use Rattle.shipment_machine.specs.Cargo.{Cargo}
 pub use Rattle.shipment_machine.specs.Effect.{is_closed}
 pub use Rattle.shipment_machine.specs.Lawful.{IsCovered, IsLawfulAmount, IsLawfulMove, IsNoted, IsStocked, NamesFlight, StaysDeparted, departs_with, is_outside}
-pub use Rattle.shipment_machine.specs.Places.{is_pair}
-pub use Rattle.shipment_machine.specs.declared.amount.Amount.{Amount}
+pub use Rattle.shipment_machine.specs.declared.moves.Amount.{Amount}
 pub use Rattle.shipment_machine.specs.declared.flight.FlightDate.{FlightDate}
 pub use Rattle.shipment_machine.specs.declared.moves.Move.{Move}
 pub use Rattle.shipment_machine.specs.declared.moves.Part.{Part}
@@ -47,16 +34,15 @@ pub use Rattle.sqlite.specs.declared.error.Error.{Error}
 pub use Rattle.sqlite_keyed.specs.Keyed.{has_key}
 pub use Rattle.sqlite_trees.specs.declared.store.Store.{Ghosts}
 pub use Rattle.station_core.specs.Step.{IsLawfulState}
-pub use Rattle.station_core.specs.Told.{IsRequest}
+pub use Rattle.station_core.specs.Keeping.{IsRequest}
 pub use Rattle.station_rows.specs.Meant.{build_meant, count_meant, message_meant, move_meant, stock_meant, trail_meant, waybill_meant}
 pub use Rattle.station_rows.specs.declared.moves.MoveRow.{MoveRow}
 pub use Rattle.station_rows.specs.declared.outbox.MessageRow.{MessageRow}
 pub use Rattle.station_rows.specs.declared.trail.TrailRow.{TrailRow}
-pub use Rattle.station_schema.specs.Effects.{Reads}
+pub use Rattle.station_schema.specs.Schema.{Reads}
 pub use Rattle.station_schema.specs.Tables.{Build, BuildKey, Count, CountKey, Expected, ExpectedKey, Flight, FlightKey, IsOldStation, IsStation, Kept, PartKey, Stock, StockKey, Tables, TrailLine, Waybill, flight_cmp, kept_text_cmp, message_id, move_id, old_tables_of, tables_of, trail_id, upgraded, waybill_id}
-pub use Rattle.table_load.specs.Held.{HoldsBuild, HoldsCounts, HoldsExpected, HoldsFlight, HoldsKeptKey, HoldsKeptText, HoldsMoves, HoldsOutbox, HoldsPart, HoldsStock, HoldsTrail, by_number, expected_entry, flight_entry, kept_key_entry, kept_text_entry, old_waybill_entry, part_entry}
-pub use Rattle.table_load.specs.Reading.{HoldsOldWaybills, HoldsWaybills, Reading, read_as, station_read, undated_row}
-pub use Rattle.table_load.specs.Verdict.{Verdict, damaged, new_row, no_station, one_row, other_version}
-pub use Rattle.table_load.specs.Whole.{FindsTable}
+pub use Rattle.table_load.specs.Held.{HoldsBuild, HoldsCounts, HoldsExpected, HoldsFlight, HoldsKeptKey, HoldsKeptText, HoldsMoves, HoldsOutbox, HoldsPart, HoldsStock, HoldsTrail, by_number, expected_entry, flight_entry, kept_key_entry, kept_text_entry, old_waybill_entry, part_entry, HoldsOldWaybills, HoldsWaybills, Reading, read_as, station_read, undated_row, Verdict, damaged, new_row, no_station, one_row, other_version, FindsTable}
 pub use Rattle.table_load.specs.declared.kept_key.KeptKeyEntry.{KeptKeyEntry}
 pub use Rattle.table_load.specs.declared.station.FileVersion.TheVariants.{First, Second}
+pub use Rattle.table_audits.specs.declared.name.TableName.{TableName}
+pub use Rattle.table_audits.specs.declared.sums.Posting.{Posting}

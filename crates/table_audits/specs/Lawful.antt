@@ -1,7 +1,6 @@
 -- Lawfulness of each table of a station: of its own values, and with the tables before it.
 use Rattle.std.specs.Prelude.{◌≡◌, ◌≤◌, ℕ, [], false, ◌↔◌, IsTrue, IsSome, IfSome, Some, length}
-use Rattle.table_audits.specs.Common.{AllByRecursion, list_all, list_any, bytes_eq, entries, is_line, Used, FlightDate, Part, Place, fits, built, taken_and_found, waybills_on, Cargo, is_closed, is_outside, IsStocked, IsCovered, IsLawfulMove, IsLawfulAmount, departs_with, StaysDeparted, Tables, move_id, trail_id, message_id, AreNumbered, is_waybill_row, AreStockRows, is_flight_row, book_in, is_move_row, AreCounts, AreBuilds, is_expected_row, is_part_row, is_trail_row, is_message_row, is_kept_row, AreRequests, is_kept_text_row, is_station, meaning_of, most_waybills}
-use Rattle.table_audits.specs.declared.name.TableName.{TableName}
+use Rattle.table_audits.specs.Common.{AllByRecursion, list_all, list_any, bytes_eq, entries, is_line, Used, FlightDate, Part, Place, fits, built, taken_and_found, waybills_on, Cargo, is_closed, is_outside, IsStocked, IsCovered, IsLawfulMove, IsLawfulAmount, departs_with, StaysDeparted, Tables, move_id, trail_id, message_id, AreNumbered, is_waybill_row, AreStockRows, is_flight_row, book_in, is_move_row, AreCounts, AreBuilds, is_expected_row, is_part_row, is_trail_row, is_message_row, is_kept_row, AreRequests, is_kept_text_row, is_station, meaning_of, most_waybills, TableName}
 use Rattle.table_audits.specs.declared.name.TableName.TheVariants as table
 
 abbrev pub cargo_in : Tables → Cargo

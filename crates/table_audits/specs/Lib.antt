@@ -1,14 +1,5 @@
 pub mod Common
-pub mod Audited
-pub mod Balances
-pub mod Departed
-pub mod Good
-pub mod Judged
-pub mod Lawful
-pub mod Names
-pub mod Order
-pub mod Posted
-pub mod Rows
-pub mod Sums
-pub mod Taken
+pub mod Moves
 pub mod Verdict
+pub mod Lawful
+pub mod Taken

@@ -1,17 +1,12 @@
 -- The audit of a table whose rows are added one after another.
 use Rattle.std.specs.Prelude.{◌≡◌, ◌↔◌, ◌++◌, ◌∷◌, [], ℕ, ℤ, Bool, true, false, nat_le, if◌then◌else◌, IsTrue, Option, Some, None, List, length, map}
-use Rattle.table_audits.specs.Common.{AllByRecursion, list_all, FlightDate, StaysDeparted, move_meant, waybill_meant, trail_meant, message_meant, MoveRow, MessageRow, TrailRow, Tables, Kept, Waybill, move_id, trail_id, message_id, running, move_by, AreNumbered, is_kept_row, IsRequest, flight_entry, kept_key_entry, KeptKeyEntry}
+use Rattle.table_audits.specs.Common.{AllByRecursion, list_all, FlightDate, StaysDeparted, move_meant, waybill_meant, trail_meant, message_meant, MoveRow, MessageRow, TrailRow, Tables, Kept, Waybill, move_id, trail_id, message_id, running, move_by, AreNumbered, is_kept_row, IsRequest, flight_entry, kept_key_entry, KeptKeyEntry, Posting}
 use Rattle.station_schema.specs.Tables.{Move}
-use Rattle.table_audits.specs.Departed.{marks_of}
-use Rattle.table_audits.specs.Order.{RisesByNumber}
-use Rattle.table_audits.specs.Posted.{AreBeside, IsGoodRow, listed_in}
-use Rattle.table_audits.specs.Rows.{is_lawful_line}
-use Rattle.table_audits.specs.Sums.{AreSums, IsPosting}
+use Rattle.table_audits.specs.Moves.{marks_of, RisesByNumber, AreBeside, IsGoodRow, listed_in, is_lawful_line, AreSums, IsPosting}
 use Rattle.table_audits.specs.declared.book.BookAudit.{BookAudit}
 use Rattle.table_audits.specs.declared.book.BookBeside.{BookBeside}
 use Rattle.table_audits.specs.declared.kept_key.KeptKeys.{KeptKeys}
-use Rattle.table_audits.specs.declared.numbers.NumberedRows.{NumberedRows}
-use Rattle.table_audits.specs.declared.sums.Posting.{Posting}
+use Rattle.table_audits.specs.declared.lookups.NumberedRows.{NumberedRows}
 
 -- ---- numbered rows, each with whether it is lawful by itself
 

@@ -1,7 +1,6 @@
 ghost use Rattle.std.specs.Prelude.{◌≡◌, ◌≤◌, ◌+◌, ◌&&◌, ◌↔◌, ℕ, nat_le, IsTrue, List, length, map, slice_get};
 ghost use Rattle.table_audits.specs.Common.{IsOrdered, get, entries, list_all, FlightDate, flight_entry, Tables, running, is_flight_row, book_in, most_waybills};
-ghost use Rattle.table_audits.specs.Sums.{AreSums, AreFlightsOf, count_place_cmp, build_place_cmp};
-ghost use Rattle.table_audits.specs.Balances.{AreBalances, overdrawn, drawn_by, is_covered, is_left, is_within, is_lawful_count, is_open, is_lawful_build, on_flight};
+ghost use Rattle.table_audits.specs.Moves.{AreSums, AreFlightsOf, count_place_cmp, build_place_cmp, AreBalances, overdrawn, drawn_by, is_covered, is_left, is_within, is_lawful_count, is_open, is_lawful_build, on_flight};
 
 use crate::sums::{BookSums, BuildPlace, CountPlace};
 use imp_fields::{MOST_PIECES, MOST_TENTHS};

@@ -2,17 +2,16 @@ ghost use Rattle.std.specs.Prelude.{◌≡◌, ◌↔◌, ◌++◌, ◌∷◌, [
 ghost use Rattle.table_audits.specs.Common.{list_all, entries, move_meant, Tables, running, is_flight_row, book_in, move_by, flight_entry, Survives, state};
 ghost use Rattle.station_schema.specs.Tables.{Move as Row};
 ghost use Rattle.table_audits.specs.Lawful.{AreMoves};
-ghost use Rattle.table_audits.specs.Posted.{listed_in};
-ghost use Rattle.table_audits.specs.Sums.{AreSums, IsPosting};
+ghost use Rattle.table_audits.specs.Moves.{listed_in, AreSums, IsPosting};
 ghost use Rattle.table_audits.specs.Taken.{AreGoodMoves, IsBookOf, IsBookAs, IsNextOr, AreRead, AreMovesTaken};
-ghost use Rattle.table_audits.specs.Judged.{Audits};
+ghost use Rattle.table_audits.specs.Verdict.{Audits};
 ghost use Rattle.table_audits.specs.declared.name.TableName.TheVariants as table;
 
 use crate::balances::are_balances_lawful;
 use crate::departures::{are_departures_lawful, is_marked, mark, no_marks};
-use crate::known::Known;
-use crate::numbers::{is_next, one_more};
-use crate::postings::posting_of;
+use crate::lookups::{is_next, one_more};
+use crate::posts::posting_of;
+use crate::rows::Known;
 use crate::sums::{BookSums, Posting};
 use sqlite::{Alter, Connection, Error, ErrorCode};
 use station_rows::{MoveRow, WaybillRow};

@@ -1,10 +1,10 @@
 ghost use Rattle.std.specs.Prelude.{◌≡◌, ◌↔◌, IsTrue, Some, map};
 ghost use Rattle.table_audits.specs.Common.{IsOrdered, build_meant, flight_entry, Survives, state};
-ghost use Rattle.table_audits.specs.Sums.{build_at, build_entry, build_place_cmp};
-ghost use Rattle.table_audits.specs.Judged.{Audits};
+ghost use Rattle.table_audits.specs.Moves.{build_at, build_entry, build_place_cmp};
+ghost use Rattle.table_audits.specs.Verdict.{Audits};
 ghost use Rattle.table_audits.specs.declared.name.TableName.TheVariants as table;
 
-use crate::known::Known;
+use crate::rows::Known;
 use crate::sums::{BookSums, BuildPlace};
 use row_codec::Tally;
 use sqlite::{Alter, Connection, Error};

@@ -1,10 +1,10 @@
 ghost use Rattle.std.specs.Prelude.{◌≡◌, ◌↔◌, IsTrue, map};
 ghost use Rattle.table_audits.specs.Common.{IsOrdered, count_meant, Survives, state};
-ghost use Rattle.table_audits.specs.Sums.{count_entry, count_place_cmp};
-ghost use Rattle.table_audits.specs.Judged.{Audits};
+ghost use Rattle.table_audits.specs.Moves.{count_entry, count_place_cmp};
+ghost use Rattle.table_audits.specs.Verdict.{Audits};
 ghost use Rattle.table_audits.specs.declared.name.TableName.TheVariants as table;
 
-use crate::known::Known;
+use crate::rows::Known;
 use crate::sums::{BookSums, CountPlace};
 use row_codec::Tally;
 use sqlite::{Alter, Connection, Error};

@@ -1,9 +1,7 @@
 ghost use Rattle.std.specs.Prelude.{◌≡◌, ◌↔◌, map, false, replicate, IsTrue, IfOk};
 ghost use Rattle.table_audits.specs.Common.{list_all, AllByRecursion, entries, IsLawfulMove, flight_entry, Tables, is_set, is_flight_row, book_in};
-ghost use Rattle.table_audits.specs.Audited.{AreDepartures};
-ghost use Rattle.table_audits.specs.Departed.{is_marked, marked, IsDeparted};
+ghost use Rattle.table_audits.specs.Moves.{AreDepartures, is_marked, marked, IsDeparted, listed_in};
 ghost use Rattle.table_audits.specs.Lawful.{cargo_in};
-ghost use Rattle.table_audits.specs.Posted.{listed_in};
 
 use crate::sums::{Posting, Spot};
 use std::alloc::{AllocError, Global};

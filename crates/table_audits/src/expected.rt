@@ -1,12 +1,11 @@
 ghost use Rattle.std.specs.Prelude.{◌≡◌, map, nat_le, is_some, IfSome, Some};
 ghost use Rattle.table_audits.specs.Common.{waybill_meant, expected_entry, is_expected_row, expectation_by, Survives, state};
-ghost use Rattle.table_audits.specs.Order.{RisesByNumber};
+ghost use Rattle.table_audits.specs.Moves.{RisesByNumber, is_lawful_expected};
 ghost use Rattle.table_audits.specs.declared.name.TableName.TheVariants as table;
-ghost use Rattle.table_audits.specs.Rows.{is_lawful_expected};
-ghost use Rattle.table_audits.specs.Judged.{Audits};
+ghost use Rattle.table_audits.specs.Verdict.{Audits};
 
-use crate::known::Known;
 use crate::lookups::is_declared;
+use crate::rows::Known;
 use row_codec::{awb_key, expectation_of};
 use shipment_machine::Expected;
 use sqlite::{Alter, Connection, Error};

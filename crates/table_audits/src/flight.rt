@@ -1,10 +1,10 @@
 ghost use Rattle.std.specs.Prelude.{◌≡◌, not, is_some, IfSome, Some};
 ghost use Rattle.table_audits.specs.Common.{bytes_eq, flight_entry, is_flight_row, noted_by, Survives, state};
 ghost use Rattle.table_audits.specs.declared.name.TableName.TheVariants as table;
-ghost use Rattle.table_audits.specs.Rows.{is_lawful_flight};
-ghost use Rattle.table_audits.specs.Judged.{Audits};
+ghost use Rattle.table_audits.specs.Moves.{is_lawful_flight};
+ghost use Rattle.table_audits.specs.Verdict.{Audits};
 
-use crate::known::Known;
+use crate::rows::Known;
 use imp_fields::Airport;
 use row_codec::noted_of;
 use sqlite::{Alter, Connection, Error};

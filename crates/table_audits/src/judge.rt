@@ -1,8 +1,8 @@
 ghost use Rattle.table_audits.specs.Common.{Survives, state};
 ghost use Rattle.table_audits.specs.declared.name.TableName.TheVariants as table;
-ghost use Rattle.table_audits.specs.Judged.{AreJudged, Audits, JudgesOn};
+ghost use Rattle.table_audits.specs.Verdict.{AreJudged, Audits, JudgesOn};
 
-use crate::known::Known;
+use crate::rows::Known;
 use crate::{
     FoundState, TableName, book, builds, counts, expected, flight, kept_key, kept_text,
     old_waybill, outbox, part, stock, trail, waybill,

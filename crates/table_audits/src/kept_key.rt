@@ -2,9 +2,9 @@ ghost use Rattle.std.specs.Prelude.{◌≡◌, ◌↔◌, ◌&&◌, [], IsTrue};
 ghost use Rattle.table_audits.specs.Common.{kept_key_entry, IsRequest, is_kept_row, Survives, state};
 ghost use Rattle.table_audits.specs.declared.name.TableName.TheVariants as table;
 ghost use Rattle.table_audits.specs.Taken.{IsLawfulKept, AreKeysTaken};
-ghost use Rattle.table_audits.specs.Judged.{Audits};
+ghost use Rattle.table_audits.specs.Verdict.{Audits};
 
-use crate::known::Known;
+use crate::rows::Known;
 use desk_commands::read_command_text;
 use row_codec::count_of;
 use sqlite::{Alter, Connection, Error};

@@ -2,11 +2,11 @@ ghost use Rattle.std.specs.Prelude.{◌≡◌, ◌↔◌, map, IsTrue, ℤ};
 ghost use Rattle.table_audits.specs.Common.{list_all, FinMap, entries, Tables, kept_text_cmp, kept_text_entry, part_entry, is_kept_text_row, Survives, state};
 ghost use Rattle.table_audits.specs.Lawful.{IsLawfulTable};
 ghost use Rattle.table_audits.specs.declared.name.TableName.TheVariants as table;
-ghost use Rattle.table_audits.specs.Rows.{has_text};
-ghost use Rattle.table_audits.specs.Judged.{Audits};
+ghost use Rattle.table_audits.specs.Moves.{has_text};
+ghost use Rattle.table_audits.specs.Verdict.{Audits};
 
-use crate::known::Known;
 use crate::lookups::is_kept;
+use crate::rows::Known;
 use row_codec::count_of;
 use sqlite::{Alter, Connection, Error};
 use std::alloc::Global;

@@ -2,11 +2,9 @@ ghost use Rattle.std.specs.Prelude.{◌↔◌, ◌≡◌, IsTrue, List};
 ghost use Rattle.table_audits.specs.Common.{IsLawfulState, Tables, IsStation, IsOldStation, tables_of, old_tables_of, upgraded, Flight, FlightKey, flight_cmp, meaning_of, IsReadable, Database, First, Second, Reading, read_as, list_all, FinMap, entries, FlightDate, is_flight_row};
 ghost use Rattle.table_audits.specs.declared.name.TableName.{TableName};
 ghost use Rattle.table_audits.specs.Lawful.{IsLawfulTable};
-ghost use Rattle.table_audits.specs.declared.unfit.Unfit.{Unfit};
-ghost use Rattle.table_audits.specs.Good.{IsStationOf};
-ghost use Rattle.table_audits.specs.Verdict.{IsUnfit};
-ghost use Rattle.table_audits.specs.Sums.{AreDistinct, AreFlightsOf};
-ghost use Rattle.table_audits.specs.Audited.{flights_of};
+ghost use Rattle.table_audits.specs.declared.rows.Unfit.{Unfit};
+ghost use Rattle.table_audits.specs.Verdict.{IsStationOf, IsUnfit};
+ghost use Rattle.table_audits.specs.Moves.{AreDistinct, AreFlightsOf, flights_of};
 
 /// Tables that are lawful one by one are exactly those that mean a lawful state.
 pub fn lawful_tables_mean()

@@ -13,29 +13,24 @@ mod flight;
 mod judge;
 mod kept_key;
 mod kept_text;
-mod known;
 mod laws;
 mod lookups;
 mod name;
-mod numbers;
 mod old_waybill;
 mod outbox;
 mod part;
-mod postings;
 mod posts;
 mod rows;
-mod spots;
 mod state;
 mod station;
 mod stock;
 mod sums;
 mod trail;
-mod unfit;
 mod waybill;
 
 pub use laws::{
     flights_listed, lawful_is_station, lawful_tables_mean, station_is_fit, station_is_typed,
 };
 pub use name::TableName;
+pub use rows::Unfit;
 pub use state::{FoundState, found_state};
-pub use unfit::Unfit;

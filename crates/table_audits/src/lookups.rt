@@ -1,8 +1,13 @@
-ghost use Rattle.std.specs.Prelude.{◌≡◌, ◌↔◌, map, length, pos, ℕ, ℤ, IsTrue, IsSome};
-ghost use Rattle.table_audits.specs.Common.{is_ok, IsBinarySearchResult, IsSearchInRange, FinMap, entries, contains_key, has_key, waybill_id, flight_cmp, kept_text_cmp, waybill_meant, declared_in, flight_entry, kept_text_entry};
-ghost use Rattle.table_audits.specs.Order.{RisesByNumber};
+ghost use Rattle.std.specs.Prelude.{◌≡◌, ◌↔◌, map, length, pos, ℕ, ℤ, IsTrue, IsSome, true, List, ◌+◌, ◌++◌, ◌∷◌, [], Bool, IfOk, OnOk};
+ghost use Rattle.table_audits.specs.Common.{is_ok, IsBinarySearchResult, IsSearchInRange, FinMap, entries, contains_key, has_key, waybill_id, flight_cmp, kept_text_cmp, waybill_meant, declared_in, flight_entry, kept_text_entry, move_meant, NamesFlight, Place, Tables, Waybill, flight_date_of, are_flight_columns, is_built};
+ghost use Rattle.table_audits.specs.Moves.{RisesByNumber, AreBeside, IsSpotFound};
+ghost use Rattle.table_audits.specs.Taken.{AreSound, AreSoundOr, AreCounted};
 
-use station_rows::WaybillRow;
+use crate::sums::Spot;
+use row_codec::place_code;
+use shipment_machine::Place;
+use sqlite::{Error, ErrorCode};
+use station_rows::{MoveRow, WaybillRow};
 use std::cmp::Ordering;
 use table_load::{FlightEntry, KeptTextEntry};
 
@@ -62,4 +67,97 @@ pub(crate) fn is_kept(texts: &[KeptTextEntry], text: &str) -> bool
         → result ≡ contains_key rows text.now }
 {
     text_place(texts, text).is_ok()
+}
+
+fn is_built(place: &Place) -> bool
+    ensures { result ≡ is_built place.now }
+{
+    matches!(place, Place::Built(_))
+}
+
+/// Returns the flight of a move's row, by the index of its row in the table.
+fn flight_spot(row: &MoveRow, flights: &[FlightEntry]) -> Option<Spot>
+    ensures { (t : Tables) (ws : List Waybill) (place : Place)
+        → AreBeside t ws (map flight_entry flights.now)
+        → are_flight_columns (move_meant row.now).flight row.now.fday ≡ true
+        → is_built place ≡ true
+        → NamesFlight place (flight_date_of (move_meant row.now).flight row.now.fday)
+        → IsSpotFound t place result }
+{
+    match flight_place(flights, &row.flight, &row.fday) {
+        Ok(at) => Some(Spot::OnFlight(at)),
+        Err(_) => None,
+    }
+}
+
+/// Returns a place of a row's move for posting, or `None` if its flight has no row.
+pub(crate) fn spot_of(place: &Place, row: &MoveRow, flights: &[FlightEntry]) -> Option<Spot>
+    ensures { (t : Tables) (ws : List Waybill) → AreBeside t ws (map flight_entry flights.now)
+        → are_flight_columns (move_meant row.now).flight row.now.fday ≡ true
+        → NamesFlight place.now (flight_date_of (move_meant row.now).flight row.now.fday)
+        → IsSpotFound t place.now result }
+{
+    if is_built(place) {
+        return flight_spot(row, flights);
+    }
+    Some(Spot::Plain(place_code(place)))
+}
+
+/// Returns whether a number follows `count` rows numbered from 1.
+pub(crate) fn is_next(number: i64, count: u32) -> bool
+    ensures { IsTrue result ↔ (number ≡ pos (count + 1)) }
+{
+    number == i64::from(count) + 1
+}
+
+/// Adds one row. It fails above 4,294,967,295.
+pub(crate) fn one_more(count: u32) -> Result<u32, Error>
+    ensures { IfOk result (λ more. more ≡ count + 1) }
+{
+    match count.checked_add(1) {
+        Some(more) => Ok(more),
+        None => Err(Error::SqliteFailure(ErrorCode::TooBig)),
+    }
+}
+
+/// Returns the number of rows with the next one, or `None` if that has a wrong number or isn't
+/// lawful. It fails above 4,294,967,295.
+fn counted(count: u32, number: i64, is_lawful: bool) -> Result<Option<u32>, Error>
+    ensures { (rows : List (ℤ × Bool)) → AreSound rows → count ≡ length rows
+        → IfOk result (AreSoundOr (rows ++ (number, is_lawful) ∷ [])) }
+{
+    if !is_lawful {
+        return Ok(None);
+    }
+    if !is_next(number, count) {
+        return Ok(None);
+    }
+    Ok(Some(one_more(count)?))
+}
+
+/// The audit of rows that are numbered from 1 and added one after another.
+#[derive(Drop)]
+pub(crate) struct NumberedRows {
+    /// The number of rows, or `None` if one of them has a wrong number or isn't lawful.
+    pub(crate) count: Option<u32>,
+}
+
+impl NumberedRows {
+    /// Starts without rows.
+    pub(crate) fn new() -> NumberedRows
+        ensures { AreCounted result [] }
+    {
+        NumberedRows { count: Some(0) }
+    }
+
+    /// Adds the next row. It fails above 4,294,967,295.
+    pub(crate) fn add(&mut self, number: i64, is_lawful: bool) -> Result<(), Error>
+        ensures { (rows : List (ℤ × Bool)) → AreCounted self.old rows
+            → OnOk result (AreCounted self.new (rows ++ (number, is_lawful) ∷ [])) }
+    {
+        if let Some(count) = self.count {
+            self.count = counted(count, number, is_lawful)?;
+        }
+        Ok(())
+    }
 }

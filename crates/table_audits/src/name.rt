@@ -1,6 +1,5 @@
 ghost use Rattle.std.specs.Prelude.{◌≡◌, ◌∷◌, MatchOption};
-ghost use Rattle.table_audits.specs.Good.{before};
-ghost use Rattle.table_audits.specs.Names.{name_text};
+ghost use Rattle.table_audits.specs.Verdict.{before, name_text};
 ghost use Rattle.table_audits.specs.declared.name.TableName.TheVariants as table;
 
 use std::fmt;

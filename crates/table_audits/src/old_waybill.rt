@@ -2,9 +2,9 @@ ghost use Rattle.std.specs.Prelude.{◌≡◌, ◌↔◌, map, IsTrue};
 ghost use Rattle.table_audits.specs.Common.{FindsTable, HoldsOldWaybills, Tables, old_waybill_entry, Survives, state};
 ghost use Rattle.table_audits.specs.Lawful.{IsLawfulTable};
 ghost use Rattle.table_audits.specs.declared.name.TableName.TheVariants as table;
-ghost use Rattle.table_audits.specs.Judged.{Audits};
+ghost use Rattle.table_audits.specs.Verdict.{Audits};
 
-use crate::known::Known;
+use crate::rows::Known;
 use sqlite::{Alter, Connection, Error};
 use std::alloc::Global;
 use table_load::{FileVersion, OldWaybillEntry, found_rows};

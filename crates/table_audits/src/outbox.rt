@@ -2,10 +2,10 @@ ghost use Rattle.std.specs.Prelude.{◌≡◌};
 ghost use Rattle.table_audits.specs.declared.name.TableName.TheVariants as table;
 ghost use Rattle.table_audits.specs.Taken.{if_confirmed, AreMessagesTaken};
 ghost use Rattle.table_audits.specs.Common.{Survives, state};
-ghost use Rattle.table_audits.specs.Judged.{Audits};
+ghost use Rattle.table_audits.specs.Verdict.{Audits};
 
-use crate::known::Known;
-use crate::numbers::NumberedRows;
+use crate::lookups::NumberedRows;
+use crate::rows::Known;
 use sqlite::{Alter, Connection, Error};
 use station_rows::MessageRow;
 use std::alloc::Global;

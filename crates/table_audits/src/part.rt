@@ -1,9 +1,9 @@
 ghost use Rattle.std.specs.Prelude.{◌≡◌};
 ghost use Rattle.table_audits.specs.Common.{part_entry, is_part_row, Survives, state};
 ghost use Rattle.table_audits.specs.declared.name.TableName.TheVariants as table;
-ghost use Rattle.table_audits.specs.Judged.{Audits};
+ghost use Rattle.table_audits.specs.Verdict.{Audits};
 
-use crate::known::Known;
+use crate::rows::Known;
 use row_codec::part_by;
 use sqlite::{Alter, Connection, Error};
 use std::alloc::Global;

@@ -4,8 +4,8 @@ ghost use Rattle.table_audits.specs.Verdict.{Judges};
 
 use crate::TableName;
 use crate::judge::judged_tables;
+use crate::rows::Unfit;
 use crate::station::audited_row;
-use crate::unfit::Unfit;
 use imp_fields::Airport;
 use sqlite::{Alter, Connection, Error};
 use station_core::Sizes;

@@ -4,7 +4,7 @@ ghost use Rattle.table_audits.specs.Lawful.{IsLawfulTable};
 ghost use Rattle.table_audits.specs.declared.name.TableName.TheVariants as table;
 
 use crate::book::{Book, BookBeside};
-use crate::known::Known;
+use crate::rows::Known;
 use crate::sums::BookSums;
 use imp_fields::Airport;
 use row_codec::count_of;

@@ -2,12 +2,11 @@ ghost use Rattle.std.specs.Prelude.{◌≡◌, ◌↔◌, ◌≤◌, ◌+◌, �
 ghost use Rattle.table_audits.specs.Common.{AllByRecursion, entries, Used, Tables, waybill_meant, stock_meant, is_behind, are_apart, Survives, state};
 ghost use Rattle.table_audits.specs.Lawful.{IsLawfulTable};
 ghost use Rattle.table_audits.specs.declared.name.TableName.TheVariants as table;
-ghost use Rattle.table_audits.specs.Order.{RisesByNumber};
-ghost use Rattle.table_audits.specs.Rows.{AreDeclared, IsLawfulStock};
-ghost use Rattle.table_audits.specs.Judged.{Audits};
+ghost use Rattle.table_audits.specs.Moves.{RisesByNumber, AreDeclared, IsLawfulStock};
+ghost use Rattle.table_audits.specs.Verdict.{Audits};
 
-use crate::known::Known;
 use crate::lookups::is_declared;
+use crate::rows::Known;
 use agent_stock::{Holder, StockRun};
 use row_codec::{awb_key, run_by};
 use sqlite::{Alter, Connection, Error};

@@ -1,6 +1,6 @@
 ghost use Rattle.std.specs.Prelude.{◌≡◌, ◌∷◌, [], ◌++◌, ℕ, pos, false, List, Some, OnOk, slice_get};
 ghost use Rattle.table_audits.specs.Common.{FlightDate, Move, Place, Built, running, Sums, place_code, posting, is_built};
-ghost use Rattle.table_audits.specs.Sums.{AreDistinct, AreSums, IsSpot, IsPosting};
+ghost use Rattle.table_audits.specs.Moves.{AreDistinct, AreSums, IsSpot, IsPosting};
 
 use crate::posts::{NoRoom, post};
 use row_codec::Tally;

@@ -1,14 +1,12 @@
 ghost use Rattle.std.specs.Prelude.{◌≡◌, map};
 ghost use Rattle.table_audits.specs.Common.{waybill_meant, trail_meant, Survives, state};
 ghost use Rattle.table_audits.specs.declared.name.TableName.TheVariants as table;
-ghost use Rattle.table_audits.specs.Order.{RisesByNumber};
-ghost use Rattle.table_audits.specs.Rows.{is_lawful_line};
+ghost use Rattle.table_audits.specs.Moves.{RisesByNumber, is_lawful_line};
 ghost use Rattle.table_audits.specs.Taken.{AreLinesTaken};
-ghost use Rattle.table_audits.specs.Judged.{Audits};
+ghost use Rattle.table_audits.specs.Verdict.{Audits};
 
-use crate::known::Known;
-use crate::lookups::is_declared;
-use crate::numbers::NumberedRows;
+use crate::lookups::{NumberedRows, is_declared};
+use crate::rows::Known;
 use row_codec::{awb_key, waybill_of_line};
 use sqlite::{Alter, Connection, Error};
 use station_rows::{TrailRow, WaybillRow};

@@ -1,10 +1,10 @@
 ghost use Rattle.std.specs.Prelude.{◌≡◌, map, IfOk};
 ghost use Rattle.table_audits.specs.Common.{FindsTable, undated_row, HoldsWaybills, waybill_meant, Survives, state};
 ghost use Rattle.table_audits.specs.declared.name.TableName.TheVariants as table;
-ghost use Rattle.table_audits.specs.Rows.{is_lawful_waybill};
-ghost use Rattle.table_audits.specs.Judged.{Audits};
+ghost use Rattle.table_audits.specs.Moves.{is_lawful_waybill};
+ghost use Rattle.table_audits.specs.Verdict.{Audits};
 
-use crate::known::Known;
+use crate::rows::Known;
 use row_codec::waybill_by;
 use sqlite::{Alter, Connection, Error};
 use station_rows::WaybillRow;

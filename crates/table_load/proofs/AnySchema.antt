@@ -2,36 +2,32 @@
 use Rattle.table_load.proofs.Common.{AllByRecursion, AreShown, AreSorts, Binary, Bool, Checked, Compiled, Core, Err, Expr, Expr-F, IsPlainCore, IsPlainSelect, IsPlainSource, IsSelect, List, Mismatch, None, Ok, Option, Parsed, Query, Schema, Shown-F, Some, Sort, Source, Table, [], and_then, ap, arith, column_named, end, false, fresh, if◌then◌else◌, inner, length, length-map, map, max_budget, misses_table, nat_lt, negsuc, out-Core, out-Expr, out-Sort, place_of, pos, position_from, reads_listing, refl, slice_get, suc, sym, table_named, true, ℕ, ◌&&◌, ◌++◌, ◌+◌, ◌-◌, ◌<◌, ◌∙◌, ◌∷◌, ◌≡◌}
 use Rattle.std.proofs.lemmas.Bool.Decides.{nat_tests}
 use Rattle.sqlite_schema.specs.declared.schema.Column.{Column as Column'}
-use Rattle.sqlite_sql.specs.Term.{Term, col}
+use Rattle.sqlite_sql.specs.Term.{Term, col, lit}
 use Rattle.sqlite_value.specs.declared.keys.Key.{Key}
 use Rattle.sqlite_ast.specs.declared.Shown.{Shown, out-Shown}
 use Rattle.sqlite_resolve.specs.declared.scope.Bound.{Bound}
 use Rattle.sqlite_resolve.specs.declared.scope.Output.{Output}
 use Rattle.sqlite_resolve.specs.declared.scope.Found.TheVariants.{Column}
 use Rattle.sqlite_resolve.specs.declared.state.State.{State}
-use Rattle.sqlite_resolve.specs.Lowering.{alone, spend, begin, finish}
+use Rattle.sqlite_resolve.specs.Lowering.{alone, spend, begin, finish, take_slot}
 use Rattle.sqlite_resolve.specs.Scope.{Context, column_in, find, in_level, only, hit, is_among, column_at, column, term_of, declared}
 use Rattle.sqlite_resolve.specs.Expr.{lower_to, lower, node, opened, passes}
-use Rattle.sqlite_resolve.specs.Body.{outputs_from, shown, heading, is_column}
+use Rattle.sqlite_resolve.specs.Body.{outputs_from, shown, heading, is_column, table_in, bound, bounds, outputs, result, tests, inner_join, join, joins, matching, body, shared}
 use Rattle.sqlite_resolve.specs.Order.{sorts_from, sorts, sort, key, keys, alias_in, peeled, is_numeral, collation_of, written_on, placed}
 use Rattle.sqlite_value.specs.declared.value.Value.TheVariants.{Int}
-use Rattle.sqlite_sql.specs.Term.{lit}
 use Rattle.sqlite_schema.specs.declared.program.Program.{Program}
 use Rattle.sqlite_schema.specs.declared.command.Command.{Command}
 use Rattle.sqlite_schema.specs.declared.command.Command.TheVariants as command'
 use Rattle.sqlite_typing.specs.Types.{accepts_program}
 use Rattle.sqlite_resolve.specs.Program.{query, query_to, level, with, whole, alone as alone', single, sources, source, viewing, program}
 use Rattle.sqlite_resolve.specs.Compile.{read, command, meaning, planned, compiled, first, timed, returning}
-use Rattle.sqlite_resolve.specs.Select.{constant_or}
+use Rattle.sqlite_resolve.specs.Select.{constant_or, outermost, having, parts, ungrouped, assembled, named as named', paging}
 use Rattle.sqlite.specs.Listing.{understood}
 use Rattle.sqlite_ast.specs.declared.Select.{Select, out-Select}
 use Rattle.sqlite_draft.specs.declared.join.Step.TheVariants.{Inner}
 use Rattle.sqlite_draft.specs.declared.query.Draft.{Draft}
 use Rattle.sqlite_resolve.specs.declared.body.Joined.{Joined}
 use Rattle.sqlite_resolve.specs.declared.select.Clauses.{Clauses}
-use Rattle.sqlite_resolve.specs.Lowering.{take_slot}
-use Rattle.sqlite_resolve.specs.Body.{table_in, bound, bounds, outputs, result, tests, inner_join, join, joins, matching, body, shared}
-use Rattle.sqlite_resolve.specs.Select.{outermost, having, parts, ungrouped, assembled, named as named', paging}
 
 no_alias : (cname : List ℕ) (from : ℕ) (outs : List Output) → AllByRecursion (λ o. o.is_alias ≡ false) outs → position_from (λ o. o.is_alias && Rattle.sqlite_schema.specs.Names.same_name o.name cname) from outs ≡ None
 no_alias cname from [] all = refl

@@ -7,7 +7,7 @@ use Rattle.sqlite_resolve.specs.declared.error.CompileError.{CompileError}
 use Rattle.sqlite_trees.specs.declared.store.Store.{Ghosts}
 use Rattle.std.specs.declared.cmp.Ordering.{Ordering}
 use Rattle.sqlite.proofs.StreamLemmas.{given_plain, rolled_back_since}
-use Rattle.station_schema.specs.Streams.{Moves}
+use Rattle.station_schema.specs.Connection.{Moves}
 use Rattle.table_load.proofs.WholeLemmas.{at_rest}
 
 survives_same : (s : State) → Survives s s (λ _. ⊥)

@@ -41,8 +41,6 @@ pub use Rattle.sqlite_value.specs.declared.keys.Key.{Key}
 pub use Rattle.station_rows.specs.Meant.{build_meant, count_meant, message_meant, move_meant, stock_meant, trail_meant, waybill_meant}
 pub use Rattle.station_rows.specs.Shown.{message_shown, move_shown, trail_shown, waybill_shown}
 pub use Rattle.station_rows.specs.declared.waybills.WaybillRow.{WaybillRow}
-pub use Rattle.station_schema.specs.Calls.{Alters, CommitsNothing}
-pub use Rattle.station_schema.specs.Effects.{IsSettled, IsUndone, Reads, Stops}
-pub use Rattle.station_schema.specs.Own.{IsOwn}
-pub use Rattle.station_schema.specs.Streams.{Moves}
+pub use Rattle.station_schema.specs.Connection.{Alters, CommitsNothing, IsOwn, Moves}
+pub use Rattle.station_schema.specs.Schema.{IsSettled, IsUndone, Reads, Stops}
 pub use Rattle.station_schema.specs.Tables.{Build, BuildKey, Count, CountKey, Expected, ExpectedKey, Flight, FlightKey, IsOldStation, IsStation, Kept, Message, Move, OldWaybill, PartKey, Station, Stock, StockKey, Tables, TrailLine, Waybill, build_cmp, build_row, count_cmp, count_row, expected_cmp, expected_row, flight_cmp, flight_row, kept_cmp, kept_row, kept_text_cmp, kept_text_row, message_id, move_id, old_tables_of, old_waybill_id, part_cmp, part_row, raised, stock_cmp, stock_row, tables_of, trail_id, undated, upgraded, waybill_id}

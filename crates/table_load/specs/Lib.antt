@@ -1,10 +1,3 @@
 pub mod Common
 pub mod Held
-pub mod Raw
-pub mod Reading
-pub mod Selects
-pub mod Typed
-pub mod Verdict
-pub mod Walks
-pub mod Whole
 pub mod Upgrade

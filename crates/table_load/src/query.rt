@@ -1,8 +1,7 @@
 ghost use Rattle.std.specs.Prelude.{◌≡◌, IsTrue, map, is_some};
 ghost use Rattle.table_load.specs.Common.{HasCleanDisk, Survives, state, Reads};
-ghost use Rattle.table_load.specs.Raw.{found, place_by_name, places_by_name};
-ghost use Rattle.table_load.specs.Selects.{IsQuery, column_names};
-ghost use Rattle.table_load.specs.Whole.{is_whole, ShowsWhole};
+ghost use Rattle.table_load.specs.Held.{found, place_by_name, places_by_name, is_whole, ShowsWhole};
+ghost use Rattle.table_load.specs.Upgrade.{IsQuery, column_names};
 
 use sqlite::{Alter, Connection, Error, Row};
 use sqlite_schema::schema::{Schema, Table};

@@ -1,6 +1,6 @@
 ghost use Rattle.std.specs.Prelude.{◌≡◌, IfOk, IsTrue};
 ghost use Rattle.table_load.specs.Common.{int_eq, HasCleanDisk, Survives, state, Reads};
-ghost use Rattle.table_load.specs.Verdict.{station_name, has_table, version_number, found_in_row, found_in_rows, station_of, found_meant};
+ghost use Rattle.table_load.specs.Held.{station_name, has_table, version_number, found_in_row, found_in_rows, station_of, found_meant};
 
 use crate::{TableQuery, number, table_rows, words};
 use sqlite::{Alter, Connection, Error, Row};

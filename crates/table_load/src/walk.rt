@@ -1,11 +1,9 @@
 ghost use Rattle.std.specs.Prelude.{◌≡◌, ◌++◌, ◌∷◌, [], ℕ, List, IfOk, OnOk, IsTrue};
 ghost use Rattle.table_load.specs.Common.{HasGiven, state, HasCleanDisk, Survives, CommitsShowing, Moves};
 ghost use Rattle.sqlite.specs.Order.{Row as Values};
-ghost use Rattle.table_load.specs.Whole.{Agrees, AreLawful};
-ghost use Rattle.table_load.specs.Walks.{follows, IsTyped, IsWalked, IsReadOnly, TellsRows, Walks};
+ghost use Rattle.table_load.specs.Held.{Agrees, AreLawful, follows, IsTyped, IsWalked, IsReadOnly, TellsRows, Walks};
 
 use crate::cells::{Cells, RowError};
-use crate::fold::RowFold;
 use crate::tables::KeyedRow;
 use sqlite::{Alter, Connection, Error, ErrorCode, Row, Rows};
 use std::alloc::Global;
@@ -167,4 +165,48 @@ pub(crate) fn ended<T: KeyedRow, F: RowFold<T> + Drop>(
         fold.take(beside, row)?;
     }
     Ok(Some(fold))
+}
+
+/// A fold over the rows of a table, with what was read before.
+pub trait RowFold<Row> {
+    ghost use Rattle.std.specs.Prelude.{◌++◌, ◌∷◌, [], List, OnOk};
+
+    /// The values read before the table.
+    type Beside;
+
+    /// The relation of a fold to the rows that it took, in order.
+    ghost has: { Self.Beside → Self → List Row → Type 0 };
+
+    /// Takes the next row. It fails if memory runs out, or the row can't be numbered.
+    fn take(&mut self, beside: &Self::Beside, row: Row) -> Result<(), Error>
+        ensures { (rows : List Row) → has beside.now self.old rows
+            → OnOk result (has beside.now self.new (rows ++ row ∷ [])) };
+}
+
+/// The rows, as a fold.
+#[derive(Drop)]
+pub(crate) struct Collected<Row> {
+    pub(crate) rows: Vec<Row>,
+}
+
+impl<Row> Collected<Row> {
+    /// Starts without rows.
+    pub(crate) fn new(alloc: Global) -> Collected<Row>
+        ensures { result.rows.items ≡ [] }
+    {
+        Collected {
+            rows: Vec::new(alloc),
+        }
+    }
+}
+
+impl<Row: Drop> RowFold<Row> for Collected<Row> {
+    type Beside = ();
+
+    ghost has = { λ _ collected rows. collected.rows.items ≡ rows };
+
+    fn take(&mut self, beside: &(), row: Row) -> Result<(), Error> {
+        let _ = beside;
+        Ok(self.rows.push(row)?)
+    }
 }

@@ -5,9 +5,9 @@ use Rattle.std.specs.declared.cmp.Ordering.{Ordering}
 use Rattle.std.specs.List.Sorted.{IsStrictlySortedBy}
 use Rattle.std.specs.Option.{option_map, unwrap_or}
 use Rattle.std.proofs.lemmas.Map.Keys.{sorted_head, sorted_tail}
-use Rattle.shipment_machine.specs.Amount.{amount}
+use Rattle.shipment_machine.specs.Book.{amount}
 use Rattle.shipment_machine.specs.declared.moves.Balances.{Balances}
-use Rattle.shipment_machine.specs.Numbers.{IsAscending as Rising}
+use Rattle.shipment_machine.specs.Cargo.{IsAscending as Rising}
 
 abbrev pub numbers : List WaybillBalances → List ℕ
 numbers rows = map (λ row. row.awb) rows

@@ -1,20 +1,20 @@
 -- What a row that was written makes of the state that is shown.
 use Rattle.table_state.proofs.Common.{AreBoarded, AreBuilds, AreCounts, AreCovered, AreKnown, AreNumbered, Bool, Build, Count, Declared, Err, FinMap, FlightDate, FlightSpans, HasOpen, HaveAsked, Holders, IfErr, IsCounted, IsReadable, IsRequest, IsShowing, IsTrue, KnownCounts, Knows, Lines, List, Means, Move, None, Ok, OpenLines, Option, Part, Restocked, Result, Shows, Sizes, Some, State, Stock, Stocked, Tables, Tells, View, WereThere, [], after_order, ap, at_rest, book_in, book_told, build_cmp, confirming, count_cmp, count_fits, expected_key, expected_row, false, flight_key, flight_text, get_by, holders_in, if◌then◌else◌, is_count, is_designator, is_expected_row, is_flight_row, is_message_row, is_move_row, is_part_row, is_run, is_trail_row, is_utf8, is_waybill_row, kept_row, length, length-append, line_row, list_all, lowest_failing, meaning_of, message_row, move_id, on_cargo, order_refusal, outbound_row, part_key, pos, put_over, putting_waybill, refl, refusal_number, refused_by, restocked, run_of, running, sizes_of, stock_cmp, subst, sym, test_of, true, using_up, waybill_id, waybill_row, with_expected, with_flight, with_kept, with_kept_text, with_key, with_line, with_message, with_messages, with_move, with_moves, with_order, with_part, with_text, with_trail_line, written, ℕ, ℤ, ◌++◌, ◌+◌, ◌<◌, ◌∙◌, ◌∷◌, ◌≡◌}
-use Rattle.agent_stock.specs.Refusing.{OnRefused, RefusesBy}
+use Rattle.agent_stock.specs.Stock.{OnRefused, RefusesBy}
 use Rattle.agent_stock.specs.declared.stock.Order.{Order}
 use Rattle.agent_stock.specs.declared.stock.StockFault.{StockFault}
 use Rattle.agent_stock.specs.declared.stock.StockFault.TheVariants as fault
 use Rattle.shipment_machine.specs.declared.moves.Outbound.{Outbound}
 use Rattle.shipment_machine.specs.declared.moves.Expected.{Expected}
 use Rattle.shipment_machine.specs.declared.plans.Change.TheVariants.{Declare, UseUp, NoteFlight, Expect, NotePart, Trail, Confirm}
-use Rattle.station_core.specs.Key.{is_key}
+use Rattle.station_core.specs.Readers.{is_key}
 use Rattle.station_core.specs.Step as step
 use Rattle.station_schema.specs.Store as row
 use Rattle.station_schema.specs.Tables as table
 use Rattle.row_codec.proofs.Moving.{HasMove}
 use Rattle.row_codec.proofs.Written.{waybill_written, waybill_changed, flight_written, expected_written, part_written, key_kept, text_kept, line_written, message_written, mark_written, move_written}
 use Rattle.state_store.specs.Store.{inside}
-use Rattle.table_state.specs.Recorded.{Recorded}
+use Rattle.table_state.specs.Shown.{Recorded}
 use Rattle.table_state.proofs.Lifting.{writes_on, reached}
 
 put_means : (t : Tables) (s : State) (text : List ℕ) (w : ℕ) (d : Declared) (new : table.Waybill) → new ≡ waybill_row w d → is_waybill_row (waybill_row w d) ≡ true → Means t (Some s)

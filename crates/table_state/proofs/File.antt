@@ -5,8 +5,8 @@ use Rattle.sqlite.specs.State.{State, Survives}
 use Rattle.sqlite.specs.Tree.{Trees}
 use Rattle.sqlite.proofs.StateLemmas.{survives_weaker}
 use Rattle.station_core.specs.Step as step
-use Rattle.station_schema.specs.Own.{IsNewStation}
-use Rattle.table_state.specs.File.{IsFileOf}
+use Rattle.station_schema.specs.Connection.{IsNewStation}
+use Rattle.table_state.specs.Shown.{IsFileOf}
 use Rattle.table_state.proofs.NewState.{opening_means}
 
 -- the trees of a new station mean a station with nothing in it

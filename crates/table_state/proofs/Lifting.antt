@@ -2,9 +2,9 @@
 use Rattle.table_state.proofs.Common.{AreBoarded, AreCovered, AreKnown, Changes, Displays, Err, Finds, FlightSpans, HasOpen, HaveAsked, IfGivenBack, IfOk, IsCounted, IsShowing, KnownCounts, Knows, List, MayCommit, Means, Ok, OnErr, OnOk, OpenLines, Option, Reads, ReadsAtRest, Result, Seen, Shows, ShowsStill, Some, Stands, State, Storing, Survives, TableState, Tables, View, WasOpen, at_rest, false, in_tables, inl, inr, refl, running, same_meaning, subst, sym, true, ℕ, ⊎_elim, ◌∙◌, ◌≡◌, ◌⊎◌}
 use Rattle.station_schema.specs.Store as row
 use Rattle.row_codec.specs.declared.known.KnownSums.{KnownSums}
-use Rattle.station_rows.specs.Clauses as rows
+use Rattle.station_rows.specs.Shown as rows
 use Rattle.state_store.specs.Store.{inside}
-use Rattle.table_state.specs.declared.missed.Missed.{Missed}
+use Rattle.table_state.specs.declared.flown.Missed.{Missed}
 
 -- what is said of each answer of a call is said of its result
 pub of_answer : {X E : Type 0} (Q : X → Type 0) (r : Result X E) → ((x : X) → r ≡ Ok x → Q x) → IfOk r Q

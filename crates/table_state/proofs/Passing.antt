@@ -1,7 +1,7 @@
 -- What rows of tables do to the sink that they are handed on to.
 use Rattle.table_state.proofs.Common.{Bool, Err, HandedOut, Hands, HandsIfOpen, HandsOf, HandsOut, IsErr, IsOk, KnownCounts, Knows, List, Means, Ok, OnOk, Result, Shows, Some, State, TableState, Tables, View, [], ap, at_rest, false, in_tables, inl, inr, length, map, refl, subst, subst₂, suc, sym, take, take-length, take-map, true, zero, ℕ, ◌∙◌, ◌∷◌, ◌≡◌, ◌⊎◌}
 use Rattle.station_schema.specs.Store as row
-use Rattle.station_rows.specs.Clauses as rows
+use Rattle.station_rows.specs.Shown as rows
 use Rattle.table_state.specs.Shown as shown
 use Rattle.table_state.proofs.Lifting.{rests_on, seen_in, survives_so}
 use Rattle.table_state.specs.Handing.{Tells}

@@ -1,6 +1,6 @@
 -- A row that is written over the one with its key.
 use Rattle.table_state.proofs.Common.{Bool, Displays, Expected, ExpectedKey, ExpectedRow, FinMap, Flight, FlightKey, FlightRow, IsShowing, None, Option, Ordering, Some, Tables, View, Waybill, WaybillRow, ap, changing_expected, changing_flight, changing_waybill, expected_meant, false, flight_meant, get, get_by, insert, inside, is_some, option_map, put_over, putting_waybill, subst, sym, true, unwrap_or, waybill_id, waybill_meant, with_expected, with_flight, with_waybill, ◌∙◌, ◌≡◌}
-use Rattle.station_schema.specs.ColumnKeys.{adjust}
+use Rattle.station_schema.specs.Tables.{adjust}
 
 adjusts : {K V A : Type 0} {R : K → K → Ordering} (m : FinMap R V) (k : K) (meant : A → V) (found : Option A) (new : V) → is_some found ≡ true → option_map meant found ≡ get m k → adjust m k (λ _. new) ≡ insert m k new
 adjusts m k meant None new some has = absurd (cc)

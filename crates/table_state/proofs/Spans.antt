@@ -2,7 +2,7 @@
 use Rattle.std.proofs.Common.{◌≡◌, ℕ, suc, ◌+◌, ◌<◌, ◌≤◌, ◌==◌, ◌&&◌, ◌||◌, ℤ, pos, negsuc, Bool, true, false, cond, Option, Some, List, [], ◌∷◌, ◌++◌, map, filter, length, refl, sym, ap, ap₂, subst, ◌∙◌, arith}
 use Rattle.table_state.proofs.Common.{All, All-cons, All-head, All-nil, All-push, All-same, All-tail, All-weaker, AreCovered, Built, Covers, FlightDate, HandedOut, IsCovered, IsSpanned, LiesIn, Means, On, State, Tables, book_by, book_handed, book_on, book_row, book_row_by, flight_text, int_le, int_lt, ints, is_designator, is_flown, is_flown_within, is_move_after, is_move_row, is_named, is_of_flight, list_all, natural, numbered, same_flight, same_flight_date}
 use Rattle.std.specs.BTreeMap.{BTreeMap}
-use Rattle.shipment_machine.specs.Places.{same_place}
+use Rattle.shipment_machine.specs.Book.{same_place}
 use Rattle.shipment_machine.specs.declared.moves.Move as cargo
 use Rattle.station_core.specs.declared.rows.BookRow.{BookRow}
 use Rattle.station_schema.specs.Tables.{Move}

@@ -1,12 +1,83 @@
 -- What a store of tables shows of a state.
-use Rattle.std.specs.Prelude.{◌≡◌, ℕ, ℤ, pos, ◌+ℤ◌, int_lt, Bool, true, false, not, ◌&&◌, ◌||◌, List, length, All, Option, Some, IfSome}
-use Rattle.table_state.specs.Common.{BTreeSet, balances_of, in_store, same_place, waybills_on, is_in, Move, Missing, Surplus, expected_for, State, Open, Tables, View, IsAtRest, running, Means, AreKnown, Lines, lines_in, Seen, Storing, is_asked_for, ExpectedLines, WaybillQuery, Irregular, Stored, sizes_of, Sizes}
+use Rattle.std.specs.Prelude.{◌≡◌, ℕ, Bool, ◌||◌, nat_lt, List, Some, true, false, Option, None, IsTrue, ◌≤◌, ◌<◌, All, IfSome, ℤ, pos, ◌+ℤ◌, int_lt, not, ◌&&◌, length}
+use Rattle.table_state.specs.Common.{BTreeSet, contains, nat_cmp, Balances, Move, has_come, AnnouncedRow, Waybill, natural, declared_by, Trees, IsOwn, tables_of, Means, State, IsLawfulState, get_by, Tables, waybill_id, with_waybill, changing_waybill, View, with_move, move_row, move_by, is_move_row, Posted, BTreeMap, get, FlightDate, numbered, book_row, is_of_flight, BookRow, balances_of, in_store, same_place, waybills_on, is_in, Missing, Surplus, expected_for, Open, IsAtRest, running, AreKnown, Lines, lines_in, Seen, Storing, is_asked_for, ExpectedLines, WaybillQuery, Irregular, Stored, sizes_of, Sizes, at_rest}
+use Rattle.station_schema.specs.Tables as table
+use Rattle.row_codec.proofs.SameMeaning.{same_meaning}
+use Rattle.table_state.specs.declared.flight_spans.Span.{Span}
 use Rattle.table_state.specs.declared.counted.Boarded.{Boarded}
 use Rattle.table_state.specs.declared.counted.Boardings.{Boardings}
 use Rattle.table_state.specs.declared.counted.KnownCounts.{KnownCounts}
 use Rattle.table_state.specs.declared.state.TableState.{TableState}
 use Rattle.table_state.specs.declared.waybill_sets.WaybillSets.{WaybillSets}
-use Rattle.table_state.specs.Spans.{AreCovered}
+
+-- The waybills of which pieces have come in, and the rows that announce the others.
+
+-- pieces of a waybill with these balances have come in: received or found
+abbrev pub has_come_by : Balances → Bool
+has_come_by b = nat_lt 0 b.taken.pieces || nat_lt 0 b.found.pieces
+
+-- the numbers are those of a book's waybills of which pieces have come in
+abbrev pub HaveCome : BTreeSet ℕ → List Move → Type 0
+HaveCome numbers book = (w : ℕ) → contains nat_cmp numbers w ≡ has_come book w
+
+-- what a row declares, as readers are given it
+abbrev pub announced_by : Waybill → AnnouncedRow
+announced_by row = record { awb = natural row.awb; declared = declared_by row }
+
+-- A file that a station wrote.
+
+-- A station declared the tables of these trees, and they mean this state, which is lawful.
+pub record IsFileOf (db : Trees) (s : State) : Type 0 where
+  pub own : IsOwn db
+  pub means : Means (tables_of db) (Some s)
+  pub lawful : IsLawfulState s
+
+-- A row that is written over the one with its key, or anew.
+
+abbrev pub put_over : Option Waybill → Waybill → Tables → Tables
+put_over None new tables = with_waybill new tables
+put_over (Some was) new tables = changing_waybill new tables
+
+-- anew where the row is said to be missing, and where none has its key
+abbrev pub putting_waybill : Bool → Waybill → Tables → Tables
+putting_waybill true new tables = with_waybill new tables
+putting_waybill false new tables = put_over (get_by waybill_id tables.waybills new.awb) new tables
+
+-- A move that was written, with what it changes of the running counts.
+
+-- in a transaction a store shows these tables with one move more, under this number, and the
+-- running counts of this book
+pub record Recorded (v : View) (before now : Tables) (n : ℕ) (m : Move) (book : List Move) : Type 0 where
+  pub row : table.Move
+  pub is : row ≡ move_row n m
+  pub fits : IsTrue (is_move_row (move_row n m))
+  pub again : move_by (move_row n m) ≡ m
+  pub posted : Posted v before (with_move row now) book
+
+-- The part of the book in which the moves of a day's flights lie.
+
+-- a number lies in a span
+abbrev pub LiesIn : Span → ℕ → Type 0
+LiesIn span n = (span.after < n) × (n ≤ span.last)
+
+-- where spans are kept, the day has one, and a number lies in it
+abbrev pub IsSpanned : Option (BTreeMap ℕ Span) → ℕ → ℕ → Type 0
+IsSpanned kept day n =
+    IfSome kept (λ spans. (span : Span) × (get nat_cmp spans day ≡ Some span) × LiesIn span n)
+
+-- the number of a move lies in the span of the day of each flight that it is of
+abbrev pub IsCovered : Option (BTreeMap ℕ Span) → BookRow → Type 0
+IsCovered kept row =
+    (f : FlightDate) → is_of_flight f row.movement ≡ true → IsSpanned kept f.day row.number
+
+-- so it is of each move of a book
+abbrev pub AreCovered : Option (BTreeMap ℕ Span) → List Move → Type 0
+AreCovered kept book = All (IsCovered kept) (numbered book_row 1 book)
+
+-- the spans after a move: nothing leaves them, and the move is covered
+pub record Covers (old new : Option (BTreeMap ℕ Span)) (row : BookRow) : Type 0 where
+  pub grows : (day n : ℕ) → IsSpanned old day n → IsSpanned new day n
+  pub there : IsCovered new row
 
 -- the tables mean what is shown; between two transactions they are those of the last commit
 pub record Stands (v : View) (x : Seen) : Type 0 where
@@ -101,3 +172,9 @@ pub record HasThese (t : Tables) (v : View) : Type 0 where
   pub is_open : v.is_open ≡ true
   pub at_rest : IsAtRest v
   pub now_is : v.now ≡ t
+
+-- What is known of every state that tables show.
+
+pub finds_what_it_shows : (v : View) (s : State) → Holds v (at_rest s) → (found : Option State)
+    → Finds v found → found ≡ Some s
+finds_what_it_shows v s holds found finds = same_meaning finds.tables s found (holds.found finds.tables finds.left) finds.means

@@ -1,9 +1,9 @@
 //! The parts of the book in which the moves of flights lie, as far as they are known.
 ghost use Rattle.std.specs.Prelude.{◌≡◌, ◌∷◌, [], ◌++◌, ◌+◌, length, ℕ, true, List, Some, IfSome};
-ghost use Rattle.shipment_machine.specs.Places.{same_place};
+ghost use Rattle.shipment_machine.specs.Book.{same_place};
 ghost use Rattle.table_state.specs.Common.{FlightDate, Built, book_row, is_of_flight, BookRow};
 ghost use Rattle.shipment_machine.specs.declared.moves.Move as cargo;
-ghost use Rattle.table_state.specs.Spans.{AreCovered, Covers, IsCovered, IsSpanned, LiesIn};
+ghost use Rattle.table_state.specs.Shown.{AreCovered, Covers, IsCovered, IsSpanned, LiesIn};
 
 use shipment_machine::{FlightDate, Move, Place};
 use station_core::{BookRow, Sink};

@@ -1,4 +1,6 @@
 //! Movements for readers; those of a flight are read from the part of the book in which they lie.
+//! The rows that were looked for and weren't there.
+
 ghost use Rattle.table_state.specs.Common.{book_by, On, HandsOut, StaysAtRest};
 ghost use Rattle.state_store.specs.Store.{Survives};
 ghost use Rattle.table_state.specs.Shown.{in_tables};
@@ -6,11 +8,14 @@ ghost use Rattle.table_state.specs.Shown.{in_tables};
 use crate::flight_spans::Filling;
 use crate::handing::{Telling, ended};
 use crate::state::TableState;
+use awb_number::Awb;
 use row_codec::{day_number, flight_text, move_query};
 use shipment_machine::FlightDate;
 use state_store::StoreFault;
 use station_core::{BookQuery, BookRow, Sink};
 use station_rows::{MovesFor, MovesWithin, TableStore};
+use std::alloc::Global;
+use std::collections::HashSet;
 
 impl<S: TableStore> TableState<S> {
     /// Hands out the queried movements, by one statement.
@@ -91,5 +96,82 @@ impl<S: TableStore> TableState<S> {
     {
         self.find_spans();
         self.hand_span(flight, sink)
+    }
+}
+
+/// The most waybills that are remembered of a table, as many as a telegram has lines.
+const MOST_REMEMBERED: usize = 1_000;
+
+/// The rows that were looked for and not found, and that were not written since: what a command
+/// reads is mostly what its plan then writes, so the write need not look for its row again.
+///
+/// It is advice. No clause rests on it: where a row is remembered as missing that is there, its
+/// insertion fails in the database, and the tables stay right. Where one that is missing isn't
+/// remembered, as after memory was refused, its write looks for it.
+#[derive(Drop)]
+pub(crate) struct Missed {
+    waybills: HashSet<u64>,
+    flight: Option<FlightDate>,
+    // The flight that the waybills in `expected` were looked for on.
+    manifest: Option<FlightDate>,
+    expected: HashSet<u64>,
+}
+
+/// Remembers a waybill, if memory is given for it. A full set is emptied first.
+fn remember(waybills: &mut HashSet<u64>, awb: &Awb) {
+    if waybills.len() >= MOST_REMEMBERED {
+        waybills.clear();
+    }
+    let _remembered = waybills.insert(awb.key());
+}
+
+impl Missed {
+    /// Nothing was looked for yet.
+    pub(crate) fn new(alloc: Global) -> Missed {
+        Missed {
+            waybills: HashSet::new(alloc),
+            flight: None,
+            manifest: None,
+            expected: HashSet::new(alloc),
+        }
+    }
+
+    /// Nothing is declared of a waybill.
+    pub(crate) fn note_waybill(&mut self, awb: &Awb) {
+        remember(&mut self.waybills, awb);
+    }
+
+    /// Returns whether the row of a waybill was remembered as missing, and forgets it.
+    pub(crate) fn take_waybill(&mut self, awb: &Awb) -> bool {
+        self.waybills.remove(&awb.key())
+    }
+
+    /// Nothing is noted of a flight. The last such flight is remembered.
+    pub(crate) fn note_flight(&mut self, flight: &FlightDate) {
+        self.flight = Some(*flight);
+    }
+
+    /// Returns whether the row of a flight was remembered as missing, and forgets it.
+    pub(crate) fn take_flight(&mut self, flight: &FlightDate) -> bool {
+        let is_missing = self.flight == Some(*flight);
+        if is_missing {
+            self.flight = None;
+        }
+        is_missing
+    }
+
+    /// Nothing is expected of a waybill on a flight. The waybills of the last such flight are
+    /// remembered.
+    pub(crate) fn note_expected(&mut self, flight: &FlightDate, awb: &Awb) {
+        if self.manifest != Some(*flight) {
+            self.expected.clear();
+            self.manifest = Some(*flight);
+        }
+        remember(&mut self.expected, awb);
+    }
+
+    /// Returns whether the row of a waybill on a flight was remembered as missing, and forgets it.
+    pub(crate) fn take_expected(&mut self, flight: &FlightDate, awb: &Awb) -> bool {
+        self.manifest == Some(*flight) && self.expected.remove(&awb.key())
     }
 }

@@ -1,8 +1,7 @@
 ghost use Rattle.std.specs.Prelude.{◌≡◌, ◌⊎◌, ◌↔◌, true, false, IsTrue, Some, Option, IfOk, IfErr, OnOk};
 ghost use Rattle.table_state.specs.Common.{state, HasCleanDisk, Trees, State, opening, IsOneStep, connection_view, IsVacant, takes_name, IsUnchanged, IsOwn, LiesInOrder, rows_view, are_declared, Seen, at_rest};
 ghost use Rattle.sqlite.specs.State as connection;
-ghost use Rattle.table_state.specs.File.{IsFileOf};
-ghost use Rattle.table_state.specs.Shown.{Finds, IfGivenBack};
+ghost use Rattle.table_state.specs.Shown.{IsFileOf, Finds, IfGivenBack};
 
 use crate::state::TableState;
 use imp_fields::Airport;

@@ -2,18 +2,16 @@
 
 ghost use Rattle.std.specs.Prelude.{◌≡◌, Some};
 ghost use Rattle.table_state.specs.Common.{State, opening, Tables, Means, IsOpening, at_rest};
-ghost use Rattle.table_state.specs.Laws.{finds_what_it_shows};
+ghost use Rattle.table_state.specs.Shown.{finds_what_it_shows, HasThese, Knows, in_tables};
 ghost use Rattle.station_core.proofs.Rooms.{all_numbered};
-ghost use Rattle.table_state.specs.Shown.{HasThese, Knows, in_tables};
 
 use crate::counted::{Boarded, Boardings, KnownCounts};
 use crate::flight_spans::FlightSpans;
+use crate::flown::Missed;
 use crate::handing::{Telling, ended};
-use crate::missed::Missed;
-use crate::noted::flights_noted;
 use crate::open_lines::OpenLines;
-use crate::recording::record_move;
 use crate::waybill_sets::{WaybillSets, numbers_of};
+use crate::writing::{flights_noted, record_move};
 use agent_stock::{Holder, Order, StockFault, StockRun};
 use awb_number::Awb;
 use imp_fields::Airport;

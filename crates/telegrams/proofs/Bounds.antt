@@ -1,6 +1,6 @@
 -- The line of a fault is one of the lines, or 0.
 use Rattle.telegrams.proofs.Common.{Bool, Err, IsFaultBy, IsFaultOf, List, None, Option, Some, TextFault, [], ap, arith, cargo_faults, cond, drop, false, fault_at, fault_in, fault_of, ffm_fault, ffm_line_faults, first_fault, from_line, fsu_fault, fsu_line_faults, fwb_fault, fwb_line_faults, has_last_line, is_message_line, length, length-map, line_fault, lines_of, ltb-false, map, nat_le, nat_lt, normal_lines, position, refl, take, true, unless_fault, ℕ, ◌++◌, ◌+◌, ◌<◌, ◌∷◌, ◌≡◌, ◌≤◌}
-use Rattle.station_days.specs.Steps.{or_else}
+use Rattle.station_days.specs.Date.{or_else}
 use Rattle.imp_fields.specs.declared.fault.Why.{Why}
 use Rattle.imp_fields.specs.declared.fault.Why.TheVariants as why
 

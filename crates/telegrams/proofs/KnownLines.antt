@@ -1,6 +1,6 @@
 -- The lines of a manifest, each of which is as its types allow.
 use Rattle.telegrams.proofs.Common.{All, All-head, All-tail, AreLoads, IsLoad, List, ManifestLine, [], map, sent_load, true, ℕ, ◌∷◌, ◌≡◌}
-use Rattle.imp_fields.specs.Airport.{is_airport}
+use Rattle.imp_fields.specs.Fields.{is_airport}
 
 abbrev pub IsAirport : List ℕ → Type 0
 IsAirport text = is_airport text ≡ true

@@ -1,7 +1,7 @@
 -- The lines of notices are normal, and are read as what was written.
 use Rattle.telegrams.proofs.Common.{AreWritten, CalendarDay, IsManifestAgain, IsNormalManifest, IsReadAgain, IsUpdateAgain, List, ManifestLine, Notice, Ok, [], ap, date_on, ffm_lines, fsu_lines, map, normal_lines, notice_lines, notice_text, sent_load, sent_text, status_of_event, subst, sym, ℕ, ◌++◌, ◌∙◌, ◌≡◌}
-use Rattle.imp_fields.specs.Flight.{Designator}
-use Rattle.imp_fields.specs.declared.waybill_summary.WaybillSummary.{WaybillSummary}
+use Rattle.imp_fields.specs.Fields.{Designator}
+use Rattle.imp_fields.specs.declared.line.WaybillSummary.{WaybillSummary}
 use Rattle.ffm_text.specs.declared.Load.{Load}
 use Rattle.ffm_text.proofs.WrittenLaws as ffm
 use Rattle.ffm_text.proofs.SentAgain.{sent_again}

@@ -1,11 +1,11 @@
 -- What is known of the lines of a normal text: they are printable, and so are the fields in them.
 use Rattle.telegrams.proofs.Common.{AllZip, Bool, FfmLine, HasSpans, List, StatusLine, Token, [], and_from, and_parts, ap, append_assoc, arith, cond, drop, false, filter, get_or, has_plain_cargo, has_plain_goods, inbound_line, is_cargo_line, is_line, is_printable, is_text_byte, length, length-map, list_all, manifest_of, map, map-append, normal_text, part_content, refl, slice_get, status_content, suc, sym, take, take-append-drop, take_more, true, unloaded_of, unwrap_or, update_of, ℕ, ◌++◌, ◌+◌, ◌-◌, ◌<◌, ◌==◌, ◌||◌, ◌∙◌, ◌∷◌, ◌≡◌, ◌≤◌}
 use Rattle.std.proofs.lemmas.List.Folds.{list_all-append, list_all-map}
-use Rattle.imp_fields.specs.Token.{is_line_token}
+use Rattle.imp_fields.specs.Fields.{is_line_token}
 use Rattle.imp_fields.specs.declared.line.Consignment.{Consignment}
 use Rattle.imp_fields.proofs.NameLaws.{list_all-take}
 use Rattle.ffm_text.specs.declared.Ffm.{Ffm}
-use Rattle.fsu_text.specs.declared.message.Fsu.{Fsu}
+use Rattle.fsu_text.specs.declared.sent.Fsu.{Fsu}
 use Rattle.shipment_machine.specs.declared.command.InboundLine.{InboundLine}
 use Rattle.telegrams.specs.declared.telegram.PartContent.{PartContent}
 use Rattle.telegrams.specs.declared.telegram.StatusContent.{StatusContent}

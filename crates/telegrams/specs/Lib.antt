@@ -1,4 +1,2 @@
 pub mod Common
-pub mod Kept
 pub mod Meaning
-pub mod NoticeText

@@ -1,16 +1,21 @@
 //! The content of a normal text.
+//! Ranges that the types of a notice guarantee, for the proof that it is read back. The functions
+//! do nothing.
 
-ghost use Rattle.std.specs.Prelude.{◌≡◌, ◌≤◌, ◌++◌, ◌∷◌, [], Option, Some, IsTrue, IfOk, IfErr, OnOk, length, map};
-ghost use Rattle.telegrams.specs.Common.{unwrap_or, list_all, TextFault, shipment_of, line_texts, IsFaultOf, most_lines, fwb_fault, ffm_fault, unloaded_of, fsu_fault, is_plain};
+ghost use Rattle.std.specs.Prelude.{◌≡◌, ◌≤◌, ◌++◌, ◌∷◌, [], Option, Some, IsTrue, IfOk, IfErr, OnOk, length, map, All};
+ghost use Rattle.telegrams.specs.Common.{unwrap_or, list_all, TextFault, shipment_of, line_texts, IsFaultOf, most_lines, fwb_fault, ffm_fault, unloaded_of, fsu_fault, is_plain, date_on, IsLoad, AreWritten, most_waybills};
 ghost use Rattle.imp_fields.specs.declared.line.MessageKind.TheVariants as kinds;
-ghost use Rattle.telegrams.specs.Kept.{has_plain_goods, has_plain_cargo};
-ghost use Rattle.telegrams.specs.Meaning.{cargo_line, inbound_line, message_fault, SaysAs, RefusesAs};
+ghost use Rattle.telegrams.specs.Meaning.{has_plain_goods, has_plain_cargo, cargo_line, inbound_line, message_fault, SaysAs, RefusesAs, sent_load, IsNormalManifest, IsManifestAgain};
 
+use crate::notice::load_of;
 use crate::telegram::{Content, PartContent, PartLines, StatusContent, StatusLines, TelegramFault};
 use ffm_text::FfmLine;
 use fsu_text::StatusLine;
-use imp_fields::{Consignment, Goods, Lines, MessageKind, Tenths, TextFault, Why};
-use shipment_machine::{CargoLine, Detail, InboundLine, Refusal, TrailLine};
+use imp_fields::{Airport, Consignment, Goods, Lines, MessageKind, Tenths, TextFault, Why};
+use shipment_machine::{
+    CargoLine, Detail, FlightDate, InboundLine, ManifestLine, ManifestLines, Refusal, TrailLine,
+};
+use station_days::DayMonth;
 use std::alloc::{AllocError, Global};
 use std::slice;
 
@@ -167,4 +172,49 @@ pub(crate) fn content<'a>(alloc: Global, lines: &Lines<'a>) -> Result<Content<'a
         MessageKind::Ffm => ffm_content(alloc, lines),
         MessageKind::Fsu => fsu_content(alloc, lines),
     }
+}
+
+fn line_known(line: &ManifestLine)
+    ensures { IsLoad (sent_load line.now) }
+{
+    let load = load_of(line);
+    let _origin = load.origin.letters();
+    let _destination = load.destination.letters();
+    let _key = load.awb.key();
+    let _pieces = load.pieces.number();
+    let _tenths = load.tenths.number();
+    let _declared = load.declared.number();
+    let _goods = load.goods.as_bytes();
+}
+
+fn lines_known(lines: &[ManifestLine])
+    ensures { All (λ l. IsLoad (sent_load l)) lines.now }
+{
+    for line in lines {
+        line_known(line);
+    }
+}
+
+fn parts_known(here: &Airport, flight: &FlightDate, unload: &Airport, lines: &[ManifestLine])
+    requires few { length lines.now ≤ most_waybills }
+    ensures { AreWritten flight.now.flight (date_on flight.now.day) here.now unload.now
+        (map sent_load lines.now) }
+{
+    let _flight = flight.flight.write(&mut [0; 7]);
+    let _date = DayMonth::on(flight.day).write();
+    let _here = here.letters();
+    let _unload = unload.letters();
+    lines_known(lines);
+}
+
+pub(crate) fn manifest_known(
+    here: &Airport,
+    flight: &FlightDate,
+    unload: &Airport,
+    lines: &ManifestLines,
+)
+    ensures normal { IsNormalManifest here.now flight.now unload.now lines.now }
+    ensures read_again { IsManifestAgain here.now flight.now unload.now lines.now }
+{
+    parts_known(here, flight, unload, lines.as_slice());
 }

@@ -2,15 +2,12 @@
 #![tactic(auto)]
 
 mod content;
-mod known;
-mod laws;
 mod notice;
 mod reading;
 mod telegram;
 
-pub use laws::telegram_law;
 pub use notice::notice_text;
-pub use reading::read_telegram;
+pub use reading::{read_telegram, telegram_law};
 pub use telegram::{
     Content, NormalText, PartContent, PartLines, StatusContent, StatusLines, Telegram,
     TelegramFault,

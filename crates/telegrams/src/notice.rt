@@ -3,9 +3,9 @@
 ghost use Rattle.std.specs.Prelude.{◌≡◌, Ok, IfOk, map};
 ghost use Rattle.telegrams.specs.Common.{date_on, when_at, sent_text, normal_lines, fsu_lines};
 ghost use Rattle.fsu_text.specs.declared.sent.SentStatus.TheVariants as sent;
-ghost use Rattle.telegrams.specs.NoticeText.{status_of_event, sent_update, sent_load, manifest_lines, notice_lines, notice_text, IsUpdateAgain, IsReadAgain};
+ghost use Rattle.telegrams.specs.Meaning.{status_of_event, sent_update, sent_load, manifest_lines, notice_lines, notice_text, IsUpdateAgain, IsReadAgain};
 
-use crate::known::manifest_known;
+use crate::content::manifest_known;
 use ffm_text::{Load, write_ffm};
 use fsu_text::{Handling, SentCarriage, SentStatus, SentUpdate, write_fsu};
 use imp_fields::{Airport, Name};

@@ -1,9 +1,9 @@
 //! Telegrams that arrive.
+//! A law about the definitions.
 
-ghost use Rattle.std.specs.Prelude.{◌≡◌, ◌++◌, ◌∷◌, IsTrue, IfOk, IfErr, OnOk, map};
+ghost use Rattle.std.specs.Prelude.{◌≡◌, ◌++◌, ◌∷◌, IsTrue, IfOk, IfErr, OnOk, map, ℕ, List, None};
 ghost use Rattle.telegrams.specs.Common.{list_all, normal_text, line_texts};
-ghost use Rattle.telegrams.specs.Kept.{is_text_byte};
-ghost use Rattle.telegrams.specs.Meaning.{IsTelegram, RefusesText};
+ghost use Rattle.telegrams.specs.Meaning.{is_text_byte, IsTelegram, RefusesText, Meant, telegram_fault};
 
 use crate::content::{content, refusal};
 use crate::telegram::{NormalText, Telegram, TelegramFault};
@@ -67,3 +67,11 @@ pub fn read_telegram<'a>(alloc: Global, bytes: &'a [u8]) -> Result<Telegram<'a>,
         Err(_) => Err(TelegramFault::Memory),
     }
 }
+
+/// Bytes are a telegram exactly if they have no fault, and then only one telegram.
+pub fn telegram_law()
+    ensures read { (bytes : List ℕ) (t : Meant) → IsTelegram bytes t → telegram_fault bytes ≡ None }
+    ensures faultless { (bytes : List ℕ) → telegram_fault bytes ≡ None → (t : Meant)
+        × IsTelegram bytes t }
+    ensures one { (bytes : List ℕ) (s t : Meant) → IsTelegram bytes s → IsTelegram bytes t → s ≡ t }
+{}

@@ -1,6 +1,6 @@
 ghost use Rattle.std.specs.Prelude.{◌≡◌, ◌≤◌, ◌↔◌, IsTrue, length};
 ghost use Rattle.telegrams.specs.Common.{list_all, is_line, most_lines};
-ghost use Rattle.telegrams.specs.Kept.{is_text_byte};
+ghost use Rattle.telegrams.specs.Meaning.{is_text_byte};
 
 use awb_number::Awb;
 use imp_fields::{Airport, Flight, PartNumber};
@@ -17,7 +17,7 @@ pub struct NormalText {
 impl Model for NormalText {
     ghost use Rattle.std.specs.Prelude.{List, ℕ, IsTrue};
     ghost use Rattle.std.specs.List.{list_all};
-    ghost use Rattle.telegrams.specs.Kept.{is_text_byte};
+    ghost use Rattle.telegrams.specs.Meaning.{is_text_byte};
 
     ghost Value = { List ℕ };
 
@@ -52,7 +52,7 @@ pub struct PartLines {
 impl Model for PartLines {
     ghost use Rattle.std.specs.Prelude.{List, ◌≤◌, length};
     ghost use Rattle.shipment_machine.specs.declared.command.InboundLine.{InboundLine};
-    ghost use Rattle.imp_fields.specs.TextSize.{most_lines};
+    ghost use Rattle.imp_fields.specs.Fields.{most_lines};
 
     ghost Value = { List InboundLine };
 
@@ -99,8 +99,7 @@ pub struct StatusLines<'a> {
 impl<'a> Model for StatusLines<'a> {
     ghost use Rattle.std.specs.Prelude.{List, ℕ, ◌≤◌, IsTrue, length};
     ghost use Rattle.std.specs.List.{list_all};
-    ghost use Rattle.imp_fields.specs.Characters.{is_line};
-    ghost use Rattle.imp_fields.specs.TextSize.{most_lines};
+    ghost use Rattle.imp_fields.specs.Fields.{is_line, most_lines};
 
     ghost Value = { List (List ℕ) };
 

@@ -3,7 +3,7 @@ ghost use Rattle.std.specs.Prelude.{◌≡◌, ◌+◌, ◌≤◌, ◌++◌, ◌
 ghost use Rattle.state_store.specs.Common.{book_row, is_of_flight, message, movements_for, numbered, trail_row, texts_in};
 ghost use Rattle.station_core.specs.Readers.{lines_for};
 ghost use Rattle.state_store.specs.Asked.{first_line, first_movement, if_line, if_movement, is_line_of, is_movement_of};
-ghost use Rattle.state_store.specs.Maps.{trail_in, trail_line};
+ghost use Rattle.state_store.specs.Store.{trail_in, trail_line};
 
 use crate::StoreFault;
 use crate::maps::state::TrailEntry;

@@ -1,9 +1,6 @@
 ghost use Rattle.std.specs.Prelude.{◌≡◌, ◌&&◌, ◌==◌, ◌++◌, ◌∷◌, [], ℕ, false, if◌then◌else◌, IfOk, OnOk};
 ghost use Rattle.state_store.specs.Common.{nat_cmp, get, is_at, unwrap_or, balances_of, built, has_moves, same_place, Built};
-ghost use Rattle.state_store.specs.FlightKey.{by_key};
-ghost use Rattle.state_store.specs.Flow.{flow_with};
-ghost use Rattle.state_store.specs.Summed.{IsSummed, IsWaybillSummed, flow_at, flow_in};
-ghost use Rattle.state_store.specs.WaybillFlows.{no_flows};
+ghost use Rattle.state_store.specs.Store.{by_key, flow_with, IsSummed, IsWaybillSummed, flow_at, flow_in, no_flows};
 ghost use Rattle.state_store.specs.declared.flight_key.FlightKey.{FlightKey as AnyFlightKey};
 
 use crate::maps::flow::{Flow, STILL};

@@ -1,7 +1,7 @@
 //! Flows into a place and out of it.
 ghost use Rattle.std.specs.Prelude.{◌≡◌, ◌+◌, ◌-◌, IfOk};
 ghost use Rattle.state_store.specs.Common.{amount};
-ghost use Rattle.state_store.specs.Flow.{drawn_of, flow_with, held_of, more};
+ghost use Rattle.state_store.specs.Store.{drawn_of, flow_with, held_of, more};
 
 use crate::StoreFault;
 use shipment_machine::{Amount, Move, Place};

@@ -1,7 +1,7 @@
 //! Storing accepted inputs for repeats.
 ghost use Rattle.std.specs.Prelude.{OnOk};
 ghost use Rattle.state_store.specs.Common.{State, with_key, with_text};
-ghost use Rattle.state_store.specs.Shown.{Shows};
+ghost use Rattle.state_store.specs.Store.{Shows};
 
 use crate::StoreFault;
 use crate::maps::state::MapState;

@@ -1,12 +1,9 @@
 //! The waybills of a book, and those on a flight, in order.
 ghost use Rattle.std.specs.Prelude.{◌≡◌, ◌++◌, ℕ, List, IfOk, OnOk};
-ghost use Rattle.state_store.specs.Waybills.{waybills_for};
+ghost use Rattle.state_store.specs.Store.{waybills_for, asked_by, loaded, flow_of, IsSummed, flow_in};
 ghost use Rattle.state_store.specs.Common.{loads_on, Built};
-ghost use Rattle.state_store.specs.Listed.{asked_by, loaded};
 ghost use Rattle.shipment_machine.specs.declared.flight.FlightDate.{FlightDate as AnyFlightDate};
 ghost use Rattle.shipment_machine.specs.declared.moves.Move.{Move as AnyMove};
-ghost use Rattle.state_store.specs.Flow.{flow_of};
-ghost use Rattle.state_store.specs.Summed.{IsSummed, flow_in};
 
 use crate::maps::book::MovementBook;
 use crate::maps::flow::Flow;

@@ -1,9 +1,7 @@
 //! The noted flights and the announced waybills, in order.
 ghost use Rattle.std.specs.Prelude.{◌≡◌, ◌++◌, IfOk, OnOk};
 ghost use Rattle.state_store.specs.Common.{AreAnnounced, AreNoted};
-ghost use Rattle.state_store.specs.Listed.{announced_by};
-ghost use Rattle.state_store.specs.Maps.{cargo_of, flights_in};
-ghost use Rattle.state_store.specs.Summed.{IsSummed};
+ghost use Rattle.state_store.specs.Store.{announced_by, cargo_of, flights_in, IsSummed};
 
 use crate::StoreFault;
 use crate::maps::book::MovementBook;

@@ -1,8 +1,7 @@
 //! A new station in memory, and a copy of one.
 ghost use Rattle.std.specs.Prelude.{IfOk};
 ghost use Rattle.state_store.specs.Common.{State, opening};
-ghost use Rattle.state_store.specs.Shown.{Shows};
-ghost use Rattle.state_store.specs.Store.{at_rest};
+ghost use Rattle.state_store.specs.Store.{Shows, at_rest};
 
 use crate::maps::book::MovementBook;
 use crate::maps::state::MapState;

@@ -1,6 +1,6 @@
 ghost use Rattle.std.specs.Prelude.{◌≡◌, ℕ, ◌≤◌, ◌<◌, true, None, Some, cond, ◌&&◌, nat_lt, nat_eq, IsSome, IfSome, OnOk, OnErr, IfOk};
 ghost use Rattle.state_store.specs.Common.{nat_cmp, get, IsOrdered, Holders, is_run, assigned, lowest_failing};
-ghost use Rattle.state_store.specs.Stock.{holders_of, nobody};
+ghost use Rattle.state_store.specs.Store.{holders_of, nobody};
 
 use agent_stock::{Holder, Run, Test};
 use awb_number::Awb;

@@ -1,6 +1,6 @@
 ghost use Rattle.std.specs.Prelude.{◌≡◌, None, OnOk, OnErr, IfErr};
 ghost use Rattle.state_store.specs.Common.{run_refusal, order_refusal, assigned, after_order, RefusesOrder};
-ghost use Rattle.state_store.specs.Stock.{holders_of};
+ghost use Rattle.state_store.specs.Store.{holders_of};
 
 use crate::maps::stock::MapStock;
 use agent_stock::{Order, StockFault, Terms};

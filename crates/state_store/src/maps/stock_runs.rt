@@ -1,8 +1,7 @@
 //! The stock as its maximal runs.
 ghost use Rattle.std.specs.Prelude.{IfOk, OnOk};
 ghost use Rattle.state_store.specs.Common.{AreStockRuns, IsNoneFrom, Holders};
-ghost use Rattle.state_store.specs.Runs.{with_numbers};
-ghost use Rattle.state_store.specs.Stock.{holders_of};
+ghost use Rattle.state_store.specs.Store.{with_numbers, holders_of};
 
 use crate::StoreFault;
 use crate::maps::stock::MapStock;

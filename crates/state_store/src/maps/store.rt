@@ -2,7 +2,7 @@
 #![tactic(auto, using(crate::proofs::Surviving::survives_so, crate::proofs::Surviving::leaves_so, crate::proofs::Surviving::cargo_is))]
 
 ghost use Rattle.std.specs.Prelude.{◌≡◌, ◌≤◌};
-ghost use Rattle.state_store.specs.Shown.{in_memory};
+ghost use Rattle.state_store.specs.Store.{in_memory};
 ghost use Rattle.state_store.specs.Common.{most_rows};
 
 use crate::maps::asked::{lines, messages, movements};

@@ -1,5 +1,5 @@
 ghost use Rattle.std.specs.Prelude.{◌≡◌, IfOk};
-ghost use Rattle.state_store.specs.WaybillFlows.{balances_by, flows_with};
+ghost use Rattle.state_store.specs.Store.{balances_by, flows_with};
 
 use crate::StoreFault;
 use crate::maps::flow::{Flow, STILL};

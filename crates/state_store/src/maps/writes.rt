@@ -1,7 +1,7 @@
 //! Writing rows.
 ghost use Rattle.std.specs.Prelude.{◌∷◌, [], OnOk};
 ghost use Rattle.state_store.specs.Common.{written, Confirm, Declare, Expect, NoteFlight, NotePart, Trail, UseUp, State, on_cargo, with_messages, with_moves};
-ghost use Rattle.state_store.specs.Shown.{Shows};
+ghost use Rattle.state_store.specs.Store.{Shows};
 
 use crate::maps::state::{AirportKey, MapState, TrailEntry};
 use crate::{FlightKey, StoreFault};

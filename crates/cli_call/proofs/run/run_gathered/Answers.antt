@@ -1,4 +1,4 @@
-use Rattle.station_core.specs.Gathered.{taken_of}
+use Rattle.station_core.specs.Ends.{taken_of}
 use Rattle.cli_call.proofs.ByPrinted.{done_printed, reasons_printed}
 use Rattle.cli_call.proofs.run.run_gathered.Goals as goal
 

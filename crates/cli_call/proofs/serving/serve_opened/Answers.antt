@@ -3,11 +3,11 @@ use Rattle.sqlite.specs.Held.{Held}
 use Rattle.sqlite_trees.specs.declared.store.Store as trees
 use Rattle.station_core.specs.Given.{Given}
 use Rattle.station_core.specs.Keeping.{Keeping}
-use Rattle.station_tables.specs.declared.fault.AttachFault.{AttachFault}
+use Rattle.station_tables.specs.declared.attaching.AttachFault.{AttachFault}
 use Rattle.station_tables.specs.declared.station.Station.{Station}
 use Rattle.cli_run.specs.Ends.{reached}
 use Rattle.cli_call.specs.Ended.{HasNoStation}
-use Rattle.cli_call.specs.Service.{HasEndedService}
+use Rattle.cli_call.specs.Ran.{HasEndedService}
 use Rattle.cli_call.proofs.serving.serve_opened.Goals as goal
 
 module _ {S W E : Type 0} {g : trees.Ghosts S} (k : Keeping (Station S g)) (e : (W → Given) × (E → Given)) (count : Option ℕ) (is_declared : Bool) where

@@ -1,5 +1,5 @@
 use Rattle.cli_run.proofs.Common.{HasAnswered, Request, [], call, codes, is_unread, numbered, refl, subst, sym, true, ◌++◌, ◌∷◌}
-use Rattle.station_core.specs.Texts.{refusal_text}
+use Rattle.station_core.specs.Step.{refusal_text}
 use Rattle.cli_run.specs.declared.request.Request.TheVariants as asked
 use Rattle.cli_run.proofs.Unanswered.{unasked}
 use Rattle.cli_run.proofs.answer.answer_asked.Goals as goal

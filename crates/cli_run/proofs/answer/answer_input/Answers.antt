@@ -1,5 +1,5 @@
 use Rattle.cli_run.proofs.Common.{Err, call, kept_by, refl, rules}
-use Rattle.cli_run.specs.declared.fault.RunFault.TheVariants as fault
+use Rattle.cli_run.specs.declared.telling.RunFault.TheVariants as fault
 use Rattle.cli_run.specs.declared.request.Request.TheVariants as asked
 use Rattle.cli_run.proofs.Reasons.{explained_stop}
 use Rattle.cli_run.proofs.Unanswered.{not_acted, shut_after}

@@ -1,4 +1,5 @@
-use Rattle.desk_client.proofs.Common.{HasPrintedSome, ◌+◌, ◌≡◌}
+use Rattle.desk_client.proofs.Common.{◌+◌, ◌≡◌}
+use Rattle.desk_client.proofs.AsItComes.{HasPrintedSome}
 use Rattle.desk_client.proofs.printing.print_report.Given as goal
 
 abbrev pub invariant-loop-turn : goal.invariant-loop-turn

@@ -1,5 +1,5 @@
 use Rattle.desk_client.proofs.Common.{Err, HasPrintedBody, PrintFault, ap, refl, subst, talk}
-use Rattle.desk_client.specs.declared.connect.LastTry.TheVariants as last
+use Rattle.desk_client.specs.declared.reading.LastTry.TheVariants as last
 use Rattle.desk_client.proofs.RowsPrinted.{broken}
 use Rattle.desk_client.proofs.report.print_begun.Goals as goal
 

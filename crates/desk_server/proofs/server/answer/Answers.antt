@@ -1,4 +1,4 @@
-use Rattle.http_desk.specs.Serving.{added}
+use Rattle.http_desk.specs.Reply.{added}
 use Rattle.desk_server.proofs.Serving.{served_fresh}
 use Rattle.desk_server.proofs.server.answer.Goals as goal
 

@@ -1,7 +1,7 @@
 use Rattle.std.proofs.Common.{◌≡◌, ◌≤◌, List, [], ◌∷◌, length, map, get_or, refl, subst, ap, ◌∙◌, arith}
 use Rattle.std.specs.Prelude.{unwrap_or, slice_get}
-use Rattle.imp_fields.specs.Consignment.{HasSpans}
-use Rattle.imp_fields.specs.declared.token.Token.{Token}
+use Rattle.imp_fields.specs.Message.{HasSpans}
+use Rattle.imp_fields.specs.declared.line.Token.{Token}
 use Rattle.fwb_text.proofs.reading.read.Goals as goal
 
 -- the second line's text

@@ -1,5 +1,5 @@
 use Rattle.http_desk.proofs.Common.{ap, in_form, option_map, ◌∙◌}
-use Rattle.reports.specs.declared.form.Form.TheVariants as form
+use Rattle.reports.specs.declared.layout.Form.TheVariants as form
 use Rattle.http_desk.proofs.Endings.{not_json}
 use Rattle.http_desk.proofs.printout.printout_at.Goals as goal
 

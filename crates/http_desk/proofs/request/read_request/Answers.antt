@@ -1,7 +1,7 @@
 use Rattle.http_desk.proofs.Common.{BeginsWith, List, inr, subst, ℕ}
 use Rattle.http_desk.proofs.Arrived.{begins_on, lacks_body}
 use Rattle.http_desk.proofs.Heads.{ended_all, more_come, other_err}
-use Rattle.http_desk.specs.declared.reading.ReadEnd.TheVariants as reading
+use Rattle.http_desk.specs.declared.serve.ReadEnd.TheVariants as reading
 use Rattle.http_desk.proofs.request.read_request.Goals as goal
 
 pub returns-in-Err-read_body-clause-read : goal.returns-in-Err-read_body-clause-read

@@ -1,5 +1,5 @@
 use Rattle.input_reasons.proofs.Common.{codes, decimal, ◌++◌, ◌∙◌}
-use Rattle.imp_fields.specs.Flight.{flight_text}
+use Rattle.imp_fields.specs.Fields.{flight_text}
 use Rattle.input_reasons.proofs.Texts.{told}
 use Rattle.input_reasons.proofs.as_object.part_members.Goals as goal
 

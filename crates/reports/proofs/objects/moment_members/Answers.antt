@@ -1,6 +1,6 @@
 use Rattle.reports.proofs.Common.{List, ap, codes, compact_text, rules, string, string_bytes, told, ℕ, ◌++◌, ◌∙◌, ◌≡◌}
 use Rattle.serde_json.proofs.OnLiterals.{serde_json_on_literals}
-use Rattle.reports.specs.Layout.{clock_text}
+use Rattle.reports.specs.Reports.{clock_text}
 use Rattle.reports.proofs.objects.moment_members.Goals as goal
 
 pub returns : goal.returns

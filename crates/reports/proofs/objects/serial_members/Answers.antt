@@ -1,6 +1,6 @@
 use Rattle.reports.proofs.Common.{List, ap, codes, compact_text, prefix_of, rules, serial_of, string, string_bytes, told, ℕ, ◌++◌, ◌∙◌, ◌≡◌}
 use Rattle.serde_json.proofs.OnLiterals.{serde_json_on_literals}
-use Rattle.awb_number.specs.Digits.{padded}
+use Rattle.awb_number.specs.Number.{padded}
 use Rattle.reports.proofs.objects.serial_members.Goals as goal
 
 pub returns : goal.returns

@@ -1,4 +1,4 @@
-use Rattle.station_schema.specs.Wanted.{column_as}
+use Rattle.station_schema.specs.Schema.{column_as}
 use Rattle.station_schema.proofs.TableLemmas.{AreSoFar}
 use Rattle.station_schema.proofs.columns.are_columns.Given as goal
 

@@ -1,6 +1,6 @@
 use Rattle.std.proofs.Common.{Some, None, inl, refl}
-use Rattle.station_engine.specs.Laws.{found_is}
-use Rattle.table_state.specs.Laws.{finds_what_it_shows}
+use Rattle.station_engine.specs.Serving.{found_is}
+use Rattle.table_state.specs.Shown.{finds_what_it_shows}
 use Rattle.station_tables.proofs.Restarted.{finds, leaves_own, fits_on, settled_none, opens_on, restored_on, sounds_on}
 use Rattle.station_tables.proofs.Looked.{either}
 use Rattle.station_tables.proofs.restarting.release_and_restart.Goals as goal

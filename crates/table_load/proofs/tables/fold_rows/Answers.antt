@@ -2,7 +2,7 @@ use Rattle.std.proofs.Math.Path.{subst₂}
 use Rattle.table_load.proofs.Common.{AreLawful, HoldsTable, Reads, column_names, state}
 use Rattle.table_load.proofs.TableLemmas.{reads_failed, reads_folded}
 use Rattle.table_load.proofs.WholeLemmas.{given_whole, plain, survives}
-use Rattle.table_load.specs.Walks.{TellsFold}
+use Rattle.table_load.specs.Held.{TellsFold}
 use Rattle.table_load.proofs.tables.fold_rows.Goals as goal
 
 pub returns-in_err-walk-clause-read : goal.returns-in_err-walk-clause-read

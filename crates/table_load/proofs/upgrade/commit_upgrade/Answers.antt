@@ -1,5 +1,5 @@
 use Rattle.table_load.proofs.Common.{ap, arith, state, subst, survives_then, survives_weaker, sym, tables_of, ◌∙◌}
-use Rattle.station_schema.specs.Own.{IsOwn}
+use Rattle.station_schema.specs.Connection.{IsOwn}
 use Rattle.table_load.proofs.upgrade.commit_upgrade.Goals as goal
 
 pub returns-in_err-move_waybills-clause-survives : goal.returns-in_err-move_waybills-clause-survives

@@ -1,5 +1,5 @@
 use Rattle.reports.proofs.Common.{IsWhole, [], arith, book_by, book_cells, common_steps, data_by, irregular_cells, irregular_rows, line_by, message_data, message_lines, messages_by, rules, shed_cells, shed_rows, summary_cells, trail_by, trail_data, trail_line, ◌∷◌}
-use Rattle.station_core.specs.Told.{summary_of}
+use Rattle.station_core.specs.Keeping.{summary_of}
 use Rattle.station_core.specs.declared.rows.BookQuery.TheVariants as book
 use Rattle.station_core.specs.declared.rows.ExpectedQuery.TheVariants as expected
 use Rattle.station_core.specs.declared.rows.MessageQuery.TheVariants as messages

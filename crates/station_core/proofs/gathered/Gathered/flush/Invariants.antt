@@ -1,5 +1,5 @@
 use Rattle.std.proofs.Common.{length, ◌-◌, ◌≡◌, ◌++◌}
-use Rattle.station_core.specs.Gathered.{waiting}
+use Rattle.station_core.specs.Ends.{waiting}
 use Rattle.station_core.proofs.gathered.Gathered.flush.Given as goal
 
 -- what went out is gone from what waits, and nothing else is

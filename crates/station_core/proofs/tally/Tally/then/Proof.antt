@@ -22,7 +22,7 @@ use denote.Triple.Walked.{says, Stays, stay_dropped, walk_of, ends_at, walk_Meet
 use Rattle.station_core.proofs.Walks.{none, none_made}
 use Rattle.station_core.specs.contracts.tally.Tally as Log
 use Rattle.station_core.specs.contracts.tally.Call as Note
-use Rattle.station_core.specs.Tally.{noted}
+use Rattle.station_core.specs.Ends.{noted}
 use Rattle.station_core.specs.contracts.tally.Tally.then as F
 use Rattle.station_core.specs.contracts.tally.Tally.then.Key.{name as #self}
 use Rattle.station_core.proofs.tally.Tally.then.Statement as stated

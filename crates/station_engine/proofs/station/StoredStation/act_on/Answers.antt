@@ -1,5 +1,5 @@
 use Rattle.station_engine.proofs.Common.{IsLawfulState, State, at_rest, subst, ◌∙◌}
-use Rattle.station_engine.specs.Laws.{found_is}
+use Rattle.station_engine.specs.Serving.{found_is}
 use Rattle.station_engine.proofs.Reading.{one_of_two}
 use Rattle.station_core.proofs.Refusals.{refused_stays}
 use Rattle.station_engine.proofs.station.StoredStation.act_on.Goals as goal

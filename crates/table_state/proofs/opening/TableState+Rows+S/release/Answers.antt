@@ -1,4 +1,4 @@
-use Rattle.station_rows.specs.View.{rows_view}
+use Rattle.station_rows.specs.Shown.{rows_view}
 use Rattle.table_state.proofs.Lifting.{given_back}
 use Rattle.table_state.proofs.opening.TableState+Rows+S.release.Goals as goal
 

@@ -1,5 +1,5 @@
 use Rattle.table_state.proofs.Common.{IsTrue, IsUtf8, List, SFits, ap, is_airport, is_utf8, is_utf8-from_IsUtf8, part_fits, pos, rules, subst, to_z-of_z, w64, ℕ, ◌∙◌, ◌≡◌}
-use Rattle.imp_fields.specs.Amount.{IsPartNumber}
+use Rattle.imp_fields.specs.Fields.{IsPartNumber}
 use Rattle.table_state.proofs.Changes.{notes_part_on}
 use Rattle.table_state.proofs.Lifting.{on_answer, writes_so}
 use Rattle.table_state.proofs.state.TableState.note_part.Goals as goal

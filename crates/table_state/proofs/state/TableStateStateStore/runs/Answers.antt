@@ -1,4 +1,4 @@
-use Rattle.agent_stock.specs.Runs.{AreStockRuns}
+use Rattle.agent_stock.specs.Stock.{AreStockRuns}
 use Rattle.table_state.proofs.Lifting.{at_rest_of, read_so}
 use Rattle.table_state.proofs.Values.{by_stock}
 use Rattle.table_state.proofs.state.TableStateStateStore.runs.Goals as goal

@@ -2,11 +2,7 @@ use Rattle.std.proofs.Common.{◌≡◌, ◌∙◌, ap, ap₂, refl, sym, ℕ, L
 use Rattle.state_store.proofs.Copies.{all_alike, found_again, found_alike, mapped_alike}
 use Rattle.state_store.proofs.Common.{Move, Part, bytes_eq, state_of, lookup, is_at, nat_cmp, unwrap_or, by_key, same_part, part_of, parts_in, texts_in, trail_line, same_flight_date, same_line, line_of, has_moves, Built}
 use Rattle.std.specs.BTreeMap.{BTreeMap}
-use Rattle.state_store.specs.Flow.{flow_of, still}
-use Rattle.state_store.specs.Kept.{count_under, kept_in, kept_under}
-use Rattle.state_store.specs.Runs.{named_by}
-use Rattle.state_store.specs.Summed.{flow_at, flow_by, flow_in}
-use Rattle.state_store.specs.WaybillFlows.{flows_of, no_flows}
+use Rattle.state_store.specs.Store.{flow_of, still, count_under, kept_in, kept_under, named_by, flow_at, flow_by, flow_in, flows_of, no_flows}
 use Rattle.state_store.specs.declared.flight_key.FlightKey.{FlightKey}
 use Rattle.state_store.specs.declared.maps.flow.Flow.{Flow}
 use Rattle.state_store.specs.declared.maps.waybill_flows.WaybillFlows.{WaybillFlows}

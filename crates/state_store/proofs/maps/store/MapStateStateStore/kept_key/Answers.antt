@@ -1,6 +1,6 @@
 use Rattle.std.proofs.Common.{◌≡◌, ◌∙◌, Some, ap, option_map, rules}
 use Rattle.state_store.proofs.Common.{State, bytes_eq, get_by, string_bytes}
-use Rattle.state_store.specs.Kept.{kept_in}
+use Rattle.state_store.specs.Store.{kept_in}
 use Rattle.state_store.proofs.Surviving.{reads_so}
 use Rattle.state_store.proofs.maps.store.MapStateStateStore.kept_key.Goals as goal
 

@@ -1,5 +1,0 @@
-use Rattle.desk_client.proofs.Replies.{lines}
-use Rattle.desk_client.proofs.laws.lines_law.Goals as goal
-
-pub returns : goal.returns
-returns c = lines

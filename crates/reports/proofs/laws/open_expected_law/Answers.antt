@@ -1,5 +1,0 @@
-use Rattle.reports.proofs.FlightLists.{open_expected}
-use Rattle.reports.proofs.laws.open_expected_law.Goals as goal
-
-pub returns : goal.returns
-returns c = open_expected
