@@ -301,7 +301,7 @@ Changes the declaration of a waybill while all its pieces that came in are free
 Fields: awb, origin, destination, pieces, tenths, goods
 Body: {\"awb\":\"020-12345675\",\"origin\":\"FRA\",\"destination\":\"ORD\",\"pieces\":12,\"tenths\":1200,\"goods\":\"CARGO\"}
 Refused: 201 unknown waybill
-         204 pieces were received here, and its origin would be elsewhere
+         204 pieces were taken over, and its origin would be here or no longer here
          217 more than 9,999 pieces or 999,999 tenths
          225 some of its pieces aren't free
          226 its free pieces don't fit the new pieces and weight";

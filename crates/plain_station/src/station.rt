@@ -132,6 +132,14 @@ impl Keeper for PlainStation {
         or_memory(self.station.messages_by(query, sink))
     }
 
+    fn messages_about<S: Sink<Message>>(
+        &mut self,
+        awb: &Awb,
+        sink: &mut S,
+    ) -> Result<(), ActFault> {
+        or_memory(self.station.messages_about(awb, sink))
+    }
+
     fn trail_by<S: Sink<TrailRow>>(
         &mut self,
         query: &TrailQuery,

@@ -369,6 +369,18 @@ example_none_messages : events announced (counting 0) half_past_two ≡ (event.D
 unfolding days_of_years days_of_months day_count days_from_civil
 example_none_messages = refl
 
+-- a flight brought it: its origin can be another station, but not this one
+abbrev all_came : Cargo
+all_came = after announced (counting 10) half_past_two
+
+example_amend_brought : reply all_came (amending (codes "MUC") jfk 10 1000) noon ≡ Ok 10
+unfolding days_of_years days_of_months day_count days_from_civil
+example_amend_brought = refl
+
+example_amend_brought_to_here : reply all_came (amending jfk jfk 10 1000) noon ≡ refused_waybill 204 w1
+unfolding days_of_years days_of_months day_count days_from_civil
+example_amend_brought_to_here = refl
+
 -- Three are struck off, since they were counted before. The other seven are expected still.
 
 abbrev striking : ℕ → ShipmentCommand

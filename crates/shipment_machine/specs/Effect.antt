@@ -300,12 +300,13 @@ has_room whole part =
     nat_le part.pieces whole.pieces
     && nat_le (part.tenths + (whole.pieces - part.pieces)) whole.tenths
 
--- true if pieces were received at their origin, here, and the origin would change
-abbrev pub loses_origin : List ℕ → WaybillView → List ℕ → Bool
-loses_origin here view origin =
+-- true if pieces were taken over, and the origin is here or would be, and not both
+abbrev pub turns_origin : List ℕ → WaybillView → List ℕ → Bool
+turns_origin here view origin =
     nat_lt 0 view.balances.taken.pieces
-    && bytes_eq (declared_as view.declared).origin here
-    && not (bytes_eq origin here)
+    && (if bytes_eq (declared_as view.declared).origin here
+    then not (bytes_eq origin here)
+    else bytes_eq origin here)
 
 -- Amend: the declaration is replaced, if all that came in is free and fits in the new one.
 abbrev pub amending : List ℕ → WaybillView → ℕ → Declared → Rule
@@ -313,7 +314,7 @@ amending here view w d =
     let free = view.balances.free in
     record {
       refusals = (is_none view.declared, about 201 w)
-          ∷ (loses_origin here view d.origin, about 204 w)
+          ∷ (turns_origin here view d.origin, about 204 w)
           ∷ (not (fits (amount d.pieces d.tenths)), about 217 w)
           ∷ (nat_lt free.pieces (came_in view.balances).pieces, about 225 w)
           ∷ (not (has_room (amount d.pieces d.tenths) free), about 226 w) ∷ [];

@@ -179,7 +179,8 @@ pub(crate) fn amend<'a>(
         free,
         ..
     } = view.balances;
-    if taken.pieces > 0 && is_same(old.origin, on.here) && !is_same(claim.origin, on.here) {
+    let turns_origin = is_same(old.origin, on.here) != is_same(claim.origin, on.here);
+    if taken.pieces > 0 && turns_origin {
         return Err(refuse_waybill(204, awb));
     }
     let Some(declared) = declared_as(claim, on.at) else {

@@ -21,6 +21,7 @@ mod StillOk
 mod Stored
 mod Surviving
 pub mod Tied
+pub mod Statuses
 pub mod Walks
 mod Writing
 mod Below

@@ -32,11 +32,12 @@ pub use Rattle.shipment_machine.specs.declared.plans.Change.TheVariants.{Confirm
 pub use Rattle.shipment_machine.specs.declared.view.FlightLoad.{FlightLoad}
 pub use Rattle.shipment_machine.specs.declared.view.Rows.{Rows}
 pub use Rattle.station_core.specs.Keeping.{KeepsPremise, irregular_by, kept_of, loads_on, on_cargo, shed_by, stored_of, with_key, with_messages, with_moves, with_text}
-pub use Rattle.station_core.specs.Readers.{AreAnnounced, AreExpectations, AreExpectedBy, AreFlightRows, AreNoted, book_row, by_flight, expected_row, flight_row, has_come, irregular_rows, is_of_flight, message, movements_for, numbered, shed_rows, told_of, trail_row, waybill_of}
+pub use Rattle.station_core.specs.Readers.{AreAnnounced, AreExpectations, AreExpectedBy, AreFlightRows, AreNoted, book_row, by_flight, expected_row, flight_row, has_come, irregular_rows, is_about, is_of_flight, message, messages_about, messages_after, movements_for, numbered, shed_rows, told_of, trail_row, waybill_of}
 pub use Rattle.station_core.specs.Step.{Kept, State, has_room, most_rows, opening, texts_in}
 pub use Rattle.station_core.specs.declared.rows.AnnouncedRow.{AnnouncedRow}
 pub use Rattle.station_core.specs.declared.rows.BookQuery.{BookQuery}
 pub use Rattle.station_core.specs.declared.rows.BookRow.{BookRow}
+pub use Rattle.station_core.specs.declared.rows.Message.{Message}
 pub use Rattle.station_core.specs.declared.rows.TrailQuery.{TrailQuery}
 pub use Rattle.station_core.specs.declared.rows.TrailRow.{TrailRow}
 pub use Rattle.station_core.specs.declared.stored.KeptReply.{KeptReply}

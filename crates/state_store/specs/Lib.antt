@@ -1,3 +1,4 @@
 pub mod Common
 pub mod Asked
 pub mod Store
+pub mod Status

@@ -22,7 +22,7 @@ pub trait StateStore {
     ghost use Rattle.agent_stock.specs.Stock.{AreStockRuns, order_refusal, OnRefused, RefusesBy};
     ghost use Rattle.shipment_machine.specs.Book.{balances_of, built, has_moves as is_moved, waybills_on};
     ghost use Rattle.shipment_machine.specs.Cargo.{written};
-    ghost use Rattle.station_core.specs.Readers.{AreAnnounced, AreNoted, AreExpectations, expected_for, book_by, messages_by, trail_by};
+    ghost use Rattle.station_core.specs.Readers.{AreAnnounced, AreNoted, AreExpectations, expected_for, book_by, messages_about, messages_by, trail_by};
     ghost use Rattle.station_core.specs.Step.{State, has_room};
     ghost use Rattle.state_store.specs.Store.{Changes, Commits, HandsOut, Reads, ReadsAtRest, Says, Seen, Storing, Survives, at_rest, inside, waybills_for};
     ghost use Rattle.station_core.specs.Keeping.{IsRequest, kept_of, sizes_of, loads_on, on_cargo, with_moves, with_messages, with_key, with_text, with_order};
@@ -194,6 +194,15 @@ pub trait StateStore {
     ) -> Result<(), StoreFault>
         ensures { HandsOut storing self.old self.new result K.takes
             (λ s. messages_by query.now s.cargo) sink.old sink.new };
+
+    /// Hands out the status messages of a waybill, in order, until the sink stops.
+    fn messages_about<K: Sink<Message>>(
+        &mut self,
+        awb: &Awb,
+        sink: &mut K,
+    ) -> Result<(), StoreFault>
+        ensures { HandsOut storing self.old self.new result K.takes
+            (λ s. messages_about awb.now s.cargo) sink.old sink.new };
 
     /// Hands out the queried lines of the trail, in order, as they are read, until the sink stops.
     fn trail_by<K: Sink<TrailRow>>(

@@ -11,7 +11,7 @@ pub use Rattle.std.specs.Str.{bytes_eq}
 pub use Rattle.std.specs.declared.cmp.Ordering.{Ordering}
 pub use Rattle.agent_stock.specs.Stock.{after_order, order_refusal, run_of}
 pub use Rattle.agent_stock.specs.declared.stock.Order.{Order}
-pub use Rattle.awb_number.specs.Number.{IsNumber}
+pub use Rattle.awb_number.specs.Number.{IsNumber, number_text}
 pub use Rattle.desk_commands.specs.Command.{IsCommand, command_text}
 pub use Rattle.desk_commands.specs.declared.command.Command.{Command}
 pub use Rattle.imp_fields.specs.Fields.{is_airport, IsPieces, IsTenths, most_parts, is_line, IsDesignator, flight_text}

@@ -1,6 +1,6 @@
 -- The rows that a station's readers hand out.
-use Rattle.std.specs.Prelude.{ℕ, Bool, ◌&&◌, nat_le, List, length, ◌≡◌, max, ◌+◌, ◌-◌, ◌||◌, ◌==◌, not, nat_lt, if◌then◌else◌, IsTrue, Option, Some, None, [], ◌∷◌, map, drop, filter, true, false}
-use Rattle.station_core.specs.Common.{list_all, find, flat_map, sum_by, is_sorted, nat_cmp, ordering_then, slice_cmp, Ordering, option_map, flight_text, less, Declared, FlightDate, Expected, Move, Outbound, Built, same_flight_date, taken, found, free, store, departed, delivered, missing, transferred, waybills_of, waybills_on, built, same_place, Cargo, declaration, IrregularRow, ShedRow}
+use Rattle.std.specs.Prelude.{ℕ, Bool, ◌&&◌, nat_le, take, slice_range, codes, List, length, ◌≡◌, max, ◌+◌, ◌-◌, ◌||◌, ◌==◌, not, nat_lt, if◌then◌else◌, IsTrue, Option, Some, None, [], ◌∷◌, map, drop, filter, true, false}
+use Rattle.station_core.specs.Common.{list_all, find, flat_map, sum_by, is_sorted, nat_cmp, ordering_then, slice_cmp, Ordering, option_map, flight_text, less, Declared, FlightDate, Expected, Move, Outbound, Built, same_flight_date, taken, found, free, store, departed, delivered, missing, transferred, waybills_of, waybills_on, built, same_place, Cargo, declaration, IrregularRow, ShedRow, bytes_eq, number_text}
 use Rattle.station_core.specs.declared.rows.AnnouncedRow.{AnnouncedRow}
 use Rattle.station_core.specs.declared.rows.NotedFlight.{NotedFlight}
 use Rattle.station_core.specs.declared.rows.FlightRow.{FlightRow}
@@ -204,6 +204,15 @@ begins_after (messages.After n) confirmed = n
 
 abbrev pub messages_by : MessageQuery → Cargo → List Message
 messages_by query s = messages_after (begins_after query s.confirmed) s
+
+-- a status message of a waybill: its second line begins with the number
+abbrev pub is_about : ℕ → Message → Bool
+is_about w message =
+    nat_le 20 (length message.text) && bytes_eq (take 8 message.text) (codes "FSU/12\r\n") && bytes_eq (slice_range message.text 8 20) (number_text w)
+
+-- the status messages of a waybill, confirmed or not
+abbrev pub messages_about : ℕ → Cargo → List Message
+messages_about w s = filter (is_about w) (messages_after 0 s)
 
 -- the trail, in order
 abbrev pub trail_row : ℕ → ℕ × List ℕ → TrailRow

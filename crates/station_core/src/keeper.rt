@@ -21,7 +21,7 @@ pub trait Keeper {
     ghost use Rattle.agent_stock.specs.Stock.{AreStockRuns};
     ghost use Rattle.station_core.specs.Step.{State, IsLawfulState};
     ghost use Rattle.station_core.specs.Keeping.{Acts, Breaks, FindsOnly, HandsOut, IfWorks, Keeping, KeepsSound, Leaves, Reads, Reopens, kept_of, summary_of};
-    ghost use Rattle.station_core.specs.Readers.{waybill_of, AreAnnounced, shed_rows, AreFlightRows, AreExpectedBy, AreExpectedRows, irregular_rows, book_rows, book_by, messages_by, pending_messages, trail_rows, trail_by};
+    ghost use Rattle.station_core.specs.Readers.{waybill_of, AreAnnounced, shed_rows, AreFlightRows, AreExpectedBy, AreExpectedRows, irregular_rows, book_rows, book_by, messages_about, messages_by, pending_messages, trail_rows, trail_by};
 
     /// The keeper as contracts see it: the state that it keeps, whether its disk and its storage
     /// hold what they confirmed, whether it is broken, and the states that reopening may find.
@@ -132,6 +132,11 @@ pub trait Keeper {
     ) -> Result<(), ActFault>
         ensures { HandsOut keeping self.old self.new result S.takes
             (λ s rows. rows ≡ messages_by query.now s) sink.old sink.new };
+
+    /// Hands out the status messages of a waybill, confirmed or not, in order.
+    fn messages_about<S: Sink<Message>>(&mut self, awb: &Awb, sink: &mut S) -> Result<(), ActFault>
+        ensures { HandsOut keeping self.old self.new result S.takes
+            (λ s rows. rows ≡ messages_about awb.now s) sink.old sink.new };
 
     /// Hands out the trail, in order.
     fn trail<S: Sink<TrailRow>>(&mut self, sink: &mut S) -> Result<(), ActFault>

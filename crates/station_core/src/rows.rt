@@ -1,6 +1,6 @@
 //! The rows that a station's readers hand out.
 ghost use Rattle.std.specs.Prelude.{◌≡◌};
-ghost use Rattle.station_core.specs.Readers.{begins_after};
+ghost use Rattle.station_core.specs.Readers.{begins_after, is_about};
 
 use awb_number::Awb;
 use imp_fields::Airport;
@@ -182,6 +182,19 @@ pub struct Message {
     /// The position in the outbox, from 1.
     pub number: u32,
     pub text: RowText,
+}
+
+impl Message {
+    /// Returns whether this is a status message of a waybill.
+    pub fn is_about(&self, awb: &Awb) -> bool
+        ensures { result ≡ is_about awb.now self.now }
+    {
+        let text = self.text.as_bytes();
+        let number = awb.write();
+        text.len() >= 20
+            && &text[..8] == b"FSU/12\r\n".as_slice()
+            && &text[8..20] == number.as_slice()
+    }
 }
 
 /// A line of a status message that arrived.

@@ -241,6 +241,20 @@ impl<S: StateStore> Keeper for StoredStation<S> {
     }
 
     #[tactic(auto, using(crate::proofs::Reading::hands_out))]
+    fn messages_about<K: Sink<Message>>(
+        &mut self,
+        awb: &Awb,
+        sink: &mut K,
+    ) -> Result<(), ActFault> {
+        if self.broken {
+            return Err(ActFault::Reopen);
+        }
+        self.store
+            .messages_about(awb, sink)
+            .or(Err(ActFault::Store))
+    }
+
+    #[tactic(auto, using(crate::proofs::Reading::hands_out))]
     fn trail_by<K: Sink<TrailRow>>(
         &mut self,
         query: &TrailQuery,

@@ -150,6 +150,14 @@ impl<S: Alter> Keeper for Station<S> {
         self.stored.messages_by(query, sink)
     }
 
+    fn messages_about<K: Sink<Message>>(
+        &mut self,
+        awb: &Awb,
+        sink: &mut K,
+    ) -> Result<(), ActFault> {
+        self.stored.messages_about(awb, sink)
+    }
+
     fn trail_by<K: Sink<TrailRow>>(
         &mut self,
         query: &TrailQuery,

@@ -60,10 +60,10 @@ is_below n m z is up = grind (arith, ints, nat_tests)
 abbrev are_rows : List Waybill → Type 0
 are_rows xs = AllByRecursion (λ x. is_waybill_row x ≡ true) xs
 
-abbrev pairs : List AnnouncedRow → List (ℕ × Declared)
+abbrev pub pairs : List AnnouncedRow → List (ℕ × Declared)
 pairs rows = map (λ row. (row.awb, row.declared)) rows
 
-abbrev declared_at : ℕ → List AnnouncedRow → Option Declared
+abbrev pub declared_at : ℕ → List AnnouncedRow → Option Declared
 declared_at w rows = option_map (λ row. row.declared) (find (λ row. w == row.awb) rows)
 
 module _ (come : ℕ → Bool) where

@@ -1,5 +1,5 @@
 -- Which waybills may be asked for when one more move is in the book.
-use Rattle.table_state.proofs.Common.{Bool, Built, Delivered, Departed, Equal, Free, Greater, Hand, Irregular, Less, List, Missing, Move, Place, Stored, Surplus, Transferred, WaybillQuery, [], ap, arith, balances_of, brings, delivered, departed, drawn, false, found, held, in_store, insert_key, is_asked_for, is_in, match_ordering, missing, moved_in, moved_out, nat_cmp, nat_lt, nat_tests, not, opens, pieces_of, ranked, refl, same_place, sum_by_push, sym, taken, takes, transferred, true, true≢false, ℕ, ◌&&◌, ◌++◌, ◌+◌, ◌-◌, ◌==◌, ◌||◌, ◌∙◌, ◌∷◌, ◌≡◌, ◌≤◌}
+use Rattle.table_state.proofs.Common.{Bool, Built, Delivered, Departed, Equal, Free, Greater, Hand, Irregular, Less, List, Missing, Move, Place, Stored, Surplus, Transferred, WaybillQuery, [], ap, arith, balances_of, brings, delivered, departed, drawn, false, found, has_come, held, in_store, insert_key, is_asked_for, is_in, match_ordering, missing, moved_in, moved_out, nat_cmp, nat_lt, nat_tests, not, opens, pieces_of, ranked, refl, same_place, sum_by_push, sym, taken, takes, takes_back, transferred, true, true≢false, ℕ, ◌&&◌, ◌++◌, ◌+◌, ◌-◌, ◌==◌, ◌||◌, ◌∙◌, ◌∷◌, ◌≡◌, ◌≤◌}
 use Rattle.std.specs.Bool.{if◌then◌else◌}
 
 -- a place in the store is none beyond it
@@ -33,6 +33,9 @@ some_left a b c d e f u v w x y z p q r s t o h = grind (arith, nat_tests, p, q,
 some_of : (a b u v : ℕ) → u ≤ a → v ≤ b → (nat_lt 0 u || nat_lt 0 v) ≡ true → (nat_lt 0 a || nat_lt 0 b) ≡ true
 some_of a b u v p q h = grind (arith, nat_tests, p, q, h)
 
+none_of : (a b u v : ℕ) → a ≤ u → b ≤ v → (nat_lt 0 u || nat_lt 0 v) ≡ false → (nat_lt 0 a || nat_lt 0 b) ≡ false
+none_of a b u v p q h = grind (arith, nat_tests, p, q, h)
+
 module _ (book : List Move) (m : Move) (w : ℕ) where
   abbrev more : List Move
   more = book ++ m ∷ []
@@ -45,6 +48,17 @@ module _ (book : List Move) (m : Move) (w : ℕ) where
 
   drawn_no_more : (there : Place → Bool) → ((m.awb == w) && there m.from) ≡ false → (drawn more w there).pieces ≤ (drawn book w there).pieces
   drawn_no_more there off = no_more (moved_out pieces_of book w there) (moved_in pieces_of book w there) _ _ _ _ (sum_by_push (takes pieces_of w there) book m) (sum_by_push (brings pieces_of w there) book m) (none_taken there off)
+
+  drawn_no_less : (there : Place → Bool) → ((m.awb == w) && there m.to) ≡ false → (drawn book w there).pieces ≤ (drawn more w there).pieces
+  drawn_no_less there off = no_less (moved_in pieces_of book w there) (moved_out pieces_of book w there) _ _ _ _ (sum_by_push (brings pieces_of w there) book m) (sum_by_push (takes pieces_of w there) book m) (none_brought there off)
+
+  -- nothing has come in after a move that takes nothing of it back only if nothing had before
+  pub come_before : ((m.awb == w) && takes_back m) ≡ false → has_come more w ≡ false → has_come book w ≡ false
+  come_before off none =
+      none_of (taken book w).pieces (found book w).pieces (taken more w).pieces (found more w).pieces
+      (drawn_no_less (same_place Hand) (and_then (m.awb == w) (takes_back m) (same_place Hand m.to) (λ e. (neither _ _ e).0) off))
+      (drawn_no_less (same_place Surplus) (and_then (m.awb == w) (takes_back m) (same_place Surplus m.to) (λ e. (neither _ _ e).1) off))
+      none
 
   held_no_less : (there : Place → Bool) → ((m.awb == w) && there m.from) ≡ false → (held book w there).pieces ≤ (held more w there).pieces
   held_no_less there off = no_less (moved_out pieces_of book w there) (moved_in pieces_of book w there) _ _ _ _ (sum_by_push (takes pieces_of w there) book m) (sum_by_push (brings pieces_of w there) book m) (none_taken there off)

@@ -37,7 +37,7 @@ above_by : (w : ℕ) (xs : List ℕ) → AllByRecursion (λ y. nat_cmp w y ≡ L
 above_by w [] h = tt
 above_by w (x ∷ xs) h = (ranked w x Less (sym h.0), above_by w xs h.1)
 
-rising_by : (xs : List ℕ) → IsStrictlySortedBy nat_cmp xs → Rising xs
+pub rising_by : (xs : List ℕ) → IsStrictlySortedBy nat_cmp xs → Rising xs
 rising_by [] h = tt
 rising_by (x ∷ xs) h = (above_by x xs (sorted_head nat_cmp x xs h), rising_by xs (sorted_tail nat_cmp x xs h))
 

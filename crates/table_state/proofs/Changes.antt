@@ -1,5 +1,5 @@
 -- What a row that was written makes of the state that is shown.
-use Rattle.table_state.proofs.Common.{AreBoarded, AreBuilds, AreCounts, AreCovered, AreKnown, AreNumbered, Bool, Build, Count, Declared, Err, FinMap, FlightDate, FlightSpans, HasOpen, HaveAsked, Holders, IfErr, IsCounted, IsReadable, IsRequest, IsShowing, IsTrue, KnownCounts, Knows, Lines, List, Means, Move, None, Ok, OpenLines, Option, Part, Restocked, Result, Shows, Sizes, Some, State, Stock, Stocked, Tables, Tells, View, WereThere, [], after_order, ap, at_rest, book_in, book_told, build_cmp, confirming, count_cmp, count_fits, expected_key, expected_row, false, flight_key, flight_text, get_by, holders_in, if◌then◌else◌, is_count, is_designator, is_expected_row, is_flight_row, is_message_row, is_move_row, is_part_row, is_run, is_trail_row, is_utf8, is_waybill_row, kept_row, length, length-append, line_row, list_all, lowest_failing, meaning_of, message_row, move_id, on_cargo, order_refusal, outbound_row, part_key, pos, put_over, putting_waybill, refl, refusal_number, refused_by, restocked, run_of, running, sizes_of, stock_cmp, subst, sym, test_of, true, using_up, waybill_id, waybill_row, with_expected, with_flight, with_kept, with_kept_text, with_key, with_line, with_message, with_messages, with_move, with_moves, with_order, with_part, with_text, with_trail_line, written, ℕ, ℤ, ◌++◌, ◌+◌, ◌<◌, ◌∙◌, ◌∷◌, ◌≡◌}
+use Rattle.table_state.proofs.Common.{AreBoarded, AreBuilds, AreCounts, AreKnown, AreNumbered, Bool, Build, Cargo, Count, Declared, Err, FinMap, FlightDate, HasOpen, HaveAsked, HaveSpans, Holders, IfErr, IsCounted, IsReadable, IsRequest, IsShowing, IsTrue, KnownCounts, Knows, Lines, List, Means, Move, None, Ok, OpenLines, Option, Part, Restocked, Result, Shows, Sizes, Some, State, Stock, Stocked, Tables, Tells, View, WereThere, [], after_order, ap, at_rest, book_in, book_told, build_cmp, confirming, count_cmp, count_fits, expected_key, expected_row, false, flight_key, flight_text, get_by, holders_in, if◌then◌else◌, is_count, is_designator, is_expected_row, is_flight_row, is_message_row, is_move_row, is_part_row, is_run, is_trail_row, is_utf8, is_waybill_row, kept_row, length, length-append, line_row, list_all, lowest_failing, meaning_of, message_row, move_id, on_cargo, order_refusal, outbound_row, part_key, pos, put_over, putting_waybill, refl, refusal_number, refused_by, restocked, run_of, running, sizes_of, stock_cmp, subst, sym, test_of, true, using_up, waybill_id, waybill_row, with_expected, with_flight, with_kept, with_kept_text, with_key, with_line, with_message, with_messages, with_move, with_moves, with_order, with_part, with_text, with_trail_line, written, ℕ, ℤ, ◌++◌, ◌+◌, ◌<◌, ◌∙◌, ◌∷◌, ◌≡◌}
 use Rattle.agent_stock.specs.Stock.{OnRefused, RefusesBy}
 use Rattle.agent_stock.specs.declared.stock.Order.{Order}
 use Rattle.agent_stock.specs.declared.stock.StockFault.{StockFault}
@@ -14,7 +14,7 @@ use Rattle.station_schema.specs.Tables as table
 use Rattle.row_codec.proofs.Moving.{HasMove}
 use Rattle.row_codec.proofs.Written.{waybill_written, waybill_changed, flight_written, expected_written, part_written, key_kept, text_kept, line_written, message_written, mark_written, move_written}
 use Rattle.state_store.specs.Store.{inside}
-use Rattle.table_state.specs.Shown.{Recorded}
+use Rattle.table_state.specs.Shown.{Declarations, Recorded, declaring}
 use Rattle.table_state.proofs.Lifting.{writes_on, reached}
 
 put_means : (t : Tables) (s : State) (text : List ℕ) (w : ℕ) (d : Declared) (new : table.Waybill) → new ≡ waybill_row w d → is_waybill_row (waybill_row w d) ≡ true → Means t (Some s)
@@ -34,12 +34,21 @@ module _ (old new : View) (here : List ℕ) (counted : KnownCounts) (confirmed :
   same_rest after place counts mark k = record { here_is = k.here_is ∙ place; sizes_are = k.sizes_are ∙ counts; confirmed_is = k.confirmed_is ∙ mark }
 
   pub declares_on : (text : List ℕ) (is_missing : Bool) (w : ℕ) (d : Declared) (row_is : table.Waybill) → row_is ≡ waybill_row w d → IsTrue (is_waybill_row (waybill_row w d))
+      → (later : KnownCounts) → later.sizes ≡ counted.sizes → later.boarded ≡ counted.boarded → later.known ≡ counted.known → later.open_lines ≡ counted.open_lines → later.spans ≡ counted.spans
+      → ((book : List Move) (declared : Declarations) → HaveAsked counted.waybills book declared → HaveAsked later.waybills book (declaring w d declared))
       → (IsShowing old (row.inside old.committed old.now) → IsShowing new (row.inside old.committed (putting_waybill is_missing row_is old.now)))
-      → Shows new here counted confirmed (inside before (on_cargo (written text (Declare w d)) s))
-  declares_on text is_missing w d row_is is fits done =
-      writes_on old new here counted confirmed (putting_waybill is_missing row_is) counted confirmed before s (on_cargo (written text (Declare w d)) s) was survives done
+      → Shows new here later confirmed (inside before (on_cargo (written text (Declare w d)) s))
+  declares_on text is_missing w d row_is is fits later sizes_later same_boarded same_known same_open same_spans declares done =
+      writes_on old new here counted confirmed (putting_waybill is_missing row_is) later confirmed before s (on_cargo (written text (Declare w d)) s) was survives done
       (λ _ means. putting_means old.now s text is_missing w d row_is is fits means)
-      (same_rest (on_cargo (written text (Declare w d)) s) refl refl refl) (λ b. b)
+      (λ k. record { here_is = k.here_is; sizes_are = sizes_later ∙ k.sizes_are; confirmed_is = k.confirmed_is })
+      (λ kept. record {
+        boarded = subst (λ o. AreBoarded o s.cargo.book) (sym same_boarded) kept.boarded;
+        known = subst (λ o. AreKnown o (running s.cargo.book)) (sym same_known) kept.known;
+        waybills = declares s.cargo.book s.cargo.declared kept.waybills;
+        open_lines = subst (λ (o : OpenLines). HasOpen o.kept s.cargo.expected) (sym same_open) kept.open_lines;
+        spans = subst (λ o. HaveSpans o s.cargo.book s.cargo.outbox) (sym same_spans) kept.spans;
+      })
 
   pub notes_flight_on : (text name : List ℕ) (day : ℤ) (f : FlightDate) (o : Outbound) (row_is : table.Flight) → name ≡ flight_text f.flight → day ≡ pos f.day → row_is ≡ outbound_row o
       → IsTrue (is_designator f.flight) → IsTrue (is_flight_row (flight_key f, outbound_row o))
@@ -63,9 +72,9 @@ module _ (old new : View) (here : List ℕ) (counted : KnownCounts) (confirmed :
       (λ kept. record {
         boarded = subst (λ o. AreBoarded o s.cargo.book) (sym same_boarded) kept.boarded;
         known = subst (λ o. AreKnown o (running s.cargo.book)) (sym same_known) kept.known;
-        waybills = subst (λ o. HaveAsked o s.cargo.book) (sym same_waybills) kept.waybills;
+        waybills = subst (λ o. HaveAsked o s.cargo.book s.cargo.declared) (sym same_waybills) kept.waybills;
         open_lines = posts s.cargo.expected kept.open_lines;
-        spans = subst (λ (o : FlightSpans). AreCovered o.kept s.cargo.book) (sym same_spans) kept.spans;
+        spans = subst (λ o. HaveSpans o s.cargo.book s.cargo.outbox) (sym same_spans) kept.spans;
       })
 
   pub notes_part_on : (text name airport body : List ℕ) (day number : ℤ) (p : Part) → name ≡ flight_text p.flight.flight → day ≡ pos p.flight.day → airport ≡ p.airport → number ≡ pos p.number → body ≡ text
@@ -79,14 +88,14 @@ module _ (old new : View) (here : List ℕ) (counted : KnownCounts) (confirmed :
 
   -- a list that got one more
 
-  same_counted : (later : KnownCounts) (book : List Move) (lines : Lines) → later.boarded ≡ counted.boarded → later.known ≡ counted.known → later.waybills ≡ counted.waybills → later.open_lines ≡ counted.open_lines → later.spans ≡ counted.spans
-      → IsCounted counted book lines → IsCounted later book lines
-  same_counted later book lines same_boarded same_known same_waybills same_open same_spans kept = record {
-    boarded = subst (λ o. AreBoarded o book) (sym same_boarded) kept.boarded;
-    known = subst (λ o. AreKnown o (running book)) (sym same_known) kept.known;
-    waybills = subst (λ o. HaveAsked o book) (sym same_waybills) kept.waybills;
-    open_lines = subst (λ (o : OpenLines). HasOpen o.kept lines) (sym same_open) kept.open_lines;
-    spans = subst (λ (o : FlightSpans). AreCovered o.kept book) (sym same_spans) kept.spans;
+  same_counted : (later : KnownCounts) (c : Cargo) → later.boarded ≡ counted.boarded → later.known ≡ counted.known → later.waybills ≡ counted.waybills → later.open_lines ≡ counted.open_lines → later.spans ≡ counted.spans
+      → IsCounted counted c.book c.expected c.declared c.outbox → IsCounted later c.book c.expected c.declared c.outbox
+  same_counted later c same_boarded same_known same_waybills same_open same_spans kept = record {
+    boarded = subst (λ o. AreBoarded o c.book) (sym same_boarded) kept.boarded;
+    known = subst (λ o. AreKnown o (running c.book)) (sym same_known) kept.known;
+    waybills = subst (λ o. HaveAsked o c.book c.declared) (sym same_waybills) kept.waybills;
+    open_lines = subst (λ (o : OpenLines). HasOpen o.kept c.expected) (sym same_open) kept.open_lines;
+    spans = subst (λ o. HaveSpans o c.book c.outbox) (sym same_spans) kept.spans;
   }
 
   pub adds_line_on : (text : List ℕ) (n w : ℕ) (line : List ℕ) (row_is : table.TrailLine) → row_is ≡ line_row n w line → IsTrue (is_trail_row (line_row n w line)) → n ≡ counted.sizes.lines + 1 → (later : KnownCounts) → later.sizes ≡ record { moves = counted.sizes.moves; lines = n; messages = counted.sizes.messages } → later.boarded ≡ counted.boarded → later.known ≡ counted.known → later.waybills ≡ counted.waybills → later.open_lines ≡ counted.open_lines → later.spans ≡ counted.spans
@@ -101,12 +110,13 @@ module _ (old new : View) (here : List ℕ) (counted : KnownCounts) (confirmed :
         here_is = k.here_is;
         sizes_are = sizes_later ∙ (λ i. record { moves = (k.sizes_are i).moves; lines = (one_more ∙ sym (length-append s.cargo.trail ((w, line) ∷ []))) i; messages = (k.sizes_are i).messages });
         confirmed_is = k.confirmed_is;
-      }) (λ kept. same_counted later s.cargo.book s.cargo.expected same_boarded same_known same_waybills same_open same_spans kept) sound
+      }) (λ kept. same_counted later s.cargo same_boarded same_known same_waybills same_open same_spans kept) sound
 
-  pub adds_message_on : (n : ℕ) (text : List ℕ) (row_is : table.Message) → row_is ≡ message_row n text → IsTrue (is_message_row (message_row n text)) → n ≡ counted.sizes.messages + 1 → (later : KnownCounts) → later.sizes ≡ record { moves = counted.sizes.moves; lines = counted.sizes.lines; messages = n } → later.boarded ≡ counted.boarded → later.known ≡ counted.known → later.waybills ≡ counted.waybills → later.open_lines ≡ counted.open_lines → later.spans ≡ counted.spans
+  pub adds_message_on : (n : ℕ) (text : List ℕ) (row_is : table.Message) → row_is ≡ message_row n text → IsTrue (is_message_row (message_row n text)) → n ≡ counted.sizes.messages + 1 → (later : KnownCounts) → later.sizes ≡ record { moves = counted.sizes.moves; lines = counted.sizes.lines; messages = n } → later.boarded ≡ counted.boarded → later.known ≡ counted.known → later.waybills ≡ counted.waybills → later.open_lines ≡ counted.open_lines
+      → ((book : List Move) (outbox : List (List ℕ)) → n ≡ length outbox + 1 → HaveSpans counted.spans book outbox → HaveSpans later.spans book (outbox ++ text ∷ []))
       → (IsShowing old (row.inside old.committed old.now) → IsShowing new (row.inside old.committed (with_message row_is old.now)))
       → Shows new here later confirmed (inside before (with_messages (text ∷ []) s))
-  adds_message_on n text row_is is fits next later sizes_later same_boarded same_known same_waybills same_open same_spans done sound =
+  adds_message_on n text row_is is fits next later sizes_later same_boarded same_known same_waybills same_open told done sound =
       let had : counted.sizes.messages ≡ length s.cargo.outbox = ap (λ (z : Sizes). z.messages) (was (survives.sound sound)).knows.sizes_are in
       let one_more : n ≡ length s.cargo.outbox + 1 = next ∙ ap (λ k. k + 1) had in
       writes_on old new here counted confirmed (with_message row_is) later confirmed before s (with_messages (text ∷ []) s) was survives done
@@ -115,7 +125,13 @@ module _ (old new : View) (here : List ℕ) (counted : KnownCounts) (confirmed :
         here_is = k.here_is;
         sizes_are = sizes_later ∙ (λ i. record { moves = (k.sizes_are i).moves; lines = (k.sizes_are i).lines; messages = (one_more ∙ sym (length-append s.cargo.outbox (text ∷ []))) i });
         confirmed_is = k.confirmed_is;
-      }) (λ kept. same_counted later s.cargo.book s.cargo.expected same_boarded same_known same_waybills same_open same_spans kept) sound
+      }) (λ kept. record {
+        boarded = subst (λ o. AreBoarded o s.cargo.book) (sym same_boarded) kept.boarded;
+        known = subst (λ o. AreKnown o (running s.cargo.book)) (sym same_known) kept.known;
+        waybills = subst (λ o. HaveAsked o s.cargo.book s.cargo.declared) (sym same_waybills) kept.waybills;
+        open_lines = subst (λ (o : OpenLines). HasOpen o.kept s.cargo.expected) (sym same_open) kept.open_lines;
+        spans = told s.cargo.book s.cargo.outbox one_more kept.spans;
+      }) sound
 
   pub confirms_on : (text : List ℕ) (number : ℤ) (upto : ℕ) → number ≡ pos upto → IsTrue (is_count (pos upto))
       → (IsShowing old (row.inside old.committed old.now) → IsShowing new (row.inside old.committed (confirming number old.now)))
@@ -200,8 +216,8 @@ module _ (old new : View) (here : List ℕ) (counted : KnownCounts) (confirmed :
   pub moves_on : (n : ℕ) (m : Move) → n ≡ counted.sizes.moves + 1 → (later : KnownCounts) → later.sizes ≡ record { moves = n; lines = counted.sizes.lines; messages = counted.sizes.messages }
       → (were : ℤ) → ((book : List Move) → AreBoarded counted.boarded book → WereThere book m were → AreBoarded later.boarded (book ++ m ∷ []))
       → ((book : List Move) → AreKnown counted.known (running book) → AreKnown later.known (running (book ++ m ∷ [])))
-      → ((book : List Move) → HaveAsked counted.waybills book → HaveAsked later.waybills (book ++ m ∷ [])) → later.open_lines ≡ counted.open_lines
-      → ((book : List Move) → n ≡ length book + 1 → AreCovered counted.spans.kept book → AreCovered later.spans.kept (book ++ m ∷ []))
+      → ((book : List Move) (declared : Declarations) → HaveAsked counted.waybills book declared → HaveAsked later.waybills (book ++ m ∷ []) declared) → later.open_lines ≡ counted.open_lines
+      → ((book : List Move) (outbox : List (List ℕ)) → n ≡ length book + 1 → HaveSpans counted.spans book outbox → HaveSpans later.spans (book ++ m ∷ []) outbox)
       → (IsShowing old (row.inside old.committed old.now) → (book : List Move) → AreCounts old.now.counts book → AreBuilds old.now.builds book → AreKnown counted.known (running book) → new.IsSound → WereThere book m were)
       → (IsShowing old (row.inside old.committed old.now) → (book : List Move) → AreCounts old.now.counts book → AreBuilds old.now.builds book → AreKnown counted.known (running book) → Recorded new old.committed old.now n m (book ++ m ∷ []))
       → Shows new here later confirmed (inside before (with_moves (m ∷ []) s))
@@ -225,9 +241,9 @@ module _ (old new : View) (here : List ℕ) (counted : KnownCounts) (confirmed :
       (λ kept. record {
         boarded = after s.cargo.book kept.boarded (subst (λ book. WereThere book m were) (book_told old.now s h.now) (there (λ _. record { is_open = up; now_is = refl; committed_is = refl; mode = h.mode }) (book_in old.now.moves) h.now.0.counts h.now.0.builds known sound));
         known = knows s.cargo.book kept.known;
-        waybills = asked s.cargo.book kept.waybills;
+        waybills = asked s.cargo.book s.cargo.declared kept.waybills;
         open_lines = subst (λ (o : OpenLines). HasOpen o.kept s.cargo.expected) (sym same_open) kept.open_lines;
-        spans = covered s.cargo.book one_more kept.spans;
+        spans = covered s.cargo.book s.cargo.outbox one_more kept.spans;
       }) sound
 
 -- a mark of 32 bits

@@ -14,7 +14,7 @@ pub use Rattle.row_sinks.specs.Handed.{HandedOut, Hands}
 pub use Rattle.shipment_machine.proofs.OnFlight.{Rising-waybills_of, is_in-waybills_of, is_in-waybills_on, none_in}
 pub use Rattle.shipment_machine.proofs.Rising.{Rising-filter, Rising-put_rising, below_in, is_in-filter, is_in-put_rising, same_rising, yes_here}
 pub use Rattle.shipment_machine.specs.Book.{balance, balances_of, brings, delivered, departed, drawn, found, has_moves, held, in_store, missing, moved_in, moved_out, pieces_of, put_rising, same_place, taken, takes, tenths_of, transferred, waybills_of, waybills_on, same_flight_date}
-pub use Rattle.shipment_machine.specs.Cargo.{opening_cargo, written, is_in}
+pub use Rattle.shipment_machine.specs.Cargo.{Cargo, opening_cargo, written, is_in}
 pub use Rattle.shipment_machine.specs.declared.flight.FlightDate.{FlightDate}
 pub use Rattle.shipment_machine.specs.declared.moves.Declared.{Declared}
 pub use Rattle.shipment_machine.specs.declared.moves.Move.{Move}
@@ -26,7 +26,7 @@ pub use Rattle.state_store.proofs.Walks.{rests_then, survives_then, told_so, unr
 pub use Rattle.state_store.specs.Store.{Lines, with_line, Changes, HandsOut, Reads, ReadsAtRest, Seen, Storing, Survives, at_rest, asked, is_asked_for, waybills_for, with_balances}
 pub use Rattle.state_store.specs.declared.viewing.WaybillQuery.TheVariants.{Irregular, Stored}
 pub use Rattle.state_store.specs.declared.viewing.WaybillQuery.{WaybillQuery}
-pub use Rattle.station_core.specs.Readers.{AreAnnounced, AreExpectations, AreNoted, asked_of, begins_after, book_by, book_row, book_rows, expected_for, has_come, is_named, is_of_flight, messages_by, numbered, trail_by}
+pub use Rattle.station_core.specs.Readers.{announced, AreAnnounced, AreExpectations, AreNoted, asked_of, begins_after, book_by, book_row, book_rows, expected_for, has_come, is_named, is_of_flight, messages_by, numbered, trail_by}
 pub use Rattle.station_core.specs.Step.{State}
 pub use Rattle.station_core.specs.Keeping.{AreAllBalances, IsRequest, nothing, on_cargo, sizes_of, with_key, with_messages, with_moves, with_order, with_text}
 pub use Rattle.station_core.specs.declared.rows.AnnouncedRow.{AnnouncedRow}
@@ -64,8 +64,8 @@ pub use Rattle.std.specs.Prelude.{All, IfErr, IfOk, IsErr, IsOk, IsTrue, OnErr, 
 pub use Rattle.std.specs.Str.{IsAscii, IsUtf8, is_utf8}
 pub use Rattle.std.specs.declared.cmp.Ordering.TheVariants.{Equal, Greater, Less}
 pub use Rattle.stock_tables.specs.Stocked.{Restocked, Stocked, restocked, using_up}
-pub use Rattle.table_state.specs.Shown.{HaveCome, announced_by, has_come_by, put_over, putting_waybill, AreBoarded, Finds, HasAsked, HasOpen, HasThese, HaveAsked, IfGivenBack, IsBoarded, IsCounted, Knows, Shows, Stands, Tells, in_tables, joins, opens, AreCovered, Covers, IsCovered, IsSpanned, LiesIn}
+pub use Rattle.table_state.specs.Shown.{Declarations, HasAnnounced, HaveCome, announced_by, announced_row, announcing, declaring, takes_back, has_come_by, put_over, putting_waybill, AreBoarded, Finds, HasAsked, HasOpen, HasThese, HaveAsked, IfGivenBack, IsBoarded, IsCounted, Knows, Shows, Stands, Tells, in_tables, joins, opens, AreCovered, AreTold, Covers, HaveSpans, IsCovered, IsSpanned, IsTold, LiesIn, Reaches}
 pub use Rattle.table_state.specs.declared.counted.KnownCounts.{KnownCounts}
-pub use Rattle.table_state.specs.declared.flight_spans.FlightSpans.{FlightSpans}
+pub use Rattle.table_state.specs.declared.counted.KnownSpans.{KnownSpans}
 pub use Rattle.table_state.specs.declared.open_lines.OpenLines.{OpenLines}
 pub use Rattle.table_state.specs.declared.state.TableState.{TableState}

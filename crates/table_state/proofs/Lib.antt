@@ -11,5 +11,7 @@ pub mod Changes
 pub mod Asked
 pub mod Balances
 pub mod Announced
+pub mod Announcing
 pub mod Spans
+pub mod StatusParts
 mod File

@@ -1,5 +1,5 @@
 -- From what the tables of a store show to the state that they mean.
-use Rattle.table_state.proofs.Common.{AreBoarded, AreCovered, AreKnown, Changes, Displays, Err, Finds, FlightSpans, HasOpen, HaveAsked, IfGivenBack, IfOk, IsCounted, IsShowing, KnownCounts, Knows, List, MayCommit, Means, Ok, OnErr, OnOk, OpenLines, Option, Reads, ReadsAtRest, Result, Seen, Shows, ShowsStill, Some, Stands, State, Storing, Survives, TableState, Tables, View, WasOpen, at_rest, false, in_tables, inl, inr, refl, running, same_meaning, subst, sym, true, ℕ, ⊎_elim, ◌∙◌, ◌≡◌, ◌⊎◌}
+use Rattle.table_state.proofs.Common.{AreBoarded, AreKnown, Changes, Displays, Err, Finds, HasOpen, HaveAsked, HaveSpans, IfGivenBack, IfOk, IsCounted, IsShowing, KnownCounts, Knows, List, MayCommit, Means, Ok, OnErr, OnOk, OpenLines, Option, Reads, ReadsAtRest, Result, Seen, Shows, ShowsStill, Some, Stands, State, Storing, Survives, TableState, Tables, View, WasOpen, at_rest, false, in_tables, inl, inr, refl, running, same_meaning, subst, sym, true, ℕ, ⊎_elim, ◌∙◌, ◌≡◌, ◌⊎◌}
 use Rattle.station_schema.specs.Store as row
 use Rattle.row_codec.specs.declared.known.KnownSums.{KnownSums}
 use Rattle.station_rows.specs.Shown as rows
@@ -50,7 +50,7 @@ may_find_on old new here counted confirmed before s was may sound found finds =
     (may.crash sound finds.tables finds.left)
 
 -- another number that is kept
-pub keeps_number : (v : View) (here : List ℕ) (counted : KnownCounts) (confirmed : ℕ) (x : Seen) → Shows v here counted confirmed x → (later : KnownCounts) → later.sizes ≡ counted.sizes → (v.IsSound → IsCounted later x.now.cargo.book x.now.cargo.expected) → Shows v here later confirmed x
+pub keeps_number : (v : View) (here : List ℕ) (counted : KnownCounts) (confirmed : ℕ) (x : Seen) → Shows v here counted confirmed x → (later : KnownCounts) → later.sizes ≡ counted.sizes → (v.IsSound → IsCounted later x.now.cargo.book x.now.cargo.expected x.now.cargo.declared x.now.cargo.outbox) → Shows v here later confirmed x
 keeps_number v here counted confirmed x was later same number sound =
     let k = was sound in
     record {
@@ -154,7 +154,7 @@ module _ (old new : View) (here : List ℕ) (counted : KnownCounts) (confirmed :
       → (new.IsSound → Displays new (row.inside old.committed (change old.now)))
       → (new.IsSound → Means old.now (Some s) → Means (change old.now) (Some after))
       → (Knows here counted.sizes confirmed (inside before s) → Knows here later.sizes confirmed_then (inside before after))
-      → (IsCounted counted s.cargo.book s.cargo.expected → IsCounted later after.cargo.book after.cargo.expected)
+      → (IsCounted counted s.cargo.book s.cargo.expected s.cargo.declared s.cargo.outbox → IsCounted later after.cargo.book after.cargo.expected after.cargo.declared after.cargo.outbox)
       → Shows new here later confirmed_then (inside before after)
   reached change later confirmed_then before s after was survives shown means knows kept sound =
       let k = was (survives.sound sound) in
@@ -180,7 +180,7 @@ module _ (old new : View) (here : List ℕ) (counted : KnownCounts) (confirmed :
       → (IsShowing old (row.inside old.committed old.now) → IsShowing new (row.inside old.committed (change old.now)))
       → (new.IsSound → Means old.now (Some s) → Means (change old.now) (Some after))
       → (Knows here counted.sizes confirmed (inside before s) → Knows here later.sizes confirmed_then (inside before after))
-      → (IsCounted counted s.cargo.book s.cargo.expected → IsCounted later after.cargo.book after.cargo.expected)
+      → (IsCounted counted s.cargo.book s.cargo.expected s.cargo.declared s.cargo.outbox → IsCounted later after.cargo.book after.cargo.expected after.cargo.declared after.cargo.outbox)
       → Shows new here later confirmed_then (inside before after)
   writes_on change later confirmed_then before s after was survives done =
       reached change later confirmed_then before s after was survives (λ sound.
@@ -214,7 +214,7 @@ after old store counted missed = record old { store = store; counted = counted; 
 module _ {S A E : Type 0} (view : S → View) (old : TableState S) (store : S) where
   -- what was read is said of the tables, which mean the state
   pub counted_by : {X F : Type 0} {found : X} {P : Tables → X → Type 0} (later : KnownCounts) (missed : Missed) (r : Result A E) (Is : State → A → Type 0) → later.sizes ≡ old.counted.sizes → rows.Reads {E = F} (view old.store) (view store) (Ok found) P
-      → ((s : State) → Means (view old.store).now (Some s) → P (view old.store).now found → IsCounted old.counted s.cargo.book s.cargo.expected → IsCounted later s.cargo.book s.cargo.expected)
+      → ((s : State) → Means (view old.store).now (Some s) → P (view old.store).now found → IsCounted old.counted s.cargo.book s.cargo.expected s.cargo.declared s.cargo.outbox → IsCounted later s.cargo.book s.cargo.expected s.cargo.declared s.cargo.outbox)
       → ((s : State) → Means (view old.store).now (Some s) → P (view old.store).now found → IfOk r (Is s))
       → Reads (in_tables view) old (after old store later missed) r Is
   counted_by {found = found} {P = P} later missed r Is sizes read kept value = record {
@@ -255,13 +255,13 @@ module _ {S A E : Type 0} (view : S → View) (old : TableState S) (store : S) w
 
   -- where more is known of sums, and nothing else
   module _ (later : KnownCounts) (missed : Missed) (r : Result A E) (Is : State → A → Type 0) (sizes : later.sizes ≡ old.counted.sizes) (boarded : later.boarded ≡ old.counted.boarded) (waybills : later.waybills ≡ old.counted.waybills) (open_lines : later.open_lines ≡ old.counted.open_lines) (spans : later.spans ≡ old.counted.spans) where
-    counts_so : (s : State) → IsCounted old.counted s.cargo.book s.cargo.expected → AreKnown later.known (running s.cargo.book) → IsCounted later s.cargo.book s.cargo.expected
+    counts_so : (s : State) → IsCounted old.counted s.cargo.book s.cargo.expected s.cargo.declared s.cargo.outbox → AreKnown later.known (running s.cargo.book) → IsCounted later s.cargo.book s.cargo.expected s.cargo.declared s.cargo.outbox
     counts_so s kept known = record {
       boarded = subst (λ o. AreBoarded o s.cargo.book) (sym boarded) kept.boarded;
       known = known;
-      waybills = subst (λ o. HaveAsked o s.cargo.book) (sym waybills) kept.waybills;
+      waybills = subst (λ o. HaveAsked o s.cargo.book s.cargo.declared) (sym waybills) kept.waybills;
       open_lines = subst (λ (o : OpenLines). HasOpen o.kept s.cargo.expected) (sym open_lines) kept.open_lines;
-      spans = subst (λ (o : FlightSpans). AreCovered o.kept s.cargo.book) (sym spans) kept.spans;
+      spans = subst (λ o. HaveSpans o s.cargo.book s.cargo.outbox) (sym spans) kept.spans;
     }
 
     pub sums_by : {X F : Type 0} {found : X} {P : Tables → X → Type 0} → rows.Reads {E = F} (view old.store) (view store) (Ok found) P

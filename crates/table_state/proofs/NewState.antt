@@ -85,7 +85,7 @@ pub opening_means : (here : List ℕ) → IsTrue (is_airport here) → Means (op
 opening_means here airport = (opening_readable here airport, meaning_opening here)
 
 -- a store whose tables mean a state
-pub shown : (v : View) (t : Tables) (s : State) (here : List ℕ) (counted : KnownCounts) (confirmed : ℕ) → Means t (Some s) → Knows here counted.sizes confirmed (at_rest s) → IsCounted counted s.cargo.book s.cargo.expected → (v.IsSound → HasThese t v)
+pub shown : (v : View) (t : Tables) (s : State) (here : List ℕ) (counted : KnownCounts) (confirmed : ℕ) → Means t (Some s) → Knows here counted.sizes confirmed (at_rest s) → IsCounted counted s.cargo.book s.cargo.expected s.cargo.declared s.cargo.outbox → (v.IsSound → HasThese t v)
     → ((u : Tables) → v.is_open ≡ true → v.IsSound → v.may_leave u → u ≡ v.committed) → Shows v here counted confirmed (at_rest s)
 shown v t s here counted confirmed means knows kept has settled sound =
     let these = has sound in

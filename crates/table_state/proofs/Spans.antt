@@ -8,7 +8,7 @@ use Rattle.station_core.specs.declared.rows.BookRow.{BookRow}
 use Rattle.station_schema.specs.Tables.{Move}
 use Rattle.row_codec.proofs.Flown.{flown_moves}
 use Rattle.table_state.specs.declared.flight_spans.Filling.{Filling}
-use Rattle.table_state.specs.declared.flight_spans.Span.{Span}
+use Rattle.table_state.specs.declared.span.Span.{Span}
 
 numbered_more : (a : ℕ) (book : List cargo.Move) (m : cargo.Move) → numbered book_row a (book ++ m ∷ []) ≡ numbered book_row a book ++ book_row (a + length book) m ∷ []
 numbered_more a [] m = let here : a ≡ a + 0 = omega arith in ap (λ n. book_row n m ∷ []) here

@@ -23,7 +23,9 @@ impl<S: TableStore> TableState<S> {
     {
         let row = waybill_row(self.alloc, awb, declared)?;
         let is_missing = self.missed.take_waybill(awb);
-        put_waybill(&mut self.store, is_missing, &row)
+        put_waybill(&mut self.store, is_missing, &row)?;
+        self.counted.waybills.declare(awb);
+        Ok(())
     }
 
     /// An agent's number is used up.

@@ -4,6 +4,7 @@ ghost use Rattle.table_state.specs.Common.{most_rows};
 
 use crate::flight_spans::FlightSpans;
 use crate::open_lines::OpenLines;
+use crate::status_spans::StatusSpans;
 use crate::waybill_sets::WaybillSets;
 use row_codec::KnownSums;
 use shipment_machine::FlightDate;
@@ -27,9 +28,16 @@ pub(crate) struct Boardings {
     pub(crate) next: usize,
 }
 
+/// The spans in which the moves of flights and the status messages of waybills lie.
+#[derive(Drop)]
+pub(crate) struct KnownSpans {
+    pub(crate) flights: FlightSpans,
+    pub(crate) statuses: StatusSpans,
+}
+
 /// The numbers of numbered rows, which are always known; and as far as they are known: the numbers
 /// of waybills on flights, the listed waybills, the open lines of flights, the spans of flights in
-/// the book, and sums.
+/// the book and of waybills in the outbox, and sums.
 #[derive(Drop)]
 pub(crate) struct KnownCounts {
     pub(crate) sizes: Sizes,
@@ -37,7 +45,7 @@ pub(crate) struct KnownCounts {
     pub(crate) known: KnownSums,
     pub(crate) waybills: WaybillSets,
     pub(crate) open_lines: OpenLines,
-    pub(crate) spans: FlightSpans,
+    pub(crate) spans: KnownSpans,
     ghost fit: { (sizes.moves ≤ most_rows) × (sizes.lines ≤ most_rows)
         × (sizes.messages ≤ most_rows) },
 }

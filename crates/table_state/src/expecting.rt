@@ -2,21 +2,24 @@
 //! The declared waybills of which nothing has come in.
 #![tactic(auto, using(crate::proofs::Lifting::rests_on, crate::proofs::Lifting::survives_so))]
 
-ghost use Rattle.std.specs.Prelude.{◌≡◌, not, map, List, IfOk};
-ghost use Rattle.table_state.specs.Common.{contains, filter, nat_cmp, AreAnnounced, AreAllBalances, ReadsAtRest, waybill_meant, AreExpectations, expected_for, Open};
+ghost use Rattle.std.specs.Prelude.{◌≡◌, ◌++◌, not, map, List, IfOk, OnOk, Some};
+ghost use Rattle.table_state.specs.Common.{announced, contains, filter, nat_cmp, AreAnnounced, AreAllBalances, ReadsAtRest, waybill_meant, AreExpectations, expected_for, Open, StaysAtRest};
+ghost use Rattle.state_store.specs.Store.{Survives};
 ghost use Rattle.shipment_machine.specs.declared.moves.Move as cargo;
-ghost use Rattle.table_state.specs.Shown.{HaveCome, announced_by, has_come_by, in_tables};
+ghost use Rattle.table_state.specs.Shown.{HasAnnounced, HaveCome, announced_by, announced_row, announcing, has_come_by, in_tables};
 
 use crate::open_lines::OpenLines;
 use crate::state::TableState;
 use crate::writing::waybills_expected;
+use awb_number::Awb;
 use row_codec::waybill_by;
-use shipment_machine::Balances;
-use state_store::StoreFault;
+use shipment_machine::{Balances, Declared};
+use state_store::{StateStore, StoreFault};
 use station_core::{AnnouncedRow, Expectation, ExpectedQuery, WaybillBalances, expectations_for};
 use station_rows::{AllExpected, AllWaybills, TableStore, WaybillRow};
 use std::alloc::Global;
 use std::collections::BTreeSet;
+use std::slice;
 
 /// Returns whether pieces of a waybill with these balances have come in: received or found.
 fn has_come(balances: &Balances) -> bool
@@ -61,6 +64,24 @@ fn announced_among(
     Ok(all)
 }
 
+/// Puts the row of a waybill behind the others, if it is announced.
+fn put_row(
+    rows: &mut Vec<AnnouncedRow>,
+    awb: &Awb,
+    found: &Option<Declared>,
+) -> Result<(), StoreFault>
+    ensures { OnOk result (rows.new.items ≡ rows.old.items ++ announced_row awb.now found.now) }
+{
+    if let Some(declared) = found {
+        let row = AnnouncedRow {
+            awb: *awb,
+            declared: *declared,
+        };
+        rows.extend_from_slice(slice::from_ref(&row))?;
+    }
+    Ok(())
+}
+
 impl<S: TableStore> TableState<S> {
     /// Returns the numbers of the waybills of which pieces have come in: one pass over all
     /// balances.
@@ -81,13 +102,72 @@ impl<S: TableStore> TableState<S> {
         announced_among(self.alloc, come, &rows)
     }
 
-    /// Returns the declared waybills of which nothing has come in, ascending.
-    pub(crate) fn announced_rows(&mut self) -> Result<Vec<AnnouncedRow>, StoreFault>
+    /// Returns the declared waybills of which nothing has come in, ascending: one pass over all
+    /// balances, and one over all declarations.
+    fn announced_in_all(&mut self) -> Result<Vec<AnnouncedRow>, StoreFault>
         ensures { ReadsAtRest (in_tables S.view) self.old self.new result
             (λ s rows. AreAnnounced s.cargo rows.items) }
     {
         let come = self.all_come()?;
         self.declared_except(&come)
+    }
+
+    /// Returns what is declared of a waybill of which nothing has come in.
+    fn announced_of(&mut self, awb: &Awb) -> Result<Option<Declared>, StoreFault>
+        ensures { ReadsAtRest (in_tables S.view) self.old self.new result
+            (λ s found. found ≡ announced s.cargo awb.now) }
+    {
+        let balances = self.balances(awb)?;
+        if has_come(&balances) {
+            return Ok(None);
+        }
+        self.declared(awb)
+    }
+
+    /// Puts the waybill of a number behind the others, if it is announced.
+    fn put_announced(&mut self, rows: &mut Vec<AnnouncedRow>, number: u64) -> Result<(), StoreFault>
+        ensures { ReadsAtRest (in_tables S.view) self.old self.new result
+            (λ s done. rows.new.items ≡ rows.old.items ++ announcing s.cargo number) }
+    {
+        let awb = Awb::of_key(number).ok_or(StoreFault)?;
+        let found = self.announced_of(&awb)?;
+        put_row(rows, &awb, &found)
+    }
+
+    /// Returns the announced waybills, ascending, where all of them are among these numbers: two
+    /// reads for each number.
+    fn announced_in(&mut self, waybills: &BTreeSet<u64>) -> Result<Vec<AnnouncedRow>, StoreFault>
+        ensures { ReadsAtRest (in_tables S.view) self.old self.new result
+            (λ s rows. HasAnnounced (Some waybills.now) s.cargo.book s.cargo.declared
+            → AreAnnounced s.cargo rows.items) }
+    {
+        let mut rows = Vec::new(self.alloc);
+        for number in waybills {
+            self.put_announced(&mut rows, *number)?;
+        }
+        Ok(rows)
+    }
+
+    /// Returns the announced waybills, ascending: two reads for each that is kept, or one pass over
+    /// all. What is kept of them is handed out of `self` before.
+    fn announced_rows(&mut self) -> Result<Vec<AnnouncedRow>, StoreFault>
+        ensures { ReadsAtRest (in_tables S.view) self.old self.new result
+            (λ s rows. AreAnnounced s.cargo rows.items) }
+    {
+        match self.counted.waybills.take_announced() {
+            Some(kept) => self.announced_in(&kept),
+            None => self.announced_in_all(),
+        }
+    }
+
+    /// Returns the announced waybills, ascending. They are kept, unless memory runs out.
+    pub(crate) fn list_announced(&mut self) -> Result<Vec<AnnouncedRow>, StoreFault>
+        ensures { ReadsAtRest (in_tables S.view) self.old self.new result
+            (λ s rows. AreAnnounced s.cargo rows.items) }
+    {
+        let rows = self.announced_rows()?;
+        self.counted.waybills.keep_announced(self.alloc, &rows);
+        Ok(rows)
     }
 }
 
@@ -112,6 +192,32 @@ impl<S: TableStore> TableState<S> {
         Ok(open)
     }
 
+    /// Finds the spans of flights and of waybills, and the announced waybills, if both other lists
+    /// of waybills are kept: a program that reads its third list, as a service does before its first request, goes
+    /// on with reports and manifests. One that reads a single list doesn't pay for the others.
+    fn fill_others(&mut self)
+        ensures rests { StaysAtRest (in_tables S.view) self.old self.new }
+        ensures survives { Survives (in_tables S.view) self.old self.new }
+    {
+        if !self.counted.waybills.were_listed() {
+            return;
+        }
+        self.fill_spans();
+        self.fill_statuses();
+        let _announced = self.list_announced();
+    }
+
+    /// Returns its open lines, from one pass over all rows, and fills the lists that may be asked
+    /// for next.
+    fn open_at_first(&mut self) -> Result<Vec<Expectation>, StoreFault>
+        ensures { ReadsAtRest (in_tables S.view) self.old self.new result
+            (λ s rows. AreExpectations (expected_for Open s.cargo.expected) rows.items) }
+    {
+        let open = self.open_in_all()?;
+        self.fill_others();
+        Ok(open)
+    }
+
     /// Returns its open lines: the kept ones, without a read, or from one pass over all rows.
     pub(crate) fn open_lines(&mut self) -> Result<Vec<Expectation>, StoreFault>
         ensures { ReadsAtRest (in_tables S.view) self.old self.new result
@@ -119,7 +225,7 @@ impl<S: TableStore> TableState<S> {
     {
         match &self.counted.open_lines.kept {
             Some(kept) => kept.listed(self.alloc),
-            None => self.open_in_all(),
+            None => self.open_at_first(),
         }
     }
 }

@@ -1,21 +1,15 @@
 //! The parts of the book in which the moves of flights lie, as far as they are known.
-ghost use Rattle.std.specs.Prelude.{◌≡◌, ◌∷◌, [], ◌++◌, ◌+◌, length, ℕ, true, List, Some, IfSome};
+ghost use Rattle.std.specs.Prelude.{◌≡◌, ◌∷◌, [], ◌++◌, ◌+◌, length, ℕ, true, List, IfSome};
 ghost use Rattle.shipment_machine.specs.Book.{same_place};
 ghost use Rattle.table_state.specs.Common.{FlightDate, Built, book_row, is_of_flight, BookRow};
 ghost use Rattle.shipment_machine.specs.declared.moves.Move as cargo;
 ghost use Rattle.table_state.specs.Shown.{AreCovered, Covers, IsCovered, IsSpanned, LiesIn};
 
+use crate::span::{Span, with_number};
 use shipment_machine::{FlightDate, Move, Place};
 use station_core::{BookRow, Sink};
 use std::alloc::Global;
 use std::collections::BTreeMap;
-
-/// A span of the book: the moves whose numbers are greater than `after`, up to `last`.
-#[derive(Clone, Copy)]
-pub(crate) struct Span {
-    pub(crate) after: u32,
-    pub(crate) last: u32,
-}
 
 /// The spans of the days of flights, where they are known: all moves of the flights of a day lie in
 /// its span. They are found by one pass over the book. From then on a move widens those of its
@@ -25,34 +19,6 @@ pub(crate) struct FlightSpans {
     // The moves of a flight were asked for.
     pub(crate) asked: bool,
     pub(crate) kept: Option<BTreeMap<u32, Span>>,
-}
-
-/// Returns a span with a further number in it, or a new span if there is none. `None`: the number
-/// is 0, which no move has.
-fn with_number(span: Option<Span>, number: u32) -> Option<Span>
-    ensures there { IfSome result (λ wider. LiesIn wider number) }
-    ensures grows { IfSome result (λ wider. IfSome span (λ was. (n : ℕ)
-        → LiesIn was n → LiesIn wider n)) }
-{
-    let before = number.checked_sub(1)?;
-    let Some(span) = span else {
-        return Some(Span {
-            after: before,
-            last: number,
-        });
-    };
-    Some(Span {
-        after: if before < span.after {
-            before
-        } else {
-            span.after
-        },
-        last: if span.last < number {
-            number
-        } else {
-            span.last
-        },
-    })
 }
 
 /// Returns the kept spans after a move of a flight. Without memory for a day nothing is kept.

@@ -8,11 +8,12 @@ ghost use Rattle.table_state.specs.Shown.{in_tables};
 use crate::flight_spans::Filling;
 use crate::handing::{Telling, ended};
 use crate::state::TableState;
+use crate::status_spans::StatusFilling;
 use awb_number::Awb;
 use row_codec::{day_number, flight_text, move_query};
 use shipment_machine::FlightDate;
-use state_store::StoreFault;
-use station_core::{BookQuery, BookRow, Sink};
+use state_store::{StateStore, StoreFault};
+use station_core::{BookQuery, BookRow, MessageQuery, Sink};
 use station_rows::{MovesFor, MovesWithin, TableStore};
 use std::alloc::Global;
 use std::collections::HashSet;
@@ -35,14 +36,34 @@ impl<S: TableStore> TableState<S> {
         ended(read, telling.is_stuck())
     }
 
-    /// Finds the spans of flights by one pass over the book. If it fails, they stay unknown.
-    fn fill_spans(&mut self)
+    /// Finds the spans of flights, if they aren't known, by one pass over the book. If it fails,
+    /// they stay unknown.
+    pub(crate) fn fill_spans(&mut self)
         ensures rests { StaysAtRest (in_tables S.view) self.old self.new }
         ensures survives { Survives (in_tables S.view) self.old self.new }
     {
+        if self.counted.spans.flights.kept.is_some() {
+            return;
+        }
         let mut filling = Filling::new(self.alloc);
         match self.hand_book(&BookQuery::All, &mut filling) {
-            Ok(()) => self.counted.spans.kept = filling.kept,
+            Ok(()) => self.counted.spans.flights.kept = filling.kept,
+            Err(_) => {}
+        }
+    }
+
+    /// Finds the spans of waybills in the outbox, if they aren't known, by one pass over it. If it
+    /// fails, they stay unknown.
+    pub(crate) fn fill_statuses(&mut self)
+        ensures rests { StaysAtRest (in_tables S.view) self.old self.new }
+        ensures survives { Survives (in_tables S.view) self.old self.new }
+    {
+        if self.counted.spans.statuses.kept.is_some() {
+            return;
+        }
+        let mut filling = StatusFilling::new(self.alloc);
+        match self.messages_by(&MessageQuery::After(0), &mut filling) {
+            Ok(()) => self.counted.spans.statuses.kept = filling.kept,
             Err(_) => {}
         }
     }
@@ -52,13 +73,11 @@ impl<S: TableStore> TableState<S> {
         ensures rests { StaysAtRest (in_tables S.view) self.old self.new }
         ensures survives { Survives (in_tables S.view) self.old self.new }
     {
-        if !self.counted.spans.asked {
-            self.counted.spans.asked = true;
+        if !self.counted.spans.flights.asked {
+            self.counted.spans.flights.asked = true;
             return;
         }
-        if self.counted.spans.kept.is_none() {
-            self.fill_spans();
-        }
+        self.fill_spans();
     }
 
     /// Hands out the movements of a flight: of its span, or of the whole book if that isn't known.
@@ -70,7 +89,7 @@ impl<S: TableStore> TableState<S> {
         ensures { HandsOut (in_tables S.view) self.old self.new result K.takes
             (λ s. book_by (On flight.now) s.cargo) sink.old sink.new }
     {
-        let Some(span) = self.counted.spans.of(flight) else {
+        let Some(span) = self.counted.spans.flights.of(flight) else {
             return self.hand_book(&BookQuery::On(*flight), sink);
         };
         let name = flight_text(self.alloc, &flight.flight)?;

@@ -11,7 +11,9 @@ mod handing;
 mod listing;
 mod open_lines;
 mod opening;
+mod span;
 mod state;
+mod status_spans;
 mod waybill_sets;
 mod writing;
 

@@ -5,11 +5,12 @@ ghost use Rattle.table_state.specs.Common.{State, opening, Tables, Means, IsOpen
 ghost use Rattle.table_state.specs.Shown.{finds_what_it_shows, HasThese, Knows, in_tables};
 ghost use Rattle.station_core.proofs.Rooms.{all_numbered};
 
-use crate::counted::{Boarded, Boardings, KnownCounts};
+use crate::counted::{Boarded, Boardings, KnownCounts, KnownSpans};
 use crate::flight_spans::FlightSpans;
 use crate::flown::Missed;
 use crate::handing::{Telling, ended};
 use crate::open_lines::OpenLines;
+use crate::status_spans::StatusSpans;
 use crate::waybill_sets::{WaybillSets, numbers_of};
 use crate::writing::{flights_noted, record_move};
 use agent_stock::{Holder, Order, StockFault, StockRun};
@@ -22,7 +23,7 @@ use row_codec::{
 use shipment_machine::{
     Amount, Balances, Change, Declared, Expected, FlightDate, Move, Outbound, Part,
 };
-use state_store::{StateStore, StoreFault, WaybillQuery};
+use state_store::{StateStore, StatusOf, StoreFault, WaybillQuery};
 use station_core::{
     AnnouncedRow, BookQuery, BookRow, Expectation, ExpectedQuery, KeptReply, Key, Load, Message,
     MessageQuery, NotedFlight, Sink, Sizes, TrailQuery, TrailRow, WaybillBalances,
@@ -74,7 +75,10 @@ impl<S: TableStore> TableState<S> {
                 known: KnownSums::none(),
                 waybills: WaybillSets::none(),
                 open_lines: OpenLines::none(),
-                spans: FlightSpans::none(),
+                spans: KnownSpans {
+                    flights: FlightSpans::none(),
+                    statuses: StatusSpans::none(),
+                },
             },
             confirmed,
             missed: Missed::new(alloc),
@@ -260,7 +264,7 @@ impl<S: TableStore> StateStore for TableState<S> {
         self.counted.sizes.moves = number;
         self.counted.boarded.post(movement, were);
         self.counted.waybills.post(movement);
-        self.counted.spans.post(movement, number);
+        self.counted.spans.flights.post(movement, number);
         Ok(())
     }
 
@@ -290,6 +294,7 @@ impl<S: TableStore> StateStore for TableState<S> {
         let row = message_row(self.alloc, number, text)?;
         self.store.write(InsertMessage { row: &row })?;
         self.counted.sizes.messages = number;
+        self.counted.spans.statuses.post(text, number);
         Ok(())
     }
 
@@ -328,7 +333,7 @@ impl<S: TableStore> StateStore for TableState<S> {
     }
 
     fn announced(&mut self) -> Result<Vec<AnnouncedRow>, StoreFault> {
-        self.announced_rows()
+        self.list_announced()
     }
 
     fn noted(&mut self) -> Result<Vec<NotedFlight>, StoreFault> {
@@ -363,6 +368,20 @@ impl<S: TableStore> StateStore for TableState<S> {
         let mut telling = Telling::new(sink);
         let read = self.store.hand_out(MessagesAfter { number }, &mut telling);
         ended(read, telling.is_stuck())
+    }
+
+    fn messages_about<K: Sink<Message>>(
+        &mut self,
+        awb: &Awb,
+        sink: &mut K,
+    ) -> Result<(), StoreFault> {
+        let part = self.counted.spans.statuses.of(awb);
+        let mut statuses = StatusOf {
+            sink,
+            awb: *awb,
+            last: part.last,
+        };
+        self.messages_by(&MessageQuery::After(part.after), &mut statuses)
     }
 
     fn trail_by<K: Sink<TrailRow>>(

@@ -7,7 +7,7 @@ ghost use Rattle.state_store.specs.Common.{most_rows};
 
 use crate::maps::asked::{lines, messages, movements};
 use crate::maps::state::{AirportKey, MapState};
-use crate::{FlightKey, StateStore, StoreFault, WaybillQuery};
+use crate::{FlightKey, StateStore, StatusOf, StoreFault, WaybillQuery};
 use agent_stock::{Holder, Order, StockFault, StockRun};
 use awb_number::Awb;
 use imp_fields::Airport;
@@ -198,6 +198,19 @@ impl StateStore for MapState {
         let rows = messages(self.alloc, &self.outbox, after)?;
         hand_out(sink, rows);
         Ok(())
+    }
+
+    fn messages_about<K: Sink<Message>>(
+        &mut self,
+        awb: &Awb,
+        sink: &mut K,
+    ) -> Result<(), StoreFault> {
+        let mut statuses = StatusOf {
+            sink,
+            awb: *awb,
+            last: None,
+        };
+        self.messages_by(&MessageQuery::After(0), &mut statuses)
     }
 
     fn trail_by<K: Sink<TrailRow>>(

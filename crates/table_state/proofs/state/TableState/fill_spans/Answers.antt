@@ -11,5 +11,8 @@ returns-in-Ok-clause-rests g c = λ s shown.
       known = (now sound).kept.known;
       waybills = (now sound).kept.waybills;
       open_lines = (now sound).kept.open_lines;
-      spans = (filled (book_rows s.cargo) c.new-filling.result c.hand_book.new.sink (c.in-Ok.ensures.rows s shown sound)).1;
+      spans = record {
+        flights = (filled (book_rows s.cargo) c.new-filling.result c.hand_book.new.sink (c.in-Ok.ensures.rows s shown sound)).1;
+        statuses = (now sound).kept.spans.statuses;
+      };
     })

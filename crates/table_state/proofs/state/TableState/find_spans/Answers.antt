@@ -8,5 +8,5 @@ returns-then-not-self-clause-rests g c = λ s shown. keeps_number _ _ _ _ (at_re
   known = (shown sound).kept.known;
   waybills = (shown sound).kept.waybills;
   open_lines = (shown sound).kept.open_lines;
-  spans = (shown sound).kept.spans;
+  spans = record { flights = (shown sound).kept.spans.flights; statuses = (shown sound).kept.spans.statuses };
 })

@@ -11,7 +11,7 @@ returns g c = record {
       keeps_number _ _ _ _ (at_rest s) now _ refl (λ sound. record {
         boarded = (now sound).kept.boarded;
         known = (now sound).kept.known;
-        waybills = c.keep.ensures s.cargo.book (now sound).kept.waybills (λ w has.
+        waybills = c.keep.ensures s.cargo.book s.cargo.declared (now sound).kept.waybills (λ w has.
             c.in_ok-kept.ensures w (ap (λ rows. is_in w (map (λ (row : WaybillBalances). row.awb) rows)) (c.deref.ensures.value ∙ c.in_ok-rows.ensures.value s shown sound) ∙ all_listed c.args.query s.cargo.book w has));
         open_lines = (now sound).kept.open_lines;
         spans = (now sound).kept.spans;
