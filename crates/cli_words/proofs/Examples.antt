@@ -4,7 +4,8 @@ use Rattle.reports.specs.Reports.{report_called}
 use Rattle.reports.specs.declared.report.Listing.{Listing}
 use Rattle.reports.specs.declared.report.Listing.TheVariants as listing
 use Rattle.reports.specs.declared.report.Report.TheVariants as report
-use Rattle.cli_words.specs.Line.{IsManifest, IsPart}
+use Rattle.cli_words.specs.Line.{IsOfFlight, IsPart}
+use Rattle.shipment_machine.specs.declared.flight.FlightDate.{FlightDate}
 
 -- `report shed`
 whole : IsPart report.Shed None false None None None None (listing.All report.Shed)
@@ -17,6 +18,9 @@ open_flights = refl
 -- no report has the name of a manifest
 manifest_is_no_report : report_called (codes "manifest") ≡ None
 manifest_is_no_report = refl
+
+arrivals_are_no_report : report_called (codes "arrivals") ≡ None
+arrivals_are_no_report = refl
 
 -- `report flights LH400/2026-01-12`
 flight_of_a_report : (l : Listing) → ¬ (IsPart report.Flights (Some (codes "LH400/2026-01-12")) false None None None None l)
@@ -31,9 +35,9 @@ last_of_the_stock : (l : Listing) → ¬ (IsPart report.Stock None false None No
 last_of_the_stock l h = h
 
 -- `report manifest`
-manifest_of_no_flight : (l : Listing) → ¬ (IsManifest None false None None None None l)
-manifest_of_no_flight l h = h
+manifest_of_no_flight : (f : FlightDate) → ¬ (IsOfFlight None false None None None None f)
+manifest_of_no_flight f h = h
 
--- `report manifest LH400/2026-01-12 --last 20`
-manifest_with_a_part : (l : Listing) → ¬ (IsManifest (Some (codes "LH400/2026-01-12")) false None None None (Some (codes "20")) l)
-manifest_with_a_part l h = h
+-- `report arrivals LH400/2026-01-12 --last 20`
+arrivals_with_a_part : (f : FlightDate) → ¬ (IsOfFlight (Some (codes "LH400/2026-01-12")) false None None None (Some (codes "20")) f)
+arrivals_with_a_part f h = h

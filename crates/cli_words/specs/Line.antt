@@ -32,10 +32,12 @@ IsNumber bits text n = ParsesUnsigned {E = Unit {0}} bits 10 text (Ok n)
 abbrev pub form_of : Bool → Form
 form_of json = if json then form.Json else form.Text
 
--- open rows: flights that haven't departed, and expectations that aren't checked in
+-- open rows: flights that haven't departed, expectations that aren't checked in, and waybills whose
+-- missing and found pieces don't even out
 abbrev pub IsOpen : Report → Listing → Type 0
 IsOpen report.Flights l = l ≡ listing.OpenFlights
 IsOpen report.Expected l = l ≡ listing.OpenExpected
+IsOpen report.Irregularities l = l ≡ listing.OpenIrregularities
 IsOpen _ l = ⊥
 
 abbrev pub HasAgent : Report → List ℕ → Listing → Type 0
@@ -86,23 +88,25 @@ IsFlightDay text f =
     (flight day : List ℕ) × (text ≡ flight ++ 47 ∷ day) × (flight_of flight ≡ Some f.flight)
     × (day_of day ≡ Some f.day)
 
--- the manifest of a flight allows no word except the flight
-abbrev pub IsManifest : Option (List ℕ) → Bool → Option (List ℕ) → Option (List ℕ)
-    → Option (List ℕ) → Option (List ℕ) → Listing → Type 0
-IsManifest (Some text) false None None None None l =
-    (f : FlightDate) × IsFlightDay text f × (l ≡ listing.Manifest f)
-IsManifest _ _ _ _ _ _ l = ⊥
+-- rows of a flight allow no word except the flight
+abbrev pub IsOfFlight : Option (List ℕ) → Bool → Option (List ℕ) → Option (List ℕ)
+    → Option (List ℕ) → Option (List ℕ) → FlightDate → Type 0
+IsOfFlight (Some text) false None None None None f = IsFlightDay text f
+IsOfFlight _ _ _ _ _ _ f = ⊥
 
-abbrev pub HasManifest : ReportWords → Listing → Type 0
-HasManifest words l =
-    IsManifest (option_map (λ text. text.now) words.flight) words.open
+abbrev pub HasFlight : ReportWords → FlightDate → Type 0
+HasFlight words f =
+    IsOfFlight (option_map (λ text. text.now) words.flight) words.open
     (option_map (λ text. text.now) words.agent) (option_map (λ text. text.now) words.awb)
-    (option_map (λ text. text.now) words.after) (option_map (λ text. text.now) words.last) l
+    (option_map (λ text. text.now) words.after) (option_map (λ text. text.now) words.last) f
 
--- the manifest of a flight, or a report or a part of it
+-- the manifest of a flight, its arrivals, or a report or a part of it
 abbrev pub IsListed : ReportWords → Listing → Type 0
 IsListed words l =
-    ((words.name.now ≡ codes "manifest") × HasManifest words l)
+    ((words.name.now ≡ codes "manifest")
+    × ((f : FlightDate) × HasFlight words f × (l ≡ listing.Manifest f)))
+    ⊎ ((words.name.now ≡ codes "arrivals")
+    × ((f : FlightDate) × HasFlight words f × (l ≡ listing.Arrivals f)))
     ⊎ ((r : Report) × (report_called words.name.now ≡ Some r) × HasPart r words l)
 
 -- A new file needs its path and its airport, and an upgrade the path. A port and a count are at

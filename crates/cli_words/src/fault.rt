@@ -32,8 +32,8 @@ pub(crate) enum BadValue<'a> {
     Part(&'a str),
     /// A call without an option that it needs before its command.
     Lacks(&'a str),
-    /// `report manifest` without a flight.
-    Manifest,
+    /// Rows of a flight, by their name, without the flight.
+    Flightless(&'a str),
     /// `--at` with an option or a command that needs the station's own file.
     Beside,
 }
@@ -45,12 +45,12 @@ pub(crate) const ROW: &str = "expected a number from 0 to 4294967295";
 
 const REPORT_NAME: &str =
     "expected stock, announced, shed, shed-days, flights, expected, irregularities, \
-    irregularity-days, movements, trail, sent, station or manifest";
+    irregularity-days, movements, trail, sent, station, manifest or arrivals";
 
 const PART: &str =
-    "only flights and expected take --open, only stock takes --agent, only movements, trail and \
-    sent take --awb or --after, only movements and trail --last, only manifest takes FLIGHT; a \
-    report takes one of them";
+    "only flights, expected and irregularities take --open, only stock takes --agent, only \
+    movements, trail and sent take --awb or --after, only movements and trail --last, only \
+    manifest and arrivals take FLIGHT; a report takes one of them";
 
 /// The options and commands that exclude `--at`.
 const BESIDE: &str =
@@ -76,7 +76,9 @@ impl BadValue<'_> {
             }
             BadValue::Part(name) => format!(in alloc; "report {name}: {PART}"),
             BadValue::Lacks(told) => String::from_str(alloc, told),
-            BadValue::Manifest => String::from_str(alloc, "report manifest needs FLIGHT after it"),
+            BadValue::Flightless(name) => {
+                format!(in alloc; "report {name} needs FLIGHT after it")
+            }
             BadValue::Beside => String::from_str(alloc, BESIDE),
         }
     }

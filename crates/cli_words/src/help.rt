@@ -18,7 +18,8 @@ Examples:
   cargo_desk --db fra.db waybill 020-12345675
   cargo_desk --at 8080 act issue k9 < body.json
 
-`cargo_desk COMMAND --help` explains a command, `cargo_desk help 203` a refusal.",
+`cargo_desk COMMAND --help` explains a command, `cargo_desk help receive` a verb,
+`cargo_desk help 203` a refusal, and `cargo_desk help 603` a fault.",
 );
 
 pub(crate) const DB: &str = "The station's file; without it, a new station in memory";
@@ -27,7 +28,8 @@ pub(crate) const AT: &str = "Asks the service that runs on this port, instead of
 
 pub(crate) const STATION: &str = "The airport of a new station, three letters; XXX by default";
 
-pub(crate) const ZONE: &str = "The zone of local time, as a POSIX rule; UTC0 by default";
+pub(crate) const ZONE: &str = "The zone of local time, as a POSIX rule, such as the last line of \
+    /usr/share/zoneinfo/Europe/Berlin; UTC0 by default";
 
 pub(crate) const INIT: (&str, &str) = (
     "Makes a station in a file",
@@ -160,16 +162,19 @@ Examples:
   cargo_desk --db fra.db report announced
   cargo_desk --db fra.db report shed-days
   cargo_desk --db fra.db report flights --open
+  cargo_desk --db fra.db report irregularities --open
   cargo_desk --db fra.db report stock --agent ACME
   cargo_desk --db fra.db report movements --awb 020-12345675
   cargo_desk --db fra.db report movements --after 120 --json
   cargo_desk --db fra.db report trail --last 20
   cargo_desk --db fra.db report sent --awb 020-12345675
-  cargo_desk --db fra.db report manifest LH400/2026-01-12",
+  cargo_desk --db fra.db report manifest LH400/2026-01-12
+  cargo_desk --db fra.db report arrivals LH401/2026-01-12",
 );
 
 pub(crate) const OPEN: &str =
-    "flights: those that haven't departed; expected: what isn't checked in";
+    "flights: those that haven't departed; expected: what isn't checked in; irregularities: those \
+    that don't even out";
 
 pub(crate) const AGENT: &str = "stock: the numbers that this agent has";
 
@@ -181,11 +186,12 @@ pub(crate) const MESSAGES_AFTER: &str = "The messages after number N";
 
 pub(crate) const LAST: &str = "movements, trail: the last N rows";
 
-pub(crate) const FLIGHT: &str = "manifest: the flight and its day, such as LH400/2026-01-12";
+pub(crate) const FLIGHT: &str =
+    "manifest, arrivals: the flight and its day, such as LH400/2026-01-12";
 
 pub(crate) const REPORT_NAMES: &str =
     "stock, announced, shed, shed-days, flights, expected, irregularities, irregularity-days, \
-    movements, trail, sent, station or manifest";
+    movements, trail, sent, station, manifest or arrivals";
 
 pub(crate) const AWB: &str = "A waybill number with its check digit, such as 020-12345675";
 

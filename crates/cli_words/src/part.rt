@@ -2,7 +2,7 @@
 //! The numbers of `serve` and of a report's rows.
 
 ghost use Rattle.std.specs.Prelude.{◌≡◌, IfOk, IfSome, ◌≤◌};
-ghost use Rattle.cli_words.specs.Line.{form_of, HasAgent, HasPart, HasManifest, IsAfter, IsFlightDay, IsLast, IsListed, IsOpen, IsOfWaybill, IsNumber};
+ghost use Rattle.cli_words.specs.Line.{form_of, HasAgent, HasFlight, HasPart, IsAfter, IsFlightDay, IsLast, IsListed, IsOpen, IsOfWaybill, IsNumber};
 
 use crate::fault::{BadValue, ROW};
 use crate::read::read_number;
@@ -25,6 +25,7 @@ fn open_part(report: Report) -> Option<Listing>
     match report {
         Report::Flights => Some(Listing::OpenFlights),
         Report::Expected => Some(Listing::OpenExpected),
+        Report::Irregularities => Some(Listing::OpenIrregularities),
         _ => None,
     }
 }
@@ -109,8 +110,9 @@ fn read_flight(text: &str) -> Option<FlightDate>
     Some(FlightDate { flight, day })
 }
 
-fn read_manifest<'a>(words: ReportWords<'a>) -> Result<Listing, BadValue<'a>>
-    ensures { IfOk result (HasManifest words.entry) }
+/// Returns the flight of rows that need one.
+fn read_of_flight<'a>(words: ReportWords<'a>) -> Result<FlightDate, BadValue<'a>>
+    ensures { IfOk result (HasFlight words.entry) }
 {
     match (
         words.flight,
@@ -122,10 +124,9 @@ fn read_manifest<'a>(words: ReportWords<'a>) -> Result<Listing, BadValue<'a>>
     ) {
         (Some(text), false, None, None, None, None) => {
             let expected = "expected a flight, a slash and its day, such as LH400/2026-01-12";
-            let bad = BadValue::Invalid("FLIGHT", text, expected);
-            Ok(Listing::Manifest(read_flight(text).ok_or(bad)?))
+            read_flight(text).ok_or(BadValue::Invalid("FLIGHT", text, expected))
         }
-        (None, _, _, _, _, _) => Err(BadValue::Manifest),
+        (None, _, _, _, _, _) => Err(BadValue::Flightless(words.name)),
         _ => Err(BadValue::Part(words.name)),
     }
 }
@@ -135,7 +136,10 @@ pub(crate) fn read_listing<'a>(words: ReportWords<'a>) -> Result<Listing, BadVal
     ensures { IfOk result (IsListed words.entry) }
 {
     if words.name.as_bytes() == b"manifest".as_slice() {
-        return read_manifest(words);
+        return Ok(Listing::Manifest(read_of_flight(words)?));
+    }
+    if words.name.as_bytes() == b"arrivals".as_slice() {
+        return Ok(Listing::Arrivals(read_of_flight(words)?));
     }
     let report = Report::read(words.name.as_bytes()).ok_or(BadValue::ReportName(words.name))?;
     read_part(report, words)

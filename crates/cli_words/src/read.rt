@@ -7,7 +7,7 @@ ghost use Rattle.cli_words.specs.Line.{has_own, is_asked, IsAt, IsCalled, IsLine
 use crate::fault::{BadValue, KEY, ROW, WordsFault, value_fault};
 use crate::line::{Line, LineCommand};
 use crate::part::{form_of, read_count, read_listing, read_port, read_row};
-use crate::refusals::refusal_help;
+use crate::refusals::number_help;
 use crate::words::{Request, Words, sort_words};
 use awb_number::{Awb, AwbFault};
 use desk_commands::Verb;
@@ -217,7 +217,8 @@ fn read_line<'a>(words: Words<'a>) -> Result<Line<'a>, BadValue<'a>>
 ///
 /// # Errors
 ///
-/// - [`WordsFault::Help`]: the words request the help, also on a refusal by its number.
+/// - [`WordsFault::Help`]: the words request the help, also on a refusal or a fault of a file by its
+///   number, and on a verb.
 /// - [`WordsFault::Version`]: the words request the version.
 /// - [`WordsFault::Usage`]: the words aren't a command's, a key, number or option's value is bad, a
 ///   verb or name is unknown, an option is given twice, `init` lacks `--db` or `--station`,
@@ -227,7 +228,7 @@ fn read_line<'a>(words: Words<'a>) -> Result<Line<'a>, BadValue<'a>>
 pub fn parse_words<'a, S: AsStr>(alloc: Global, words: &'a [S]) -> Result<Line<'a>, WordsFault>
     ensures { IfOk result IsLine }
 {
-    refusal_help(alloc, words)?;
+    number_help(alloc, words)?;
     let words = sort_words(alloc, words)?;
     match read_line(words) {
         Ok(line) => Ok(line),

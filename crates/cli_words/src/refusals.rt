@@ -1,6 +1,8 @@
-//! Help on a refusal: its meaning, its detail and what to do.
+//! Help on a refusal, a fault of a file or a verb: `help 203`, `help 603`, `help receive`.
 
 use crate::fault::{WordsFault, usage_fault};
+use crate::words::{Request, sort_words, verb_help};
+use desk_commands::Verb;
 use std::alloc::{AllocError, Global};
 use std::convert::AsStr;
 
@@ -21,10 +23,10 @@ const REFUSALS: &str = "\
 202 | already declared, and it has moves | the waybill | `amend` the declaration
 203 | the number is at the desk, or void | the waybill | issue the number to an agent first; if it \
     is void, check the number
-204 | wrong station: Receive and Withdraw if the origin isn't here, Amend if pieces that were \
-    received here would have another origin, Manifest and Reroute if it unloads here, Notify and \
-    Deliver if the destination isn't here | the waybill; for Reroute the flight | check the \
-    airports of the waybill and of the command
+204 | wrong station: Receive and Withdraw if the origin isn't here, Amend if pieces were taken \
+    over and the origin would be here or no longer here, Manifest and Reroute if it unloads here, \
+    Notify and Deliver if the destination isn't here | the waybill; for Reroute the flight | check \
+    the airports of the waybill and of the command
 205 | more received than declared | the waybill | `book` it again with more pieces while it has no \
     moves; later `amend` it
 206 | not enough free pieces; for Notify, none | the free pieces | use at most that many; receive, \
@@ -75,32 +77,75 @@ const REFUSALS: &str = "\
 501 | the key was used for another command; tested before all other refusals | no detail | if you \
     mean a new command, use a new key";
 
-/// Returns the help on the refusal with this number, or the usage if there is none.
-fn help_on(alloc: Global, text: &str) -> Result<WordsFault, AllocError> {
-    for row in REFUSALS.lines() {
+/// A row for each fault of a station's file, in the same form. docs/OPERATING.md says more.
+const FAULTS: &str = "\
+601 | a table is missing or has an unlawful row, and the program never writes one | the table | find \
+    out who else wrote the file, or whether the disk failed; keep the file, restore the last \
+    back-up, and send again what came since
+602 | the file is missing or empty, or has no station | no detail | check its name; `init` makes a \
+    station
+603 | the file is of another version | its version | 1: copy the file, then `migrate` upgrades it; \
+    2, from `migrate`: it already is of version 2; another number: use the program that made it
+604 | from `init`: the file has a station, or something with one of its names | no detail | leave \
+    out `init`, or choose another file";
+
+/// Returns the text of the row with this number.
+fn row_on(alloc: Global, rows: &str, kind: &str, text: &str) -> Result<Option<String>, AllocError> {
+    for row in rows.lines() {
         if let Some((number, texts)) = row.split_once(" | ")
             && text.parse::<u16>() == number.parse::<u16>()
             && let Some((meaning, texts)) = texts.split_once(" | ")
             && let Some((detail, advice)) = texts.split_once(" | ")
         {
             let help = format!(in alloc;
-                "refused {number}: {meaning}\nDetail: {detail}\nWhat to do: {advice}\n"
+                "{kind} {number}: {meaning}\nDetail: {detail}\nWhat to do: {advice}\n"
             )?;
-            return Ok(WordsFault::Help(help));
+            return Ok(Some(help));
         }
+    }
+    Ok(None)
+}
+
+/// Returns the help on the refusal or the fault with this number, or the usage if there is none.
+fn help_on(alloc: Global, text: &str) -> Result<WordsFault, AllocError> {
+    if let Some(help) = row_on(alloc, REFUSALS, "refused", text)? {
+        return Ok(WordsFault::Help(help));
+    }
+    if let Some(help) = row_on(alloc, FAULTS, "fault", text)? {
+        return Ok(WordsFault::Help(help));
     }
     let told = format!(in alloc; "unknown refusal '{text}'; expected a number such as 203")?;
     Ok(usage_fault(alloc, told.as_str()))
 }
 
-/// Fails with the help on a refusal if the words request it: `help` and a text of digits.
-pub(crate) fn refusal_help<S: AsStr>(alloc: Global, words: &[S]) -> Result<(), WordsFault> {
-    if let [_, help, number] = words
-        && help.as_str() == "help"
-        && !number.as_str().is_empty()
-        && number.as_str().bytes().all(|byte| byte.is_ascii_digit())
-    {
-        return Err(help_on(alloc, number.as_str())?);
+/// Returns whether words are the program's name and options: a command may follow.
+fn are_options<S: AsStr>(alloc: Global, words: &[S]) -> Result<bool, AllocError> {
+    let mut asked = Vec::new(alloc);
+    for word in words {
+        asked.push(word.as_str())?;
     }
-    Ok(())
+    asked.push("stock")?;
+    match sort_words(alloc, asked.as_slice()) {
+        Ok(words) => Ok(matches!(words.request, Request::Stock)),
+        Err(_) => Ok(false),
+    }
+}
+
+/// Fails with the help that the words request: `help` and a number or a verb, after the program's
+/// name and its options.
+pub(crate) fn number_help<S: AsStr>(alloc: Global, words: &[S]) -> Result<(), WordsFault> {
+    let [front @ .., help, about] = words else {
+        return Ok(());
+    };
+    let about = about.as_str();
+    if help.as_str() != "help" || about.is_empty() || !are_options(alloc, front)? {
+        return Ok(());
+    }
+    if about.bytes().all(|byte| byte.is_ascii_digit()) {
+        return Err(help_on(alloc, about)?);
+    }
+    match Verb::read(about.as_bytes()) {
+        Some(verb) => Err(verb_help(alloc, verb)),
+        None => Ok(()),
+    }
 }

@@ -236,6 +236,14 @@ fn words_fault(alloc: Global, error: &Error) -> Result<WordsFault, AllocError> {
     })
 }
 
+/// Returns the help on a verb.
+pub(crate) fn verb_help(alloc: Global, verb: Verb) -> WordsFault {
+    match sort_words(alloc, &["cargo_desk", "act", verb.word(), "--help"]) {
+        Ok(_) => usage_fault(alloc, "no help on the verb"),
+        Err(fault) => fault,
+    }
+}
+
 /// Sorts the words of a call; the first is the program's name.
 pub(crate) fn sort_words<'a, S: AsStr>(
     alloc: Global,

@@ -71,6 +71,8 @@ pub const FILES: &[&str] = &[
     "calendar",
     "http",
     "listings",
+    "evened",
+    "inbound",
     "shed",
     "waiting",
     "manifests",

@@ -14,7 +14,10 @@ use Rattle.reports.specs.declared.report.Listing.TheVariants as listing
 use Rattle.reports.specs.declared.report.Report.TheVariants as report
 use Rattle.http_desk.proofs.KeyPrinted.{key_again, segment_all, segment_few}
 use Rattle.http_desk.proofs.Paths.{page_there, place_is}
-use Rattle.http_desk.proofs.Segments.{all_weaker, at_three, at_two, is_path_good, is_segment, is_segment_byte, join, no_slash, plain}
+use Rattle.http_desk.proofs.Segments.{all_weaker, at_three, at_two, is_path_good, is_segment, is_segment_byte, join, no_slash, parted, plain, whole}
+use Rattle.http_desk.specs.Request.{flight_date, flight_part, flight_rows}
+use Rattle.desk_commands.specs.Command.{day_of}
+use Rattle.shipment_machine.specs.declared.flight.FlightDate.{FlightDate}
 
 -- The bytes of a path.
 
@@ -246,6 +249,31 @@ other_kind : (a b c : List ℕ) (l : Listing) → bytes_eq a (codes "waybills") 
 other_kind a b c l other is first second third rows =
     three a b c l is first second third rows (not_waybills a b c other) (not_waybills a b (c ++ codes ".json") other)
 
+-- the path of a part of a flight
+four : (a b c d : List ℕ) (l : Listing) → bytes_eq a (codes "waybills") ≡ false → rows_segments l ≡ a ∷ b ∷ c ∷ d ∷ [] → is_segment a ≡ true → is_segment b ≡ true → is_segment c ≡ true → is_segment d ≡ true → rows_part a b (c ++ 47 ∷ d) ≡ Some l → ArePrinted l
+four a b c d l other is first second third fourth rows =
+    let at = plain a first in
+    let mid = plain b second in
+    let rest : List ℕ = c ++ 47 ∷ d in
+    let all : list_all is_segment (a ∷ b ∷ c ∷ d ∷ []) ≡ true = and_from _ _ first (and_from _ _ second (and_from _ _ third (and_from _ _ fourth refl))) in
+    let back : (a ++ 47 ∷ (b ++ 47 ∷ rest)) ++ codes ".json" ≡ a ++ 47 ∷ (b ++ 47 ∷ (rest ++ codes ".json")) =
+    append_assoc a (47 ∷ (b ++ 47 ∷ rest)) (codes ".json") ∙ ap (λ (t : List ℕ). a ++ 47 ∷ t) (append_assoc b (47 ∷ rest) (codes ".json")) in
+    record {
+      good = ap (λ s. list_all is_path_good (path_text s)) is ∙ joined_good (a ∷ b ∷ c ∷ d ∷ []) all;
+      few = omega (arith, ap (λ s. length (path_text s)) is, joined_len (a ∷ b ∷ c ∷ d ∷ []) all);
+      rows = ap (λ s. rows_at (path_text s)) is ∙ at_three rows_word rows_named rows_part a b rest at mid ∙ rows;
+      page = ap (λ s. page_at (path_text s)) is ∙ at_three page_word page_named page_part a b rest at mid ∙ not_waybills a b rest other;
+      json_page = ap (λ s. page_at (path_text s ++ codes ".json")) is
+          ∙ ap (λ (t : List ℕ). page_at (codes "/v1/" ++ t)) back
+          ∙ at_three page_word page_named page_part a b (rest ++ codes ".json") at mid ∙ not_waybills a b (rest ++ codes ".json") other;
+    }
+
+-- a flight and its day are read back
+flight_there : (make : FlightDate → Listing) (f : FlightDate) → IsDesignator f.flight → day_of (day_line f.day) ≡ Some f.day → option_map make (flight_date (flight_text f.flight) (day_line f.day)) ≡ Some (make f)
+flight_there make f range day =
+    ap (λ (o : Option Designator). option_map make (option_and_then (flight_on (day_line f.day)) o)) (flight_again f.flight range)
+    ∙ ap (λ (o : Option ℕ). option_map make (option_map (λ (d : ℕ). record { flight = f.flight; day = d }) o)) day
+
 numbered : (a b : List ℕ) (l : Listing) (n : ℕ) → n < 2 ^ 32 → bytes_eq a (codes "waybills") ≡ false → rows_segments l ≡ a ∷ b ∷ decimal n ∷ [] → is_segment a ≡ true → is_segment b ≡ true
     → rows_part a b (decimal n) ≡ option_and_then (numbered_rows a b) (row_number (decimal n)) → numbered_rows a b n ≡ Some l → ArePrinted l
 numbered a b l n lt other is first second part rows =
@@ -280,6 +308,7 @@ kept key is =
     }
 
 printed : (l : Listing) → IsListed l → ArePrinted l
+unfolding flight_rows
 printed (listing.All report.Stock) is = record { good = refl; few = omega arith; rows = refl; page = refl; json_page = refl }
 printed (listing.All report.Announced) is = record { good = refl; few = omega arith; rows = refl; page = refl; json_page = refl }
 printed (listing.All report.Shed) is = record { good = refl; few = omega arith; rows = refl; page = refl; json_page = refl }
@@ -295,6 +324,7 @@ printed (listing.All report.Sent) is = record { good = refl; few = omega arith; 
 printed (listing.All report.Station) is = record { good = refl; few = omega arith; rows = refl; page = refl; json_page = refl }
 printed listing.OpenFlights is = record { good = refl; few = omega arith; rows = refl; page = refl; json_page = refl }
 printed listing.OpenExpected is = record { good = refl; few = omega arith; rows = refl; page = refl; json_page = refl }
+printed listing.OpenIrregularities is = record { good = refl; few = omega arith; rows = refl; page = refl; json_page = refl }
 printed (listing.AgentStock code) is =
     other_kind (codes "agents") code (codes "stock") (listing.AgentStock code) refl refl refl (agent_good code is) refl (ap (λ (t : Bool). option_map listing.AgentStock (where_true t code)) is)
 printed (listing.Movements w) is = of_waybill (codes "movements") (listing.Movements w) w is refl refl refl refl refl
@@ -309,8 +339,12 @@ printed (listing.SentAfter n) is = numbered (codes "sent") (codes "after") (list
 printed (listing.Kept key) is = kept key is
 printed (listing.Manifest f) (range, day) =
     other_kind (codes "flights") (flight_text f.flight) (day_line f.day) (listing.Manifest f) refl refl refl (flight_good f.flight range) (day_good f.day)
-    (ap (λ (o : Option Designator). option_map listing.Manifest (option_and_then (flight_on (day_line f.day)) o)) (flight_again f.flight range)
-    ∙ ap (λ (o : Option ℕ). option_map listing.Manifest (option_map (λ (d : ℕ). record { flight = f.flight; day = d }) o)) day)
+    (whole (λ day. option_map listing.Manifest (flight_date (flight_text f.flight) day)) (flight_part (flight_text f.flight)) (day_line f.day) (no_slash (day_line f.day) (plain (day_line f.day) (day_good f.day)))
+    ∙ flight_there listing.Manifest f range day)
+printed (listing.Arrivals f) (range, day) =
+    four (codes "flights") (flight_text f.flight) (day_line f.day) (codes "arrivals") (listing.Arrivals f) refl refl refl (flight_good f.flight range) (day_good f.day) refl
+    (parted (λ day. option_map listing.Manifest (flight_date (flight_text f.flight) day)) (flight_part (flight_text f.flight)) (day_line f.day) (codes "arrivals") (plain (day_line f.day) (day_good f.day))
+    ∙ flight_there listing.Arrivals f range day)
 
 pub rows_path_of : (l : Listing) (f : Form) → IsListed l → IsPathOf (rows_path l f) (gets (got_report (in_form f l)))
 rows_path_of l form.Text listed =

@@ -73,10 +73,10 @@ later_is text more all =
     ∙ drop-append_seam (text ++ 47 ∷ []) more
 
 module _ {A : Type 0} where
-  whole : (one : List ℕ → A) (two : List ℕ → List ℕ → A) (text : List ℕ) → has_slash text ≡ false → by_slash one two text ≡ one text
+  pub whole : (one : List ℕ → A) (two : List ℕ → List ℕ → A) (text : List ℕ) → has_slash text ≡ false → by_slash one two text ≡ one text
   whole one two text none = ap (λ (v : Bool). if v then two (before_first is_slash text) (after_first is_slash text) else one text) none
 
-  parted : (one : List ℕ → A) (two : List ℕ → List ℕ → A) (text more : List ℕ) → list_all is_plain text ≡ true → by_slash one two (text ++ 47 ∷ more) ≡ two text more
+  pub parted : (one : List ℕ → A) (two : List ℕ → List ℕ → A) (text more : List ℕ) → list_all is_plain text ≡ true → by_slash one two (text ++ 47 ∷ more) ≡ two text more
   parted one two text more all =
       let t : List ℕ = text ++ 47 ∷ more in
       ap (λ (v : Bool). if v then two (before_first is_slash t) (after_first is_slash t) else one t) (a_slash text more all)

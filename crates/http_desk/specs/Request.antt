@@ -80,6 +80,16 @@ flight_on day flight = option_map (λ d. record { flight = flight; day = d }) (d
 abbrev pub flight_date : List ℕ → List ℕ → Option FlightDate
 flight_date flight day = option_and_then (flight_on day) (flight_of flight)
 
+-- the rows of a flight: its manifest, or its arrivals
+abbrev pub flight_part : List ℕ → List ℕ → List ℕ → Option Listing
+flight_part flight day part =
+    if bytes_eq part (codes "arrivals") then option_map listing.Arrivals (flight_date flight day)
+    else None
+
+unfoldable pub flight_rows : List ℕ → List ℕ → Option Listing
+flight_rows flight rest =
+    by_slash (λ day. option_map listing.Manifest (flight_date flight day)) (flight_part flight) rest
+
 abbrev pub agent_rows : List ℕ → List ℕ → Option Listing
 agent_rows code part =
     if bytes_eq part (codes "stock") then option_map listing.AgentStock (agent_code code) else None
@@ -122,8 +132,7 @@ rows_named kind name =
 abbrev pub rows_part : List ℕ → List ℕ → List ℕ → Option Listing
 rows_part kind second third =
     if bytes_eq kind (codes "agents") then agent_rows second third
-    else if bytes_eq kind (codes "flights")
-    then option_map listing.Manifest (flight_date second third)
+    else if bytes_eq kind (codes "flights") then flight_rows second third
     else if bytes_eq kind (codes "waybills")
     then option_and_then (waybill_rows third) (result_ok (number_of second))
     else option_and_then (numbered_rows kind second) (row_number third)
@@ -418,6 +427,7 @@ abbrev pub rows_segments : Listing → List (List ℕ)
 rows_segments (listing.All r) = report_segments r
 rows_segments listing.OpenFlights = codes "reports" ∷ codes "open-flights" ∷ []
 rows_segments listing.OpenExpected = codes "reports" ∷ codes "open-expected" ∷ []
+rows_segments listing.OpenIrregularities = codes "reports" ∷ codes "open-irregularities" ∷ []
 rows_segments (listing.AgentStock code) = codes "agents" ∷ code ∷ codes "stock" ∷ []
 rows_segments (listing.Movements w) = codes "waybills" ∷ number_text w ∷ codes "movements" ∷ []
 rows_segments (listing.MovementsAfter n) = codes "movements" ∷ codes "after" ∷ decimal n ∷ []
@@ -430,6 +440,8 @@ rows_segments (listing.SentAfter n) = codes "sent" ∷ codes "after" ∷ decimal
 rows_segments (listing.Sent w) = codes "waybills" ∷ number_text w ∷ codes "sent" ∷ []
 rows_segments (listing.Kept key) = codes "keys" ∷ key_segment key ∷ []
 rows_segments (listing.Manifest f) = codes "flights" ∷ flight_text f.flight ∷ day_line f.day ∷ []
+rows_segments (listing.Arrivals f) =
+    codes "flights" ∷ flight_text f.flight ∷ day_line f.day ∷ codes "arrivals" ∷ []
 
 abbrev pub segments : Place → List (List ℕ)
 segments (posts (posted_command verb)) = codes "act" ∷ word verb ∷ []
@@ -488,6 +500,7 @@ IsListed (listing.SentAfter n) = n < 2 ^ 32
 IsListed (listing.Sent w) = IsNumber w
 IsListed (listing.Kept key) = IsTrue (is_key key)
 IsListed (listing.Manifest f) = IsDesignator f.flight × (day_of (day_line f.day) ≡ Some f.day)
+IsListed (listing.Arrivals f) = IsDesignator f.flight × (day_of (day_line f.day) ≡ Some f.day)
 IsListed _ = ⊤
 
 -- the size of the longest path that is printed, in bytes

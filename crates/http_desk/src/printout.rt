@@ -1,7 +1,7 @@
 //! The paths of rows, as read and as printed.
 ghost use Rattle.std.specs.Prelude.{◌≡◌, IfOk, option_map, string_bytes};
 ghost use Rattle.http_desk.specs.Common.{result_ok, number_of};
-ghost use Rattle.http_desk.specs.Request.{report_path, listing_path, rows_path, agent_code, agent_rows, flight_date, in_form, numbered_rows, printout_at, row_number, rows_at, rows_named, rows_part, rows_word, waybill_rows};
+ghost use Rattle.http_desk.specs.Request.{report_path, listing_path, rows_path, agent_code, agent_rows, flight_date, flight_part, flight_rows, in_form, numbered_rows, printout_at, row_number, rows_at, rows_named, rows_part, rows_word, waybill_rows};
 
 use crate::request::number_told;
 use crate::route::{key_in, key_segment};
@@ -81,6 +81,27 @@ fn rows_named(kind: &str, name: &str) -> Option<Listing>
     }
 }
 
+/// Returns the rows of a part of a flight.
+fn flight_part(flight: &str, day: &str, part: &str) -> Option<Listing>
+    ensures { result ≡ flight_part flight.now day.now part.now }
+{
+    match part {
+        "arrivals" => Some(Listing::Arrivals(flight_date(flight, day)?)),
+        _ => None,
+    }
+}
+
+/// Returns the rows of a flight, by what follows it in a path: its day, or its day and a part.
+#[tactic(auto, unfolding(crate::specs::Request::flight_rows))]
+fn flight_rows(flight: &str, rest: &str) -> Option<Listing>
+    ensures { result ≡ flight_rows flight.now rest.now }
+{
+    match rest.split_once('/') {
+        Some((day, part)) => flight_part(flight, day, part),
+        None => Some(Listing::Manifest(flight_date(flight, rest)?)),
+    }
+}
+
 fn agent_rows(code: &str, part: &str) -> Option<Listing>
     ensures { result ≡ agent_rows code.now part.now }
 {
@@ -122,7 +143,7 @@ fn rows_part(kind: &str, second: &str, third: &str) -> Option<Listing>
 {
     match kind {
         "agents" => agent_rows(second, third),
-        "flights" => Some(Listing::Manifest(flight_date(second, third)?)),
+        "flights" => flight_rows(second, third),
         "waybills" => waybill_rows(number_in(second.as_bytes())?, third),
         _ => numbered_rows(kind, second, row_number(third)?),
     }
@@ -187,6 +208,7 @@ fn listing_path(alloc: Global, listing: &Listing) -> Result<String, AllocError>
         Listing::All(report) => String::from_str(alloc, report_path(*report)),
         Listing::OpenFlights => String::from_str(alloc, "/v1/reports/open-flights"),
         Listing::OpenExpected => String::from_str(alloc, "/v1/reports/open-expected"),
+        Listing::OpenIrregularities => String::from_str(alloc, "/v1/reports/open-irregularities"),
         Listing::AgentStock(code) => {
             let code = code.as_str();
             format!(in alloc; "/v1/agents/{code}/stock")
@@ -205,6 +227,13 @@ fn listing_path(alloc: Global, listing: &Listing) -> Result<String, AllocError>
             format!(in alloc; "/v1/keys/{segment}")
         }
         Listing::Manifest(flight) => format!(in alloc; "/v1/flights/{flight}"),
+        Listing::Arrivals(flight) => {
+            let FlightDate {
+                flight: designator,
+                day,
+            } = *flight;
+            format!(in alloc; "/v1/flights/{designator}/{day}/arrivals")
+        }
     }
 }
 

@@ -41,6 +41,12 @@ fn field(row: &ByteRecord, place: usize) -> &[u8] {
 /// Returns the first fault of a row, from the left.
 fn row_words(alloc: Global, row: &ByteRecord) -> Result<String, AllocError> {
     let (count, key, verb, agent) = (row.len(), field(row, 0), field(row, 1), field(row, 5));
+    if count == 1 && key.contains(&b';') {
+        return String::from_str(
+            alloc,
+            "expected six fields with commas between them, found semicolons",
+        );
+    }
     if count != FIELDS {
         return format!(in alloc; "expected six fields, found {count}");
     }

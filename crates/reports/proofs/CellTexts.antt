@@ -68,6 +68,7 @@ have cell.Program = record { first = _; rest = _; is = refl }
 have (cell.Route origin destination) = record { first = _; rest = _; is = refl }
 have (cell.Serials run) = record { first = _; rest = _; is = refl }
 have (cell.Since day) = record { first = _; rest = _; is = refl }
+have (cell.State arrived) = record { first = _; rest = _; is = refl }
 have (cell.Sum l amount) = record { first = _; rest = _; is = refl }
 have (cell.Unload airport) = record { first = _; rest = _; is = refl }
 have (cell.Waybills n) = record { first = _; rest = _; is = refl }

@@ -3,7 +3,7 @@ pub use Rattle.agent_stock.specs.declared.runs.StockRun.{StockRun}
 pub use Rattle.awb_number.specs.Number.{number_text, prefix_of, serial_of}
 pub use Rattle.desk_commands.proofs.Written.{told}
 pub use Rattle.imp_fields.specs.Fields.{Designator, flight_text}
-pub use Rattle.reports.specs.Reports.{book_cells, cell_text, data_by, data_of, expected_cells, field_of, flight_cells, irregular_cells, line_by, line_of, manifest_cells, members_in, next_text, shed_cells, stock_cells, summary_cells, kept_rows, spaced, end_line, kept_line, message_lines, report_text, trail_line, IsListing, IsTextOf, IsWhole, is_about, is_awaited, is_held_by, is_open, items_of, rows_data, rows_text, count_data, kept_data, members_of, message_data, trail_data, before_row, close_of_none, end_piece, in_form, row_piece, IsExpectedReport, IsFlightReport, IsStockReport, irregularity_report, movement_book, pending_report, shed_report, trail_report}
+pub use Rattle.reports.specs.Reports.{book_cells, cell_text, data_by, data_of, expected_cells, field_of, flight_cells, irregular_cells, line_by, line_of, manifest_cells, members_in, next_text, shed_cells, stock_cells, summary_cells, kept_rows, is_unsettled, open_irregular_rows, spaced, end_line, kept_line, message_lines, report_text, trail_line, IsListing, IsTextOf, IsWhole, is_awaited, is_held_by, is_open, items_of, rows_data, rows_text, count_data, kept_data, members_of, message_data, trail_data, before_row, close_of_none, end_piece, in_form, row_piece, IsExpectedReport, IsFlightReport, IsStockReport, irregularity_report, movement_book, pending_report, shed_report, trail_report}
 pub use Rattle.reports.specs.Passes.{AreDated, IsDay, IsSince, lasts, own_moves, HasEnded, HasEndedBy, HasEndedEach, HasTold, HaveGone, IsBegun, IsCause, StopsBy, StopsWriting, WritesReport, WritesRows, has_pieces, leaves, manifest_of, manifest_row, manifest_rows, takes_away, AreOne, HaveBytes, TakesWanted, Ends, HasGone, HasStuck, IsWhy, Progress, Takes, Waits, progress_of, IsNew, TakesMove, counted, listed, nothing_of, row_of, tally_in, with_move}
 pub use Rattle.reports.specs.declared.cells.Cell.{Cell}
 pub use Rattle.reports.specs.declared.report.ReportCause.{ReportCause}
@@ -22,11 +22,11 @@ pub use Rattle.shipment_machine.specs.Book.{amount, brings, has_moves, moved_in,
 pub use Rattle.shipment_machine.specs.Cargo.{Cargo}
 pub use Rattle.shipment_machine.specs.declared.flight.FlightDate.{FlightDate}
 pub use Rattle.shipment_machine.specs.declared.moves.Move.{Move}
-pub use Rattle.shipment_machine.specs.declared.moves.Place.TheVariants.{Built, Departed, Free, Hand, Surplus}
+pub use Rattle.shipment_machine.specs.declared.moves.Place.TheVariants.{Built, Departed, Free, Hand, Missing, Surplus}
 pub use Rattle.station_core.specs.Ends.{NoneFailed, OneFailed, Sent}
 pub use Rattle.station_core.specs.Given.{Given}
 pub use Rattle.station_core.specs.Keeping.{IsReadersFault, Keeping, OnlyReads}
-pub use Rattle.station_core.specs.Readers.{AreAnnounced, AreExpectations, AreExpectedBy, AreExpectedRows, AreFlightRows, AreNoted, asks_for, book_by, book_row, book_rows, by_expectation, by_flight, expected_for, expected_row, flight_row, irregular_rows, is_named, is_of_flight, messages_after, messages_by, movements_for, numbered, pending_messages, shed_rows, trail_by}
+pub use Rattle.station_core.specs.Readers.{AreAnnounced, AreExpectations, AreExpectedBy, AreExpectedRows, AreFlightRows, AreNoted, asks_for, book_by, book_row, book_rows, by_expectation, by_flight, expected_for, expected_row, flight_row, irregular_rows, is_named, is_of_flight, messages_about, messages_after, messages_by, movements_for, numbered, pending_messages, shed_rows, trail_by}
 pub use Rattle.station_core.specs.Step.{State, after_all, opening}
 pub use Rattle.station_core.specs.declared.answer.ActFault.{ActFault}
 pub use Rattle.station_core.specs.declared.rows.BookQuery.TheVariants.{After, Last, Of, On}

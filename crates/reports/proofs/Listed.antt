@@ -1,5 +1,5 @@
 -- The worked listings, computed.
-use Rattle.reports.proofs.Common.{After, FlightRow, Json, Last, Of, Text, [], book_by, book_cells, book_rows, codes, data_by, expected_cells, filter, flight_cells, irregular_cells, irregular_rows, is_about, is_awaited, is_held_by, is_open, line_by, map, message_data, message_lines, messages_after, messages_by, pending_messages, refl, rows_text, shed_cells, shed_rows, stock_cells, trail_by, trail_data, trail_line, true, ◌∷◌, ◌≡◌}
+use Rattle.reports.proofs.Common.{After, FlightRow, Json, Last, Of, Text, [], book_by, book_cells, book_rows, codes, data_by, expected_cells, filter, flight_cells, irregular_cells, irregular_rows, is_awaited, is_held_by, is_open, line_by, map, message_data, message_lines, messages_about, messages_after, messages_by, pending_messages, refl, rows_text, shed_cells, shed_rows, stock_cells, trail_by, trail_data, trail_line, true, ◌∷◌, ◌≡◌}
 use Rattle.std.specs.Fmt.{digits}
 use Rattle.serde_json.proofs.OnLiterals.{serde_json_on_literals}
 use Rattle.jiff_core.specs.Calendar.{days_of_years, days_of_months, day_count, days_from_civil}
@@ -120,11 +120,11 @@ example_sent_after : map (λ m. m.number) (messages_after 1 departed.cargo) ≡ 
 unfolding digits day_line
 example_sent_after = refl
 
-example_sent : map (λ m. m.number) (filter (is_about 201234567) (messages_after 0 departed.cargo)) ≡ 1 ∷ 2 ∷ 3 ∷ []
+example_sent : map (λ m. m.number) (messages_about 201234567 departed.cargo) ≡ 1 ∷ 2 ∷ 3 ∷ []
 unfolding digits day_line
 example_sent = refl
 
-example_sent_of_another : filter (is_about 201234568) (messages_after 0 departed.cargo) ≡ []
+example_sent_of_another : messages_about 201234568 departed.cargo ≡ []
 unfolding digits day_line
 example_sent_of_another = refl
 

@@ -97,6 +97,13 @@ sum_with adds ms m b c so one =
     let push = sum_by_push adds ms m in
     omega (arith, so, one, more, push)
 
+pub own_rows : (w n : ℕ) (ms : List Move) → moves_of (filter (λ row. row.movement.awb == w) (numbered book_row n ms)) ≡ own_moves ms w
+own_rows w n [] = refl
+own_rows w n (m ∷ ms) = elim (m.awb == w) as (λ b. moves_of (if b then book_row n m ∷ filter (λ row. row.movement.awb == w) (numbered book_row (n + 1) ms) else filter (λ row. row.movement.awb == w) (numbered book_row (n + 1) ms)) ≡ (if b then m ∷ own_moves ms w else own_moves ms w)) [
+  | true ↦ ap (λ l. m ∷ l) (own_rows w (n + 1) ms)
+  | false ↦ own_rows w (n + 1) ms
+]
+
 module _ (w : ℕ) (kind : Lasting) where
   -- the sums and the day are those of these movements
   pub record Follows (ms : List Move) (s : Spell) : Type 0 where
@@ -157,18 +164,11 @@ module _ (w : ℕ) (kind : Lasting) where
       subst (λ l. Follows l new) (append_assoc ms (m ∷ []) (moves_of rows)) (follows_all rows (ms ++ m ∷ []) mid new (subst (Follows (ms ++ m ∷ [])) (sym took) (follows_next ms m old f)) more room)
   follows_all (row ∷ rows) ms old new f (false, mid, took, more) room = absurd (true≢false (sym took ∙ sym (ap (λ (s : Spell). s.is_full) more) ∙ room))
 
-  own_rows : (n : ℕ) (ms : List Move) → moves_of (filter (λ row. row.movement.awb == w) (numbered book_row n ms)) ≡ own_moves ms w
-  own_rows n [] = refl
-  own_rows n (m ∷ ms) = elim (m.awb == w) as (λ b. moves_of (if b then book_row n m ∷ filter (λ row. row.movement.awb == w) (numbered book_row (n + 1) ms) else filter (λ row. row.movement.awb == w) (numbered book_row (n + 1) ms)) ≡ (if b then m ∷ own_moves ms w else own_moves ms w)) [
-    | true ↦ ap (λ l. m ∷ l) (own_rows (n + 1) ms)
-    | false ↦ own_rows (n + 1) ms
-  ]
-
   day_found : (book : List Move) (rows : List BookRow) (old new : Spell) → old ≡ start_of w kind → rows ≡ filter (λ row. row.movement.awb == w) (numbered book_row 1 book)
       → HandedOut (λ from row go to. TakesNext from row.movement go to) rows old new → new.is_full ≡ false → IsDay (lasts kind w) (own_moves book w) new.since
   day_found book rows old new start are handed room =
       let f = follows_all rows [] old new (subst (Follows []) (sym start) follows_start) handed room in
-      subst (λ l. IsDay (lasts kind w) l new.since) (ap moves_of are ∙ own_rows 1 book) f.day
+      subst (λ l. IsDay (lasts kind w) l new.since) (ap moves_of are ∙ own_rows w 1 book) f.day
 
   -- what a reader found, if there was room
   pub day_known : (book : List Move) (read : Result (Unit {0}) ActFault) (old new : Spell) → old ≡ start_of w kind

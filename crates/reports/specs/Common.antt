@@ -17,17 +17,17 @@ pub use Rattle.imp_fields.specs.Message.{weight_text}
 pub use Rattle.json.specs.Print.{escape, escape_byte, escape_letter, quoted}
 pub use Rattle.serde_json.specs.Data.{Data, Items, Members, array, boolean, item, member, no_items, no_members, null, number, object, string, unsigned}
 pub use Rattle.serde_json.specs.Written.{compact_text}
-pub use Rattle.shipment_machine.specs.Book.{amount, built, found, in_store, missing, pieces_of, same_place, store, tenths_of, waybills_of}
+pub use Rattle.shipment_machine.specs.Book.{amount, built, found, in_store, missing, pieces_of, same_flight_date, same_place, store, tenths_of, waybills_of}
 pub use Rattle.shipment_machine.specs.Cargo.{Cargo}
 pub use Rattle.shipment_machine.specs.declared.moves.Amount.{Amount}
 pub use Rattle.shipment_machine.specs.declared.flight.FlightDate.{FlightDate}
 pub use Rattle.shipment_machine.specs.declared.moves.Move.{Move}
 pub use Rattle.shipment_machine.specs.declared.moves.Place.{Place}
-pub use Rattle.shipment_machine.specs.declared.moves.Place.TheVariants.{Built, Departed, Missing, Surplus}
+pub use Rattle.shipment_machine.specs.declared.moves.Place.TheVariants.{Built, Departed, Free, Hand, Missing, Surplus}
 pub use Rattle.station_core.specs.Ends.{HasCause, NoneFailed, OneFailed, Sent}
 pub use Rattle.station_core.specs.Given.{Given}
 pub use Rattle.station_core.specs.Keeping.{IfSound, IsMemory, IsReadersFault, Keeping, OnlyReads, Reads, Reopens, kept_of, summary_of}
-pub use Rattle.station_core.specs.Readers.{AreAnnounced, AreExpectedBy, AreExpectedRows, AreFlightRows, book_by, book_rows, irregular_rows, messages_after, messages_by, pending_messages, shed_rows, trail_by, trail_rows}
+pub use Rattle.station_core.specs.Readers.{AreAnnounced, AreExpectedBy, AreExpectedRows, AreFlightRows, book_by, book_rows, irregular_rows, is_about, is_named, messages_about, messages_after, messages_by, pending_messages, shed_rows, trail_by, trail_rows, waybill_of}
 pub use Rattle.station_core.specs.Step.{Kept, State, flight_date_text}
 pub use Rattle.station_core.specs.declared.rows.AnnouncedRow.{AnnouncedRow}
 pub use Rattle.station_core.specs.declared.rows.BookQuery.{BookQuery}
@@ -42,7 +42,9 @@ pub use Rattle.station_core.specs.declared.rows.MessageQuery.{MessageQuery}
 pub use Rattle.station_core.specs.declared.rows.ShedRow.{ShedRow}
 pub use Rattle.station_core.specs.declared.rows.TrailQuery.{TrailQuery}
 pub use Rattle.station_core.specs.declared.rows.TrailRow.{TrailRow}
+pub use Rattle.station_core.specs.declared.rows.Waybill.{Waybill}
 pub use Rattle.station_core.specs.declared.stored.Summary.{Summary}
 pub use Rattle.station_days.specs.Date.{LocalMinute}
+pub use Rattle.reports.specs.declared.arrivals.ArrivalRow.{ArrivalRow}
 pub use Rattle.reports.specs.declared.days.Dated.{Dated}
 pub use Rattle.reports.specs.declared.manifest.ManifestRow.{ManifestRow}

@@ -5,9 +5,11 @@ ghost use Rattle.reports.specs.Common.{flat_map, compact_text};
 ghost use Rattle.reports.specs.Reports.{cell_text, data_of, field_of, label_text, line_of, next_text, in_form};
 ghost use Rattle.reports.specs.declared.cells.Cell.TheVariants as cell;
 
+use crate::arrivals::ArrivalState;
 use crate::layout::{
     Form, amount_text, day_or_none, flight_column, flight_or_none, goods_or_none, moment_text,
     notified_or_none, number_right, open_or, places_text, program_version, serials_text,
+    state_word,
 };
 use crate::objects::{
     airport_text, amount_members, amount_object, awb_text, flag, flight_members, flight_or_null,
@@ -25,6 +27,7 @@ use std::alloc::{AllocError, Global};
 #[derive(Clone, Copy)]
 pub(crate) enum Label {
     Built,
+    Came,
     Confirmed,
     Departed,
     Files,
@@ -33,6 +36,7 @@ pub(crate) enum Label {
     Messages,
     Missing,
     Moves,
+    Surplus,
     Trail,
 }
 
@@ -72,6 +76,8 @@ pub(crate) enum Cell {
     Serials(StockRun),
     /// The day of a declaration, or since which something has lasted.
     Since(Option<LocalDay>),
+    /// What is known of an announced waybill.
+    State(ArrivalState),
     /// Pieces in one place.
     Sum(Label, Amount),
     /// The airport where a flight unloads.
@@ -85,6 +91,7 @@ fn label_text(label: Label) -> &'static str
 {
     match label {
         Label::Built => "built",
+        Label::Came => "came",
         Label::Confirmed => "confirmed",
         Label::Departed => "departed",
         Label::Files => "files",
@@ -93,6 +100,7 @@ fn label_text(label: Label) -> &'static str
         Label::Messages => "messages",
         Label::Missing => "missing",
         Label::Moves => "moves",
+        Label::Surplus => "surplus",
         Label::Trail => "trail",
     }
 }
@@ -144,6 +152,7 @@ fn field(alloc: Global, cell: &Cell) -> Result<String, AllocError>
         Cell::Route(origin, destination) => format!(in alloc; "{origin}{destination}"),
         Cell::Serials(run) => serials_text(alloc, run),
         Cell::Since(day) => day_or_none(alloc, *day),
+        Cell::State(state) => String::from_str(alloc, state_word(*state)),
         Cell::Sum(label, sum) => sum_text(alloc, *label, sum),
         Cell::Unload(airport) => airport.to_string(alloc),
         Cell::Waybills(waybills) => number_right(alloc, u64::from(*waybills), 4),
@@ -195,6 +204,9 @@ fn members(alloc: Global, cell: &Cell) -> Result<String, AllocError>
         Cell::Route(origin, destination) => route_members(alloc, origin, destination),
         Cell::Serials(run) => serial_members(alloc, run),
         Cell::Since(day) => member(alloc, "since", since_text(alloc, *day)?.as_str()),
+        Cell::State(state) => {
+            member(alloc, "state", quoted(alloc, state_word(*state))?.as_str())
+        }
         Cell::Sum(label, sum) => {
             member(
                 alloc,

@@ -230,7 +230,7 @@ impl<Row: Drop> Sink<Row> for Gathering<Row> {
 }
 
 /// Returns the rows of a reader.
-fn gathered<Row: Drop, R: Reading<Row>, K: Keeper>(
+pub(crate) fn gathered<Row: Drop, R: Reading<Row>, K: Keeper>(
     alloc: Global,
     keeper: &mut K,
     reading: &R,

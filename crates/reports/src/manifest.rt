@@ -4,14 +4,14 @@
 ghost use Rattle.std.specs.Prelude.{◌≡◌, true, false, IfErr, IfOk, Err, not};
 ghost use Rattle.reports.specs.Passes.{has_pieces, manifest_rows};
 ghost use Rattle.reports.specs.Common.{IfSound, IsReadersFault, OnlyReads, Reopens, State};
-ghost use Rattle.reports.specs.Reports.{is_about, is_open, is_held_by};
+ghost use Rattle.reports.specs.Reports.{is_open, is_held_by};
 
 use crate::readings::Reading;
 use crate::tallies::Tallies;
 use agent_stock::{AgentCode, Holder, StockRun};
 use awb_number::Awb;
 use shipment_machine::{Amount, FlightDate};
-use station_core::{ActFault, BookQuery, FlightRow, Keeper, Message, Sink, hand_out};
+use station_core::{ActFault, BookQuery, FlightRow, Keeper, Sink, hand_out};
 use std::alloc::Global;
 
 /// A waybill on a flight.
@@ -123,23 +123,5 @@ impl Pick<StockRun> for OfAgent {
             Holder::Agent(code) => code.as_bytes() == self.code.as_bytes(),
             _ => false,
         }
-    }
-}
-
-/// The status messages of a waybill.
-#[derive(Drop)]
-pub(crate) struct OfWaybill {
-    pub(crate) awb: Awb,
-}
-
-impl Pick<Message> for OfWaybill {
-    ghost wanted = { λ pick message. is_about pick.awb message };
-
-    fn wants(&self, message: &Message) -> bool {
-        let text = message.text.as_bytes();
-        let number = self.awb.write();
-        text.len() >= 20
-            && &text[..8] == b"FSU/12\r\n".as_slice()
-            && &text[8..20] == number.as_slice()
     }
 }

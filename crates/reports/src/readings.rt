@@ -2,10 +2,11 @@
 //! The command that was accepted under a key.
 
 ghost use Rattle.std.specs.Prelude.{◌≡◌, ◌∷◌, [], false, IfErr, IfOk};
-ghost use Rattle.reports.specs.Common.{IfSound, IsReadersFault, OnlyReads, Reopens, summary_of, AreStockRuns, AreAnnounced, shed_rows, AreFlightRows, AreExpectedBy, irregular_rows, book_by, messages_by, trail_by, Reads, kept_of};
+ghost use Rattle.reports.specs.Common.{IfSound, IsReadersFault, OnlyReads, Reopens, summary_of, AreStockRuns, AreAnnounced, shed_rows, AreFlightRows, AreExpectedBy, irregular_rows, book_by, messages_about, messages_by, trail_by, Reads, kept_of};
 ghost use Rattle.reports.specs.Reports.{kept_row, kept_rows, one_line};
 
 use agent_stock::StockRun;
+use awb_number::Awb;
 use station_core::{
     ActFault, AnnouncedRow, BookQuery, BookRow, ExpectedQuery, ExpectedRow, FlightRow,
     IrregularRow, Keeper, KeptReply, Key, Message, MessageQuery, RowText, ShedRow, Sink, Summary,
@@ -158,6 +159,24 @@ impl Reading<Message> for MessageQuery {
         sink: &mut S,
     ) -> Result<(), ActFault> {
         keeper.messages_by(self, sink)
+    }
+}
+
+/// The status messages of a waybill.
+#[derive(Drop)]
+pub(crate) struct StatusReading {
+    pub(crate) awb: Awb,
+}
+
+impl Reading<Message> for StatusReading {
+    ghost rows = { λ reading s rows. rows ≡ messages_about reading.awb s.cargo };
+
+    fn hand_out<K: Keeper, S: Sink<Message>>(
+        &self,
+        keeper: &mut K,
+        sink: &mut S,
+    ) -> Result<(), ActFault> {
+        keeper.messages_about(&self.awb, sink)
     }
 }
 

@@ -108,6 +108,9 @@ pub enum Listing {
     OpenFlights,
     /// The expectations that aren't checked in.
     OpenExpected,
+    /// The waybills with missing or found pieces that don't even out: the pieces in store and those
+    /// that left aren't as many as are declared.
+    OpenIrregularities,
     /// The runs of the stock that an agent holds.
     AgentStock(AgentCode),
     /// The movements of a waybill, with their numbers in the movement book.
@@ -133,11 +136,13 @@ pub enum Listing {
     /// The manifest of a flight, ascending by waybill: the pieces built for it now, and those that
     /// departed with it.
     Manifest(FlightDate),
+    /// The announced waybills of a flight: what came of each, and what is missing.
+    Arrivals(FlightDate),
 }
 
 impl Listing {
-    /// Returns the listing with a name: `open-flights`, `open-expected`, or a whole report (see
-    /// [`Report::read`]). The other listings have no name.
+    /// Returns the listing with a name: `open-flights`, `open-expected`, `open-irregularities`, or
+    /// a whole report (see [`Report::read`]). The other listings have no name.
     pub fn read(name: &[u8]) -> Option<Listing>
         ensures { result ≡ listing_called name.now }
     {
@@ -145,6 +150,8 @@ impl Listing {
             Some(Listing::OpenFlights)
         } else if name == b"open-expected".as_slice() {
             Some(Listing::OpenExpected)
+        } else if name == b"open-irregularities".as_slice() {
+            Some(Listing::OpenIrregularities)
         } else {
             match Report::read(name) {
                 Some(report) => Some(Listing::All(report)),

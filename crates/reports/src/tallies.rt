@@ -53,7 +53,7 @@ struct FlightSums {
 }
 
 /// Returns an amount, or `None` if it doesn't fit into 32 bits.
-fn amount_of(pieces: u64, tenths: u64) -> Option<Amount>
+pub(crate) fn amount_of(pieces: u64, tenths: u64) -> Option<Amount>
     ensures { IfSome result (λ amount. amount ≡ record { pieces = pieces; tenths = tenths }) }
 {
     let pieces = u32::try_from(pieces).ok()?;

@@ -1,4 +1,4 @@
-use Rattle.reports.proofs.Common.{IsListing, arith, book_by, book_cells, common_steps, data_by, filter, is_about, kept_data, kept_line, kept_rows, line_by, manifest_cells, manifest_rows, message_data, message_lines, messages_after, messages_by, rules, trail_by, trail_data, trail_line}
+use Rattle.reports.proofs.Common.{IsListing, arith, book_by, book_cells, common_steps, data_by, irregular_cells, kept_data, kept_line, kept_rows, line_by, manifest_cells, manifest_rows, message_data, message_lines, messages_about, messages_by, open_irregular_rows, rules, trail_by, trail_data, trail_line}
 use Rattle.station_core.specs.declared.rows.BookQuery.TheVariants as book
 use Rattle.station_core.specs.declared.rows.ExpectedQuery.TheVariants as expected
 use Rattle.station_core.specs.declared.rows.MessageQuery.TheVariants as messages
@@ -6,6 +6,7 @@ use Rattle.station_core.specs.declared.rows.TrailQuery.TheVariants as trail
 use Rattle.reports.proofs.FlightLists.{one_expected, one_flights}
 use Rattle.reports.proofs.Handing.{reported_as, reported_rows, reported_these}
 use Rattle.reports.proofs.OneList.{one_list}
+use Rattle.reports.proofs.Arriving.{one_arrivals}
 use Rattle.reports.proofs.reports.write_listing.Goals as goal
 
 pub returns-in-All : goal.returns-in-All
@@ -16,6 +17,9 @@ returns-in-OpenFlights g c = reported_as _ (λ s. IsListing c.args.form s) _ _ _
 
 pub returns-in-OpenExpected : goal.returns-in-OpenExpected
 returns-in-OpenExpected g c = reported_as _ (λ s. IsListing c.args.form s) _ _ _ _ c.in-OpenExpected.is (reported_rows _ _ _ _ _ _ _ _ (λ row. grind (arith, common_steps)) (λ s. one_expected expected.Open s.cargo) c.all.ensures)
+
+pub returns-in-OpenIrregularities : goal.returns-in-OpenIrregularities
+returns-in-OpenIrregularities g c = reported_as _ (λ s. IsListing c.args.form s) _ _ _ _ c.in-OpenIrregularities.is (reported_these _ (line_by irregular_cells) (data_by irregular_cells) c.args.form (λ rows. rows) (λ s. open_irregular_rows s.cargo) _ _ _ _ (λ row. search rules) c.all-in-OpenIrregularities.ensures)
 
 pub returns-in-AgentStock : goal.returns-in-AgentStock
 returns-in-AgentStock g c = reported_as _ (λ s. IsListing c.args.form s) _ _ _ _ c.in-AgentStock.is (reported_rows _ _ _ _ _ _ _ _ (λ row. grind (arith, common_steps)) (λ s. one_list s.cargo.holders) c.picked-in-AgentStock.ensures)
@@ -45,10 +49,13 @@ pub returns-in-SentAfter : goal.returns-in-SentAfter
 returns-in-SentAfter g c = reported_as _ (λ s. IsListing c.args.form s) _ _ _ _ c.in-SentAfter.is (reported_these _ message_lines message_data c.args.form (λ rows. rows) (λ s. messages_by (messages.After c.in-SentAfter.n) s.cargo) _ _ _ _ (λ row. search rules) c.all-in-SentAfter.ensures)
 
 pub returns-in-Sent : goal.returns-in-Sent
-returns-in-Sent g c = reported_as _ (λ s. IsListing c.args.form s) _ _ _ _ c.in-Sent.is (reported_these _ message_lines message_data c.args.form (filter (is_about c.in-Sent.awb)) (λ s. messages_after 0 s.cargo) _ _ _ _ (λ row. search rules) c.picked-in-Sent.ensures)
+returns-in-Sent g c = reported_as _ (λ s. IsListing c.args.form s) _ _ _ _ c.in-Sent.is (reported_these _ message_lines message_data c.args.form (λ rows. rows) (λ s. messages_about c.in-Sent.awb s.cargo) _ _ _ _ (λ row. search rules) c.all-in-Sent.ensures)
 
 pub returns-in-Kept : goal.returns-in-Kept
 returns-in-Kept g c = reported_as _ (λ s. IsListing c.args.form s) _ _ _ _ c.in-Kept.is (reported_these _ kept_line kept_data c.args.form (λ rows. rows) (λ s. kept_rows s c.in-Kept.key) _ _ _ _ (λ row. grind (arith, common_steps)) c.all-in-Kept.ensures)
 
 pub returns-in-Manifest : goal.returns-in-Manifest
 returns-in-Manifest g c = reported_as _ (λ s. IsListing c.args.form s) _ _ _ _ c.in-Manifest.is (reported_these _ (line_by manifest_cells) (data_by manifest_cells) c.args.form (λ rows. rows) (λ s. manifest_rows s.cargo c.in-Manifest.flight) _ _ _ _ (λ row. search rules) c.all-in-Manifest.ensures)
+
+pub returns-in-Arrivals : goal.returns-in-Arrivals
+returns-in-Arrivals g c = reported_as _ (λ s. IsListing c.args.form s) _ _ _ _ c.in-Arrivals.is (reported_rows _ _ _ _ _ _ _ _ (λ row. grind (arith, common_steps)) (λ s. one_arrivals c.in-Arrivals.flight s.cargo) c.all-in-Arrivals.ensures)
