@@ -2,10 +2,10 @@
 
 use cli_call::DeskFault;
 use cli_run::RunFault;
-use sqlite::{Connection, Error, ErrorCode, File, FileStore, Options, Unknown};
+use sqlite::{Connection, Error, ErrorCode, File, Leftover, Options, Unknown};
 use sqlite_disk::Tally;
 use sqlite_wal::PageSize;
-use station_files::{OLD_TREES, OwnTrees, open_beside, open_listed, open_new, station_trees};
+use station_files::{Connected, StationFiles, open_new, open_station, open_vacant};
 use station_tables::AttachFault;
 use std::hash::{BuildHasher, RandomState};
 use std::io::{ErrorKind, Read};
@@ -21,13 +21,7 @@ const LEAST_CACHE: u64 = 2000;
 const MOST_CACHE: u64 = 65_536;
 
 /// A connection to a station's file.
-pub enum FileConnection {
-    /// Shows the whole file, in the order of its list.
-    Whole(Connection<FileStore<File>>),
-    /// Shows the tables and indexes that `init` makes, or the first of them, and can make the rest.
-    /// The file lists them in another order, or has trees of other programs.
-    Beside(Connection<OwnTrees<FileStore<File>>>),
-}
+pub type FileConnection = StationFiles<File>;
 
 /// The reason why a file isn't opened.
 #[derive(Clone, Copy)]
@@ -53,31 +47,32 @@ impl FileFault {
     }
 }
 
-/// Returns the fault if the two files of a path aren't opened.
-fn unopened(error: &sqlite_std_file::OpenError) -> FileFault {
-    match error {
-        sqlite_std_file::OpenError::OutOfMemory => FileFault::Memory,
-        sqlite_std_file::OpenError::Busy => FileFault::Busy,
-        _ => FileFault::Store(ErrorCode::CannotOpen),
+/// The two files of a path aren't opened.
+impl From<sqlite_std_file::OpenError> for FileFault {
+    fn from(error: sqlite_std_file::OpenError) -> FileFault {
+        match error {
+            sqlite_std_file::OpenError::OutOfMemory => FileFault::Memory,
+            sqlite_std_file::OpenError::Busy => FileFault::Busy,
+            _ => FileFault::Store(ErrorCode::CannotOpen),
+        }
     }
 }
 
-/// Returns the fault if the library opens no database.
-fn refused(error: Error) -> FileFault {
-    match error {
-        Error::SqliteFailure(ErrorCode::OutOfMemory) => FileFault::Memory,
-        Error::SqliteFailure(ErrorCode::DatabaseBusy) => FileFault::Busy,
-        Error::SqliteFailure(code) => FileFault::Store(code),
-        _ => FileFault::Store(ErrorCode::NotADatabase),
+/// The library opens no database.
+impl From<Error> for FileFault {
+    fn from(error: Error) -> FileFault {
+        match error {
+            Error::SqliteFailure(ErrorCode::OutOfMemory) => FileFault::Memory,
+            Error::SqliteFailure(ErrorCode::DatabaseBusy) => FileFault::Busy,
+            Error::SqliteFailure(code) => FileFault::Store(code),
+            _ => FileFault::Store(ErrorCode::NotADatabase),
+        }
     }
 }
 
-/// Opens a file that has a database, whatever its tables.
-fn open_any(rt: &HostRuntime, path: &str) -> Result<Connection<FileStore<File>>, FileFault> {
-    match Connection::open(rt, path) {
-        Ok(conn) => Ok(conn),
-        Err(error) => Err(refused(error)),
-    }
+/// Opens a path that the library doesn't take as that of a file.
+fn open_named(rt: &HostRuntime, path: &str) -> Result<FileConnection, FileFault> {
+    Ok(Connected::Whole(Connection::open(rt, path)?))
 }
 
 /// Returns whether the library doesn't take the name as that of a file.
@@ -85,98 +80,32 @@ fn is_no_file(path: &str) -> bool {
     path == ":memory:" || path.starts_with("file:")
 }
 
-/// Returns the fault of files that another program has, or that memory ran out; `None` if the
-/// library has to say why they can't be opened.
-fn unless_refused<T>(error: &sqlite_std_file::OpenError) -> Result<Option<T>, FileFault> {
-    match unopened(error) {
-        FileFault::Store(_) | FileFault::NoStation => Ok(None),
-        fault => Err(fault),
-    }
-}
-
-/// Opens a file with exactly the first `made` trees that `init` makes, in order, recovering its log
-/// once. Returns `None` for any other file.
-///
-/// Fails if another program has the file open, or memory runs out.
-fn open_in_order(
+/// Gives an opened connection the clock, or returns the fault.
+fn connected(
     rt: &HostRuntime,
-    path: &str,
-    made: usize,
-) -> Result<Option<Connection<FileStore<File>>>, FileFault> {
-    let options = options(rt, path)?;
-    let files = match sqlite_std_file::open(rt, path, Unknown) {
-        Ok(files) => files,
-        Err(error) => return unless_refused(&error),
-    };
-    let trees = station_trees();
-    match open_listed(rt.alloc(), files, options, &trees[..made.min(trees.len())]) {
-        Ok(mut conn) => {
+    opened: Result<FileConnection, (Error, Leftover<File>)>,
+) -> Result<FileConnection, FileFault> {
+    match opened {
+        Ok(Connected::Whole(mut conn)) => {
             conn.set_clock(rt);
-            Ok(Some(conn))
+            Ok(Connected::Whole(conn))
         }
-        Err(_) => Ok(None),
-    }
-}
-
-/// Opens a file with the first `made` trees that `init` makes, in any order, and perhaps trees of
-/// other programs. Returns `None` for any other file.
-///
-/// Fails if another program has the file open, or memory runs out.
-fn open_among_others(
-    rt: &HostRuntime,
-    path: &str,
-    made: usize,
-) -> Result<Option<Connection<OwnTrees<FileStore<File>>>>, FileFault> {
-    let options = options(rt, path)?;
-    let files = match sqlite_std_file::open(rt, path, Unknown) {
-        Ok(files) => files,
-        Err(error) => return unless_refused(&error),
-    };
-    match open_beside(rt.alloc(), files, options, &station_trees(), made) {
-        Ok(mut conn) => {
+        Ok(Connected::Beside(mut conn)) => {
             conn.set_clock(rt);
-            Ok(Some(conn))
+            Ok(Connected::Beside(conn))
         }
-        Err(_) => Ok(None),
+        Err((error, _left)) => Err(FileFault::from(error)),
     }
 }
 
-/// Opens a file with the first `made` trees that `init` makes, in any order and with others, and
-/// any other file as the library does, recovering its log twice.
-fn open_or_any(rt: &HostRuntime, path: &str, made: usize) -> Result<FileConnection, FileFault> {
-    match open_among_others(rt, path, made)? {
-        Some(conn) => Ok(FileConnection::Beside(conn)),
-        None => Ok(FileConnection::Whole(open_any(rt, path)?)),
-    }
-}
-
-/// Opens a file with the first `made` trees that `init` makes, in order if they are all that it
-/// has, and any other file as `open_or_any` does.
-fn open_first(rt: &HostRuntime, path: &str, made: usize) -> Result<FileConnection, FileFault> {
-    match open_in_order(rt, path, made)? {
-        Some(conn) => Ok(FileConnection::Whole(conn)),
-        None => open_or_any(rt, path, made),
-    }
-}
-
-/// Opens a file with a database: as one with the trees that `init` makes; for `migrate`, if it
-/// isn't one, with those of version 1; and last, if its tables are declared differently, as the
-/// library does.
+/// Opens a file with a database.
 fn open(rt: &HostRuntime, path: &str, is_migration: bool) -> Result<FileConnection, FileFault> {
     if is_no_file(path) {
-        return Ok(FileConnection::Whole(open_any(rt, path)?));
+        return open_named(rt, path);
     }
-    let all = station_trees().len();
-    if !is_migration {
-        return open_first(rt, path, all);
-    }
-    if let Some(conn) = open_in_order(rt, path, all)? {
-        return Ok(FileConnection::Whole(conn));
-    }
-    match open_among_others(rt, path, all)? {
-        Some(conn) => Ok(FileConnection::Beside(conn)),
-        None => open_first(rt, path, OLD_TREES),
-    }
+    let options = options(rt, path)?;
+    let files = sqlite_std_file::open(rt, path, Unknown)?;
+    connected(rt, open_station(rt.alloc(), files, options, is_migration))
 }
 
 /// Returns whether the first byte of a file is 0.
@@ -224,24 +153,25 @@ fn options(rt: &HostRuntime, path: &str) -> Result<Options, FileFault> {
     }
 }
 
+/// Opens a file in which something stands, so that the trees of a station can be made in it.
+fn open_unfinished(rt: &HostRuntime, path: &str) -> Result<FileConnection, FileFault> {
+    let options = options(rt, path)?;
+    let files = sqlite_std_file::open(rt, path, Unknown)?;
+    connected(rt, open_vacant(rt.alloc(), files, options))
+}
+
 /// Opens a file for a new station, or creates it if it is missing or empty. Whatever stops it, the
 /// file has no database or the whole one, and the next call continues from there.
 pub fn make_file(rt: &HostRuntime, path: &str) -> Result<FileConnection, FileFault> {
     if is_no_file(path) {
-        return Ok(FileConnection::Whole(open_any(rt, path)?));
+        return open_named(rt, path);
     }
     let size = PageSize::new(PAGE_LEN).unwrap();
     let options = options(rt, path)?;
-    let files = match sqlite_std_file::open(rt, path, Unknown) {
-        Ok(files) => files,
-        Err(error) => return Err(unopened(&error)),
-    };
+    let files = sqlite_std_file::open(rt, path, Unknown)?;
     match open_new(rt.alloc(), files, size, options) {
-        Ok(Some(mut conn)) => {
-            conn.set_clock(rt);
-            Ok(FileConnection::Whole(conn))
-        }
-        Ok(None) => open_first(rt, path, 0),
+        Ok(Some(conn)) => connected(rt, Ok(Connected::Whole(conn))),
+        Ok(None) => open_unfinished(rt, path),
         Err((ErrorCode::OutOfMemory, _left)) => Err(FileFault::Memory),
         Err((code, _left)) => Err(FileFault::Store(code)),
     }

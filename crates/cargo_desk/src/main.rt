@@ -22,7 +22,7 @@ use task::{Task, end_call, faulted, run_over};
 use telegram_files::{Telegrams, owned_paths, tell_unread};
 
 /// The message for a text that isn't a zone's rule.
-const NO_ZONE: &str = "--zone takes a POSIX rule, as UTC0 or CET-1CEST,M3.5.0,M10.5.0/3";
+const NO_ZONE: &str = "--zone takes a POSIX rule, such as UTC0 or CET-1CEST,M3.5.0,M10.5.0/3";
 
 /// Ends a call with a requested text on standard output.
 fn tell(rt: &HostRuntime, text: &str) -> u8 {
@@ -188,7 +188,7 @@ fn words_of(rt: &HostRuntime) -> Result<Vec<String>, io::Error> {
 /// Ends a call whose words can't be read: one of them isn't UTF-8, or memory ran out.
 fn refuse_call(rt: &HostRuntime, error: &io::Error) -> u8 {
     if error.kind() == ErrorKind::InvalidData {
-        return refuse_words(rt, &usage_fault(rt.alloc(), "a word is no UTF-8"));
+        return refuse_words(rt, &usage_fault(rt.alloc(), "an argument isn't UTF-8"));
     }
     faulted(rt, RunFault::Memory)
 }

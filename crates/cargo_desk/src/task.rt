@@ -1,19 +1,20 @@
 //! Running a command line over its station, in memory or in a file.
 
-use crate::files::{FileConnection, make_file, open_file, tell_disk, tell_unopened};
+use crate::files::{make_file, open_file, tell_disk, tell_unopened};
 use cli_call::{
     DeskFault, FileEnd, Service, end, run_file, run_gathered, serve_file, serve_kept,
     tell_undeclared,
 };
 use cli_run::{Feed, RunFault, airport_of_line, is_migration, is_opening};
 use cli_words::Line;
+use desk_server::Unblocked;
 use sqlite::{Alter, Connection, File, FileStore};
 use sqlite_disk::Files;
 use state_store::MapState;
 use station_core::{ByteOut, Counted, InputReader, Keeper};
 use station_days::Moment;
 use station_engine::StoredStation;
-use station_files::FileBacked;
+use station_files::{Connected, FileBacked};
 
 /// The task of a command line.
 #[derive(Drop)]
@@ -70,7 +71,7 @@ fn run_in_memory<R: InputReader + Drop>(
         Task::Run { reader, at } => run_keeper(rt, line, &mut station, reader, at),
         Task::Serve(service) => {
             let mut output = Counted::new(rt.stdout());
-            let mut errors = Counted::new(rt.stderr());
+            let mut errors = Counted::new(Unblocked::new(rt, alloc, rt.stderr()));
             serve_kept(&service, &mut station, &mut output, &mut errors)
         }
     }
@@ -104,15 +105,18 @@ where
 {
     let alloc = rt.alloc();
     let mut output = Counted::new(rt.stdout());
-    let mut errors = Counted::new(rt.stderr());
     match task {
         Task::Run { reader, at } => {
+            let mut errors = Counted::new(rt.stderr());
             let mut feed = Feed::new(reader);
             let ended = run_file(alloc, line, conn, &mut feed, &mut output, &mut errors, at);
             warn_undeclared(line, &ended, &mut errors);
             ended
         }
-        Task::Serve(service) => serve_file(&service, line, conn, &mut output, &mut errors),
+        Task::Serve(service) => {
+            let mut errors = Counted::new(Unblocked::new(rt, alloc, rt.stderr()));
+            serve_file(&service, line, conn, &mut output, &mut errors)
+        }
     }
 }
 
@@ -127,8 +131,8 @@ pub fn run_over<R: InputReader + Drop>(rt: &HostRuntime, line: &Line<'_>, task: 
         open_file(rt, path, is_migration(line))
     };
     let ended = match opened {
-        Ok(FileConnection::Whole(conn)) => run_in_file(rt, line, conn, task),
-        Ok(FileConnection::Beside(conn)) => run_in_file(rt, line, conn, task),
+        Ok(Connected::Whole(conn)) => run_in_file(rt, line, conn, task),
+        Ok(Connected::Beside(conn)) => run_in_file(rt, line, conn, task),
         Err(fault) => {
             let status = end_call(rt, Err(fault.ended()));
             tell_unopened(rt, path, fault);

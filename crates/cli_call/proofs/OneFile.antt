@@ -4,6 +4,7 @@ use Rattle.std.specs.Prelude.{Contains, IfErr, OnErr, OnOk}
 use Rattle.std.specs.List.{AllByRecursion}
 use Rattle.std.proofs.Math.Logic.{∥∥₁_elim, ∥∥₁_map}
 use Rattle.std.proofs.lemmas.Bool.{cases_Bool, cases_lt}
+use Rattle.std.proofs.lemmas.List.{append_cancel_left, append-nil}
 use Rattle.shipment_machine.proofs.Conserved.{is_conserved}
 use Rattle.shipment_machine.proofs.Shown.{are_balances}
 use Rattle.sqlite.specs.Effect.{Database, IsDatabase}
@@ -42,7 +43,7 @@ use Rattle.table_audits.proofs.LawfulTables.{lawful_each}
 use Rattle.table_load.specs.Held.{waybill_columns, waybill_name, found, found_at, no_table, rows_of, table_by_name, Reading}
 use Rattle.cli_words.specs.declared.line.LineCommand.{LineCommand}
 use Rattle.cli_words.specs.declared.line.LineCommand.TheVariants as command
-use Rattle.cli_run.specs.Done.{HasDone, station_fault, AsksAt, HasLeft}
+use Rattle.cli_run.specs.Done.{HasDone, station_fault, AsksAt, HasLeft, HasSaid, IfAnswers, answers_inputs, Turn, turns_inputs, turns_text}
 use Rattle.cli_run.specs.Ends.{reached, Ends, Reached, here_of, is_migration, is_new}
 use Rattle.cli_words.specs.declared.line.Line.{Line}
 use Rattle.desk_server.specs.Served.{store_fault, HasServedInputs, Exchange, GoesOn as ServesOn, HaveServed}
@@ -52,7 +53,7 @@ use Rattle.cli_call.specs.declared.ended.DeskFault.TheVariants as told
 use Rattle.cli_call.specs.Ran.{HasEndedService, HasServedStation, HasEndedCall, HasRunLine}
 use Rattle.cli_call.specs.Ended.{run_ended, status_of, HasNoStation, HasEndedMigration}
 use Rattle.line_opening.specs.Opened.{HasOpened}
-use Rattle.cli_call.specs.OneFile.{life_events, makes_station, ran_in, with_station, after_upgrade, after_init, AreBetween, AreEventsOf, AreInputsOf, AreLivesOf, AreRuns, Begins, by_command, by_service, by_upgrade, CallOn, DidOver, FailsIn, FindsIn, HaveLed, IsAfterCalls, IsFailedInit, IsLifeOf, IsNext, IsUpgrade, IsVain, last_of, MayBegin, NoneLost, OpenedOn, Reopens, RunOn, UpgradesIn, WasTrue}
+use Rattle.cli_call.specs.OneFile.{HasPrintedLife, HasSaidLife, life_events, makes_station, ran_in, with_station, after_upgrade, after_init, AreBetween, AreEventsOf, AreInputsOf, AreLivesOf, AreRuns, Begins, by_command, by_service, by_upgrade, CallOn, DidOver, FailsIn, FindsIn, HaveLed, IsAfterCalls, IsFailedInit, IsLifeOf, IsNext, IsUpgrade, IsVain, last_of, MayBegin, NoneLost, OpenedOn, Reopens, RunOn, UpgradesIn, WasTrue}
 
 abbrev Inputs : Type 0
 Inputs = List (Input × LocalMinute)
@@ -194,6 +195,29 @@ ends_well (Err e) inputs answered status ran is stays all low =
     let failed : 1 < ran = omega (arith, is) in
     absurd (omega (arith, low, stays failed, is))
 
+-- what was said, after a call that closed its file
+went_well : (P : Type 0) (ended : Result Bool RunFault) (status ran : ℕ) → ran ≡ status_of (run_ended ended) → (1 < ran → status ≡ ran) → OnOk ended P → status ≤ 1 → P
+went_well P (Ok good) status ran is stays all low = all
+went_well P (Err e) status ran is stays all low =
+    let failed : 1 < ran = omega (arith, is) in
+    absurd (omega (arith, low, stays failed, is))
+
+map_answers : (answers : Bool) {X Y : Type 0} → (X → Y) → IfAnswers answers X → IfAnswers answers Y
+map_answers true f x = f x
+map_answers false f x = tt
+
+said_life : (s : State) (at : LocalMinute) (life : Life) (before mid after : List ℕ) (status ran : ℕ) (ended : Result Bool RunFault) (turns : List Turn)
+    → take life.answered life.inputs ≡ turns_inputs at turns → HasSaid s at turns before mid ended → after ≡ mid → ran ≡ status_of (run_ended ended) → (1 < ran → status ≡ ran)
+    → HasPrintedLife s at life before after status
+said_life s at life before mid after status ran ended turns are said same is stays = record {
+  turns = turns;
+  are = are;
+  rest = said.rest;
+  part = said.part ∙ ap (λ x. x ++ said.rest) (sym same);
+  whole = λ low. let w = went_well (mid ≡ before ++ turns_text s at turns) ended status ran is stays said.whole low in
+      append_cancel_left mid said.rest [] (sym said.part ∙ sym w ∙ sym (append-nil mid));
+}
+
 -- a service that ended well went on after each connection
 fault_status : (e : DeskFault) → 1 < status_of (Err e)
 fault_status told.Clock = omega arith
@@ -290,7 +314,8 @@ module _ {S F L I W E : Type 0} {g : Ghosts S} (b : Backing (Held S) F L) (trees
     (own : (last : Station S g) (ran : Held S) → k.is_sound last → HasReleased k last ran → conn.HasCleanDisk (state g ran) → (db : Trees) → (state g ran).may_leave db → IsOwn db)
     (lawful : (it : Station S g) (s : State) → k.is_sound it → k.may_find it (Some s) → IsLawfulState s)
     (left_of : (c : LineCommand) (here : List ℕ) (at : LocalMinute) (s : State) (old new : Station S g × Reached I W E) (r : Result Bool RunFault)
-    → k.keeps old.0 s → k.is_broken old.0 ≡ false → k.is_sound new.0 → HasDone c here k e at old new r → HasLeft (AsksAt c at) s (k.may_find new.0) r)
+    → k.keeps old.0 s → k.is_broken old.0 ≡ false → k.is_sound new.0 → HasDone c here k e at old new r
+    → HasLeft (AsksAt c at) at (answers_inputs c) s (e.printed old.1.output).bytes (e.printed new.1.output).bytes (k.may_find new.0) r)
     (served_of : (all : List Exchange) (s : State) (old new : Station S g) → HaveServed k all old new → k.keeps old s → k.is_broken old ≡ false → k.is_sound new
     → HasServedInputs all s (k.is_broken new) (k.may_find new))
     (goes_on : (last : Station S g) (ran other : Held S) (opened : Result (Station S g) (Held S × AttachFault))
@@ -302,6 +327,7 @@ module _ {S F L I W E : Type 0} {g : Ghosts S} (b : Backing (Held S) F L) (trees
     pub asked : AreInputsOf did life.inputs
     pub whole : end.status ≤ 1 → NoneLost did → (life.answered ≡ length life.inputs) × (life.ended ≡ None)
     pub is : (found : State) → k.may_find last (Some found) → IsAfterLife s life found
+    pub said : HasSaidLife did s life
 
   record Ran {line : Line} {conn : Held S} {end : FileEnd F L} (did : DidOver b k e line conn end) (station : Station S g) : Type 0 where
     pub last : Station S g
@@ -376,6 +402,9 @@ module _ {S F L I W E : Type 0} {g : Ghosts S} (b : Backing (Held S) F L) (trees
                 asked = left.asked;
                 whole = λ low none. ends_well run.ran.ended left.inputs left.answered end.status ran.has.ran.0 run.ran.told.status_is (λ more. ap (λ (p : ℕ × E). p.0) (ran.has.closed.stopped more).0) left.all low;
                 is = λ found may. left.left (Some found) may;
+                said = map_answers (answers_inputs line.command) (λ sd. said_life s ran.at (record { inputs = left.inputs; answered = left.answered; ended = station_fault run.ran.ended })
+                    (e.printed ran.from.output).bytes (e.printed ran.has.behind.output).bytes (e.printed ran.to.output).bytes end.status ran.has.ran.0 run.ran.ended left.turns left.are sd
+                    (ap (λ out. (e.printed out).bytes) ran.has.unprinted) run.ran.told.status_is (λ more. ap (λ (p : ℕ × E). p.0) (ran.has.closed.stopped more).0)) left.said;
               };
         }
     ends_in (by_service served) station is =
@@ -399,6 +428,7 @@ module _ {S F L I W E : Type 0} {g : Ghosts S} (b : Backing (Held S) F L) (trees
                     let works_on = left.works goes none in
                     (left.whole works_on, ap store_fault works_on);
                 is = λ found may. left.left (Some found) may;
+                said = tt;
               };
         }
 
@@ -493,7 +523,7 @@ module _ {S F L I W E : Type 0} {g : Ghosts S} (b : Backing (Held S) F L) (trees
     pub sound : k.is_sound d.station
     pub law : IsLawfulState mid
     pub life : Life
-    pub of : IsLifeOf c life
+    pub of : IsLifeOf s c life
     pub is : IsAfterLife s life mid
 
   next : (s : State) (c d : RunOn b k e) → IsNext trees IsVain c.call.end.files d → k.keeps c.station s → k.is_sound c.station → WasTrue c.call → WasTrue d.call → ∥ Next s c d ∥₁
@@ -516,7 +546,7 @@ module _ {S F L I W E : Type 0} {g : Ghosts S} (b : Backing (Held S) F L) (trees
         sound = on.sound clean;
         law = lawful run.last it.0 last_sound it.1;
         life = lived.life;
-        of = record { asked = lived.asked; whole = lived.whole };
+        of = record { said = lived.said; asked = lived.asked; whole = lived.whole };
         is = lived.is it.0 it.1;
       })
 
@@ -525,7 +555,7 @@ module _ {S F L I W E : Type 0} {g : Ghosts S} (b : Backing (Held S) F L) (trees
     pub kept : k.keeps (last_of c ds).station last
     pub law : IsLawfulState last
     pub lives : List Life
-    pub each : AreLivesOf c ds lives
+    pub each : AreLivesOf s c ds lives
     pub are : AreLives s lives last
 
   first_true : (d : RunOn b k e) (ds : List (RunOn b k e)) → AreRuns trees d ds → WasTrue d.call
@@ -541,7 +571,7 @@ module _ {S F L I W E : Type 0} {g : Ghosts S} (b : Backing (Held S) F L) (trees
         kept = rest.kept;
         law = rest.law;
         lives = one.life ∷ rest.lives;
-        each = (one.of, rest.each);
+        each = (one.of, (one.mid, one.kept, one.is, rest.each));
         are = (one.mid, one.is, rest.are);
       }))
 

@@ -2,7 +2,7 @@
 -- place. Declares nothing.
 pub use Rattle.std.specs.Fmt.{signed_decimal}
 pub use Rattle.std.specs.List.{AllByRecursion}
-pub use Rattle.cli_run.specs.Done.{HasDone, AsksAt, HasLeft, HasGivenReasons}
+pub use Rattle.cli_run.specs.Done.{HasDone, AsksAt, HasLeft, HasGivenReasons, HasSaid, IfAnswers, answers_inputs, Turn, turns_inputs, turns_text}
 pub use Rattle.cli_run.specs.Ends.{Ends, Reached, ends, reached, here_of, is_migration, is_new}
 pub use Rattle.cli_run.specs.declared.telling.RunFault.{RunFault}
 pub use Rattle.cli_words.specs.declared.line.Line.{Line}
@@ -27,7 +27,7 @@ pub use Rattle.station_schema.specs.Connection.{new_station, IsVacant, IsOldOwn,
 pub use Rattle.station_schema.specs.Schema.{station_schema}
 pub use Rattle.station_tables.specs.Attached.{IsOldStateIn}
 pub use Rattle.station_tables.specs.Called.{HasMoved, HasReleased}
-pub use Rattle.station_tables.specs.Lives.{IsAfterLives, Life}
+pub use Rattle.station_tables.specs.Lives.{IsAfterLife, IsAfterLives, Life}
 pub use Rattle.station_tables.specs.declared.attaching.AttachFault.{AttachFault}
 pub use Rattle.station_tables.specs.declared.station.Station.{Station}
 pub use Rattle.table_audits.specs.Verdict.{name_text}

@@ -1,6 +1,6 @@
 -- The ends of calls: exit status, fault line, and what they leave.
 use Rattle.std.specs.Prelude.{◌≡◌, ℕ, Bool, true, false, List, ◌++◌, codes, Result, Ok, Err, IfErr, OnOk, IfOk, OnErr}
-use Rattle.cli_call.specs.Common.{signed_decimal, name_text, Given, RunFault, AttachFault, SendsLine, Reached, Held, Ghosts, HasCause, HasSent, HasMoved, LocalMinute, Keeping, State, LineCommand, HasDone, Ends, AsksAt, HasLeft, HasServedInputs, Exchange, HaveServed, DeskFault}
+use Rattle.cli_call.specs.Common.{signed_decimal, name_text, Given, RunFault, AttachFault, SendsLine, Reached, Held, Ghosts, HasCause, HasSent, HasMoved, LocalMinute, Keeping, State, LineCommand, HasDone, Ends, AsksAt, HasLeft, answers_inputs, HasServedInputs, Exchange, HaveServed, DeskFault}
 use Rattle.cli_run.specs.declared.telling.RunFault.TheVariants as run
 use Rattle.station_tables.specs.declared.attaching.AttachFault.TheVariants as attach
 use Rattle.cli_call.specs.declared.ended.DeskFault.TheVariants as fault
@@ -109,7 +109,8 @@ abbrev pub LeavesInputs : {K I W E : Type 0} → Keeping K → Ends I W E → Ty
 LeavesInputs {K} {I} {W} {E} k e =
     (command : LineCommand) (here : List ℕ) (at : LocalMinute) (s : State) (old new : K × Reached I W E) (result : Result Bool RunFault)
     → k.keeps old.0 s → k.is_broken old.0 ≡ false → k.is_sound new.0 → HasDone command here k e at old new result
-    → HasLeft (AsksAt command at) s (k.may_find new.0) result
+    → HasLeft (AsksAt command at) at (answers_inputs command) s (e.printed old.1.output).bytes
+    (e.printed new.1.output).bytes (k.may_find new.0) result
 
 -- the same of a service, and of its connections
 abbrev pub LeavesServed : {K : Type 0} → Keeping K → Type 0

@@ -1,6 +1,6 @@
 -- Calls of the program over one file, one after another.
-use Rattle.std.specs.Prelude.{◌≤◌, ◌≡◌, ◌≢◌, ◌⊎◌, ℕ, zero, suc, Bool, true, false, Result, Ok, Err, IfErr, OnErr, Option, Some, None, length, List, [], ◌∷◌, ◌++◌, All, Contains}
-use Rattle.cli_call.specs.Common.{AllByRecursion, state, Held, IsLive, Opens, Object, Ghosts, LocalMinute, Input, Keeping, RetryEvent, sent, cut_after, reopened, started, ActsOnce, committed, State, IsLawfulState, after_all, opening, Backing, IsVacant, IsOldOwn, IsOldStateIn, Life, IsAfterLives, AttachFault, Station, Line, Ends, Reached, AsksAt, here_of, is_migration, is_new, AreAskedBy, WasWritten, FileEnd}
+use Rattle.std.specs.Prelude.{◌≤◌, ◌≡◌, ◌≢◌, ◌⊎◌, ℕ, zero, suc, Bool, true, false, Result, Ok, Err, IfErr, OnErr, Option, Some, None, length, List, [], ◌∷◌, ◌++◌, All, Contains, take}
+use Rattle.cli_call.specs.Common.{AllByRecursion, state, Held, IsLive, Opens, Object, Ghosts, LocalMinute, Input, Keeping, RetryEvent, sent, cut_after, reopened, started, ActsOnce, committed, State, IsLawfulState, after_all, opening, Backing, IsVacant, IsOldOwn, IsOldStateIn, Life, IsAfterLife, IsAfterLives, IfAnswers, answers_inputs, Turn, turns_inputs, turns_text, AttachFault, Station, Line, Ends, Reached, AsksAt, here_of, is_migration, is_new, AreAskedBy, WasWritten, FileEnd}
 use Rattle.station_core.specs.declared.answer.ActFault.TheVariants as fault
 use Rattle.station_tables.specs.declared.attaching.AttachFault.TheVariants as attach
 use Rattle.cli_words.specs.declared.line.LineCommand.TheVariants as command
@@ -93,10 +93,31 @@ module _ {S F L I W E : Type 0} {g : Ghosts S} (b : Backing (Held S) F L) (k : K
     pub station : Station S g
     pub found : FindsIn call.did station
 
--- The inputs of a life are those of its call. A call that succeeded answered all of them; a service
--- did if no write of an answer failed.
+-- What was printed is the answers to exactly the inputs that were answered, each at the state after
+-- those before it, and to what can't be read; or a prefix, if a fault ended the call.
+pub record HasPrintedLife (s : State) (at : LocalMinute) (life : Life) (before after : List ℕ) (status : ℕ) : Type 0 where
+  pub turns : List Turn
+  pub are : take life.answered life.inputs ≡ turns_inputs at turns
+  pub rest : List ℕ
+  pub part : before ++ turns_text s at turns ≡ after ++ rest
+  pub whole : status ≤ 1 → rest ≡ []
+
+module _ {S F L I W E : Type 0} {g : Ghosts S} {b : Backing (Held S) F L} {k : Keeping (Station S g)} {e : Ends I W E}
+    {line : Line} {conn : Held S} {end : FileEnd F L} where
+  -- the same of a command that answers inputs
+  abbrev pub HasSaidLife : DidOver b k e line conn end → State → Life → Type 0
+  HasSaidLife (by_command ran runs) s life =
+      IfAnswers (answers_inputs line.command) (HasPrintedLife s ran.at life (e.printed ran.from.output).bytes
+      (e.printed ran.to.output).bytes end.status)
+  HasSaidLife (by_upgrade ran runs) s life = Unit {0}
+  HasSaidLife (by_service served) s life = Unit {0}
+
+-- The inputs of a life are those of its call, which began with this state. What it printed is the
+-- answers to those that were answered. A call that succeeded answered all of them; a service did if
+-- no write of an answer failed.
 pub record IsLifeOf {S F L I W E : Type 0} {g : Ghosts S} {b : Backing (Held S) F L} {k : Keeping (Station S g)} {e : Ends I W E}
-    (c : RunOn b k e) (life : Life) : Type 0 where
+    (s : State) (c : RunOn b k e) (life : Life) : Type 0 where
+  pub said : HasSaidLife c.call.did s life
   pub asked : AreInputsOf c.call.did life.inputs
   pub whole : c.call.end.status ≤ 1 → NoneLost c.call.did
       → (life.answered ≡ length life.inputs) × (life.ended ≡ None)
@@ -166,11 +187,13 @@ module _ {S F L I W E : Type 0} {g : Ghosts S} {b : Backing (Held S) F L} {k : K
   last_of c [] = c
   last_of c (d ∷ ds) = last_of d ds
 
-  -- the lives of the runs except the last one
-  abbrev pub AreLivesOf : RunOn b k e → List (RunOn b k e) → List Life → Type 0
-  AreLivesOf c (d ∷ ds) (life ∷ lives) = IsLifeOf c life × AreLivesOf d ds lives
-  AreLivesOf c [] [] = Unit {0}
-  AreLivesOf _ _ _ = ⊥
+  -- the lives of the runs except the last one, each from the state that its opening found
+  abbrev pub AreLivesOf : State → RunOn b k e → List (RunOn b k e) → List Life → Type 0
+  AreLivesOf s c (d ∷ ds) (life ∷ lives) =
+      IsLifeOf s c life
+      × ((mid : State) × k.keeps d.station mid × IsAfterLife s life mid × AreLivesOf mid d ds lives)
+  AreLivesOf s c [] [] = Unit {0}
+  AreLivesOf _ _ _ _ = ⊥
 
 module _ {S F L I W E : Type 0} {g : Ghosts S} {b : Backing (Held S) F L} (trees : List Object) {k : Keeping (Station S g)}
     {e : Ends I W E} (run : RunOn b k e) where
@@ -246,7 +269,7 @@ pub record HaveLed {S F L I W E : Type 0} {g : Ghosts S} {b : Backing (Held S) F
   pub last : State
   pub kept : k.keeps (last_of run runs).station last
   pub lives : List Life
-  pub each : AreLivesOf run runs lives
+  pub each : AreLivesOf first run runs lives
   pub are : IsAfterCalls first lives last
 
 -- this holds of any number of runs, however the first one begins

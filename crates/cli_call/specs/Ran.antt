@@ -160,7 +160,7 @@ pub record HasServedKept {K W E : Type 0} (k : Keeping K) (e : (W → Given) × 
 -- the warning about a file whose tables aren't declared as `init` declares them, after its path
 abbrev pub undeclared_text : List ℕ
 undeclared_text =
-    codes ": init declares the tables otherwise, so the promises about a power failure aren't proved "
+    codes ": init declares the tables differently, so the promises about a power failure aren't proved "
     ++ codes "for this file; copy its rows into a new one"
 
 abbrev pub HasWarned : Given → Given → Type 0

@@ -17,7 +17,7 @@ use std::alloc::{AllocError, Global};
 
 /// The warning about a file whose tables aren't declared as `init` declares them.
 const UNDECLARED: &str =
-    ": init declares the tables otherwise, so the promises about a power failure aren't proved \
+    ": init declares the tables differently, so the promises about a power failure aren't proved \
     for this file; copy its rows into a new one";
 
 /// The reason why a call broke off.

@@ -6,8 +6,8 @@ use Rattle.cli_words.specs.declared.line.LineCommand.TheVariants as command
 use Rattle.reports.specs.declared.report.ReportCause.TheVariants as report_cause
 use Rattle.reports.specs.declared.report.Listing.TheVariants as listing
 use Rattle.reports.specs.declared.report.Report.TheVariants as report
-use Rattle.cli_run.specs.Lines.{HasRunInput, HasAnswered, HasAnsweredAsked, IsActAsked, kept, HasAnsweredLine, input_of, Row, stock_rows, row_asks, HasAnsweredRow}
-use Rattle.cli_run.specs.Requests.{IsTelegramAsked, IsCommandAsked, run_fault, IsReadersFault, IsReadToEnd}
+use Rattle.cli_run.specs.Lines.{HasRunInput, HasAnswered, HasAnsweredAsked, IsActAsked, kept, HasAnsweredLine, input_of, Row, stock_rows, row_asks, HasAnsweredRow, bad_line}
+use Rattle.cli_run.specs.Requests.{IsTelegramAsked, IsCommandAsked, run_fault, IsReadersFault, IsReadToEnd, asked_line, asked_after}
 use Rattle.cli_run.specs.Ends.{Printed, call_to, printed_to, Ends, Reached}
 use Rattle.cli_run.specs.declared.telling.RunFault.TheVariants as fault
 use Rattle.cli_run.specs.declared.request.Request.TheVariants as asked
@@ -42,16 +42,76 @@ abbrev pub station_fault : Result Bool RunFault → Option ActFault
 station_fault (Err fault.Store) = Some act.Store
 station_fault _ = None
 
--- Some inputs of the command were answered, all of them if it ran to its end. Reopening finds the
--- state after them and, if the store failed, perhaps after one more.
-pub record HasLeft (Asked : Input × LocalMinute → Type 0) (s : State) (may_find : Option State → Type 0)
+-- What a run printed, answer by answer.
+
+-- a request that was answered, with the number of its line if it has one; or a malformed row
+pub data Turn : Type 0 where
+  request_turn : Option ℕ → Request → Turn
+  row_turn : ℕ → Turn
+
+-- the request's input for the station, if it has one
+abbrev pub input_of_request : Request → LocalMinute → Option (Input × LocalMinute)
+input_of_request (asked.Input i) at = Some (i, at)
+input_of_request _ at = None
+
+abbrev pub listed : Option (Input × LocalMinute) → List (Input × LocalMinute)
+listed None = []
+listed (Some one) = one ∷ []
+
+abbrev pub turn_line : State → LocalMinute → Turn → List ℕ
+turn_line s at (request_turn number asks) = asked_line number s asks at
+turn_line s at (row_turn number) = bad_line number
+
+abbrev pub turn_after : State → LocalMinute → Turn → State
+turn_after s at (request_turn number asks) = asked_after s asks at
+turn_after s at (row_turn number) = s
+
+abbrev pub turn_inputs : LocalMinute → Turn → List (Input × LocalMinute)
+turn_inputs at (request_turn number asks) = listed (input_of_request asks at)
+turn_inputs at (row_turn number) = []
+
+-- the lines of answers, each of the state that those before it left
+abbrev pub turns_text : State → LocalMinute → List Turn → List ℕ
+turns_text s at [] = []
+turns_text s at (t ∷ ts) = turn_line s at t ++ turns_text (turn_after s at t) at ts
+
+abbrev pub turns_inputs : LocalMinute → List Turn → List (Input × LocalMinute)
+turns_inputs at [] = []
+turns_inputs at (t ∷ ts) = turn_inputs at t ++ turns_inputs at ts
+
+-- the command answers inputs
+abbrev pub answers_inputs : LineCommand → Bool
+answers_inputs command.Stock = true
+answers_inputs (command.Take paths) = true
+answers_inputs (command.Act verb key) = true
+answers_inputs command.Acts = true
+answers_inputs _ = false
+
+abbrev pub IfAnswers : Bool → Type 0 → Type 0
+IfAnswers true X = X
+IfAnswers false X = Unit {0}
+
+-- The output is the lines of these turns, or a prefix of them if the run ended with a fault.
+pub record HasSaid (s : State) (at : LocalMinute) (turns : List Turn) (before after : List ℕ)
     (result : Result Bool RunFault) : Type 0 where
+  pub rest : List ℕ
+  pub part : before ++ turns_text s at turns ≡ after ++ rest
+  pub whole : OnOk result (after ≡ before ++ turns_text s at turns)
+
+-- Some inputs of the command were answered, all of them if it ran to its end. What was printed is
+-- the answers to exactly these inputs and to what can't be read, or a prefix after a fault.
+-- Reopening finds the state after them and, if the store failed, perhaps after one more.
+pub record HasLeft (Asked : Input × LocalMinute → Type 0) (at : LocalMinute) (answers : Bool) (s : State)
+    (before after : List ℕ) (may_find : Option State → Type 0) (result : Result Bool RunFault) : Type 0 where
   pub inputs : List (Input × LocalMinute)
   pub asked : AllByRecursion Asked inputs
   pub answered : ℕ
   pub all : OnOk result (answered ≡ length inputs)
   pub left : (found : Option State) → may_find found
       → IsAfterAnswered s inputs answered (station_fault result) found
+  pub turns : List Turn
+  pub are : take answered inputs ≡ turns_inputs at turns
+  pub said : IfAnswers answers (HasSaid s at turns before after result)
 
 -- The output of a report.
 

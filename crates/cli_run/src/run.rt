@@ -4,7 +4,7 @@
 
 ghost use Rattle.cli_run.specs.Common.{StaysInService, LocalMinute, State};
 ghost use Rattle.cli_run.specs.Ends.{ends, reached, here_of, Call, Reached, is_migration, is_new};
-ghost use Rattle.cli_run.specs.Done.{HasDone, HasToldMade, HasGivenReasons, AreAnswered, AsksAt, HasLeft};
+ghost use Rattle.cli_run.specs.Done.{answers_inputs, HasDone, HasToldMade, HasGivenReasons, AreAnswered, AsksAt, HasLeft};
 ghost use Rattle.std.specs.Prelude.{◌≡◌, ℕ, Bool, false, List, Result, map};
 ghost use Rattle.cli_run.specs.Lines.{HasRunList, Row, HasAnsweredRow, row_asks, HasAnsweredLine, HasRunActs};
 ghost use Rattle.cli_words.specs.declared.line.LineCommand.{LineCommand as Command};
@@ -119,7 +119,8 @@ pub fn left_law<K: Keeper, I: Inputs + Read, W: ByteOut, E: ByteOut>()
         (old new : K × Reached I W E) (result : Result Bool RunFault) → K.keeping.keeps old.0 s
         → K.keeping.is_broken old.0 ≡ false → K.keeping.is_sound new.0 → HasDone command here
         K.keeping (ends I.remaining I.given I.turned W.taken E.taken) at old new result → HasLeft
-        (AsksAt command at) s (K.keeping.may_find new.0) result }
+        (AsksAt command at) at (answers_inputs command) s (W.taken old.1.output).bytes
+        (W.taken new.1.output).bytes (K.keeping.may_find new.0) result }
 {}
 
 /// Returns the airport of a command line's station, or `XXX` if the line names none.

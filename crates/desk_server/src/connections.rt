@@ -1,6 +1,7 @@
 //! The connections that the service holds. All are read as their bytes come.
 
 use crate::held::Held;
+use crate::paced::MOST_WAITING;
 use crate::server::ServerFault;
 use mio::unix::SourceFd;
 use mio::{Events, Interest, Poll, Token};
@@ -14,11 +15,19 @@ use std::time::{Clock, Duration};
 /// The most connections that are held at a time. Others wait in the queue of the listening socket.
 const MOST_HELD: usize = 256;
 
-/// The longest silence of a connection while others wait for a place, in milliseconds.
+/// The longest silence of a connection while others wait for a place, and the longest time in which
+/// an answer is sent while requests wait for room, in milliseconds.
 const MOST_IDLE: u64 = 1000;
 
-/// The longest wait while others wait for a place, in milliseconds.
+/// The longest wait while connections wait for a place, or requests for room, in milliseconds.
 const MOST_PAUSE: u64 = 50;
+
+/// The most that counts of a time in which the service didn't wait for its connections, or was
+/// stopped, in milliseconds.
+const MOST_STOP: u64 = 1000;
+
+/// How much too early the system may end a wait, in milliseconds.
+const MOST_EARLY: u64 = 10;
 
 /// The token of the listening socket. A connection has the number of its place.
 const LISTENER: Token = Token(MOST_HELD);
@@ -30,14 +39,18 @@ pub(crate) struct Connections<'a> {
     listener: &'a TcpListener,
     poll: Poll,
     events: Events,
-    /// Each connection has a place here until it ends.
+    /// Each connection has a place here until it ends. The last place is taken.
     places: Vec<Option<Held>>,
+    /// The places at which something came while answers took all room.
+    postponed: Vec<usize>,
     /// The number of connections that were accepted, or given up before.
     accepted: usize,
     /// `true` if connections may wait in the queue of the listening socket.
     is_called: bool,
-    /// The time when the last wait ended, on the clock that never goes back.
+    /// The time when the last wait ended, on the clock of the service.
     now: Duration,
+    /// The same time on the clock that never goes back, if there was a wait.
+    read: Option<Duration>,
 }
 
 impl<'a> Connections<'a> {
@@ -56,63 +69,78 @@ impl<'a> Connections<'a> {
         let Ok(events) = Events::with_capacity(alloc, MOST_HELD + 1) else {
             return Err(ServerFault::Memory);
         };
-        let mut places = Vec::new(alloc);
-        for _ in 0..MOST_HELD {
-            if places.push(None).is_err() {
-                return Err(ServerFault::Memory);
-            }
-        }
         Ok(Connections {
             alloc,
             listener,
             poll,
             events,
-            places,
+            places: Vec::new(alloc),
+            postponed: Vec::new(alloc),
             accepted: 0,
             is_called: false,
             now: Duration::ZERO,
+            read: None,
         })
     }
 
     /// Returns whether `most` were accepted and none of them is held any more.
     pub(crate) fn is_over(&self, most: usize) -> bool {
-        self.accepted >= most && self.places.iter().all(|place| place.is_none())
+        self.accepted >= most && self.places.is_empty()
     }
 
-    /// The time when the last wait ended, on the clock that never goes back.
+    /// The time when the last wait ended, on the clock of the service.
     pub(crate) fn now(&self) -> Duration {
         self.now
     }
 
-    /// Returns the connection at a place if it waits for its answer. An answered one is read on and
-    /// closed at its end.
-    pub(crate) fn waiting_at(&mut self, place: usize, now: Duration) -> Option<&mut Held> {
+    /// Returns the connection at a place if it waits for its answer and there is room for one. An
+    /// answer is sent on, and the connection closed at its end.
+    pub(crate) fn waiting_at(&mut self, place: usize) -> Option<&mut Held> {
+        let now = self.now;
+        let has_room = self.has_room();
         let held = self.places.get_mut(place)?.as_mut()?;
-        if !held.is_answered() {
-            return Some(held);
+        if !held.is_asking() {
+            if !held.go_on(now) {
+                self.close(place);
+            }
+            return None;
         }
-        if !held.drain(now) {
-            self.close(place);
+        if !has_room {
+            if self.postponed.push(place).is_err() {
+                self.close(place);
+            }
+            return None;
         }
-        None
+        self.places.get_mut(place)?.as_mut()
     }
 
-    /// Reads the answered connections to their ends, and closes all others.
+    /// Returns whether fewer bytes of answers wait than may be held.
+    fn has_room(&self) -> bool {
+        let mut waiting: usize = 0;
+        for place in &self.places {
+            if let Some(held) = place {
+                waiting = waiting.saturating_add(held.waiting());
+            }
+        }
+        waiting < MOST_WAITING
+    }
+
+    /// Sends the answers to their ends, and closes all other connections.
     pub(crate) fn drain_all<C: Clock>(&mut self, clock: &C) {
         for place in self.places.iter_mut() {
-            if place.as_ref().is_some_and(|held| !held.is_answered()) {
+            if place.as_ref().is_some_and(|held| held.is_asking()) {
                 *place = None;
             }
         }
-        for _ in 0..MOST_HELD {
+        self.trim();
+        for _ in 0..usize::MAX {
             if self.is_over(0) {
                 return;
             }
-            let now = self.now;
             match self.wait(clock, 0) {
                 Ok(places) => {
                     for &place in places.as_slice() {
-                        let _answered = self.waiting_at(place, now);
+                        let _answered = self.waiting_at(place);
                     }
                 }
                 Err(_) => return,
@@ -124,6 +152,19 @@ impl<'a> Connections<'a> {
     pub(crate) fn close(&mut self, place: usize) {
         if let Some(held) = self.places.get_mut(place) {
             *held = None;
+        }
+        self.trim();
+    }
+
+    /// Drops the free places behind the last that is taken.
+    fn trim(&mut self) {
+        for _ in 0..MOST_HELD {
+            match self.places.last() {
+                Some(None) => {
+                    let _free = self.places.pop();
+                }
+                _ => return,
+            }
         }
     }
 
@@ -139,7 +180,7 @@ impl<'a> Connections<'a> {
     ) -> Result<Vec<usize>, ServerFault> {
         self.accept_all(most)?;
         self.poll_until(clock)?;
-        let mut ready = Vec::new(self.alloc);
+        let mut ready = self.taken_up();
         for event in self.events.iter() {
             if event.token() == LISTENER {
                 self.is_called = true;
@@ -151,42 +192,100 @@ impl<'a> Connections<'a> {
         Ok(ready)
     }
 
-    /// Waits until something comes or the first time is over, and gives up what took too long.
-    fn poll_until<C: Clock>(&mut self, clock: &C) -> Result<(), ServerFault> {
-        let first = self.first_deadline();
-        let now = read_clock(clock)?;
-        let mut wait = first.map(|first| first.saturating_sub(now));
-        if self.is_called {
-            let pause = Duration::from_millis(MOST_PAUSE);
-            wait = Some(wait.map_or(pause, |wait| wait.min(pause)));
+    /// Returns the places that were postponed, if there is room for answers again.
+    fn taken_up(&mut self) -> Vec<usize> {
+        let none = Vec::new(self.alloc);
+        if self.postponed.is_empty() {
+            return none;
         }
-        match self.poll.poll(&mut self.events, wait) {
-            Ok(()) => {}
-            Err(error) if error.kind() == ErrorKind::Interrupted => {}
-            Err(_) => return Err(ServerFault::Listener),
+        if !self.has_room() {
+            self.make_room();
         }
-        self.now = read_clock(clock)?;
-        if let Some(wait) = wait {
-            if self.events.is_empty() {
-                self.now = self.now.max(now.saturating_add(wait));
+        if self.has_room() {
+            std::mem::replace(&mut self.postponed, none)
+        } else {
+            none
+        }
+    }
+
+    /// Gives up the connection whose answer has been sent for longest, if for long enough.
+    fn make_room(&mut self) {
+        let mut oldest = None;
+        let mut since = self.now;
+        for (at, place) in self.places.iter().enumerate() {
+            if let Some(held) = place {
+                if held.waiting() > 0 && held.begun() < since {
+                    oldest = Some(at);
+                    since = held.begun();
+                }
             }
         }
+        if self.now.saturating_sub(since) >= Duration::from_millis(MOST_IDLE) {
+            if let Some(oldest) = oldest {
+                self.close(oldest);
+            }
+        }
+    }
+
+    /// Waits until something comes or the first time is over, and gives up what took too long.
+    fn poll_until<C: Clock>(&mut self, clock: &C) -> Result<(), ServerFault> {
+        let begun = read_clock(clock)?;
+        self.pass(begun);
+        let wait = self.longest_wait();
+        let is_whole = match self.poll.poll(&mut self.events, wait) {
+            Ok(()) => true,
+            Err(error) if error.kind() == ErrorKind::Interrupted => false,
+            Err(_) => return Err(ServerFault::Listener),
+        };
+        let ended = read_clock(clock)?;
+        match wait {
+            Some(wait) if is_whole => self.pass_waiting(ended.saturating_sub(begun), wait),
+            _ => self.pass(ended),
+        }
+        self.read = Some(ended);
         self.give_up();
         Ok(())
     }
 
-    /// The first time at which a connection is given up.
-    fn first_deadline(&self) -> Option<Duration> {
-        let mut first = None;
+    /// Counts the time up to one at which the service wasn't waiting, or was interrupted.
+    fn pass(&mut self, until: Duration) {
+        let gone = until.saturating_sub(self.read.unwrap_or(until));
+        let most = Duration::from_millis(MOST_STOP);
+        self.now = self.now.saturating_add(gone.min(most));
+        self.read = Some(until);
+    }
+
+    /// Counts a wait. If a signal ended it, or it took much longer than it should, the service was
+    /// stopped. On a clock that stands, a wait without an event is over.
+    fn pass_waiting(&mut self, gone: Duration, wait: Duration) {
+        let most = Duration::from_millis(MOST_STOP);
+        let is_silent = self.events.is_empty();
+        let is_early = gone.saturating_add(Duration::from_millis(MOST_EARLY)) < wait;
+        let counted = if is_silent && gone == Duration::ZERO {
+            wait
+        } else if (is_silent && is_early) || gone > wait.saturating_add(most) {
+            gone.min(most)
+        } else {
+            gone
+        };
+        self.now = self.now.saturating_add(counted);
+    }
+
+    /// The time until a connection is given up, or until the next try if something waits for room.
+    fn longest_wait(&self) -> Option<Duration> {
+        let mut first: Option<Duration> = None;
         for place in &self.places {
             if let Some(held) = place {
-                first = match first {
-                    Some(found) => Some(held.deadline().min(found)),
-                    None => Some(held.deadline()),
-                };
+                let deadline = held.deadline();
+                first = Some(first.map_or(deadline, |found| found.min(deadline)));
             }
         }
-        first
+        let wait = first.map(|first| first.saturating_sub(self.now));
+        if !self.is_called && self.postponed.is_empty() {
+            return wait;
+        }
+        let pause = Duration::from_millis(MOST_PAUSE);
+        Some(wait.map_or(pause, |wait| wait.min(pause)))
     }
 
     /// Gives up the connections whose time is over.
@@ -197,10 +296,11 @@ impl<'a> Connections<'a> {
                 *place = None;
             }
         }
+        self.trim();
     }
 
     /// Accepts the connections that wait, `most` in all, while there are places. One that was given
-    /// up before counts as well.
+    /// up before counts as well. If the system has no room for one, they wait.
     fn accept_all(&mut self, most: usize) -> Result<(), ServerFault> {
         for _ in self.accepted..most {
             if !self.is_called {
@@ -219,7 +319,8 @@ impl<'a> Connections<'a> {
                 }
                 Err(error) if error.kind() == ErrorKind::WouldBlock => self.is_called = false,
                 Err(error) if error.kind() == ErrorKind::Interrupted => {}
-                Err(_) => return Err(ServerFault::Listener),
+                Err(error) if is_final(&error) => return Err(ServerFault::Listener),
+                Err(_) => break,
             }
         }
         if self.accepted >= most {
@@ -236,13 +337,15 @@ impl<'a> Connections<'a> {
         let raw_fd = held.raw_fd();
         let mut source = SourceFd(&raw_fd);
         let registry = self.poll.registry();
-        if registry
-            .register(&mut source, Token(place), Interest::READABLE)
-            .is_ok()
-        {
-            if let Some(free) = self.places.get_mut(place) {
-                *free = Some(held);
-            }
+        let both = Interest::READABLE | Interest::WRITABLE;
+        if registry.register(&mut source, Token(place), both).is_err() {
+            return;
+        }
+        if let Some(free) = self.places.get_mut(place) {
+            *free = Some(held);
+        } else if place == self.places.len() {
+            // Without memory for a place the connection is closed.
+            let _is_held = self.places.push(Some(held)).is_ok();
         }
     }
 
@@ -260,11 +363,26 @@ impl<'a> Connections<'a> {
                 since = held.last();
             }
         }
+        if self.places.len() < MOST_HELD {
+            return Some(self.places.len());
+        }
         if self.now.saturating_sub(since) < Duration::from_millis(MOST_IDLE) {
             return None;
         }
         self.close(oldest);
         Some(oldest)
+    }
+}
+
+/// The system's errors after which the listening socket accepts no more: it is closed (`EBADF`), or
+/// isn't one (`EINVAL`, `ENOTSOCK`, `EOPNOTSUPP`).
+const FINAL_ERRORS: [i32; 4] = [9, 22, 88, 95];
+
+/// Returns whether the listening socket accepts no more after an error.
+fn is_final(error: &io::Error) -> bool {
+    match error.raw_os_error() {
+        Some(code) => FINAL_ERRORS.contains(&code),
+        None => true,
     }
 }
 

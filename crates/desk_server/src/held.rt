@@ -1,5 +1,7 @@
-//! A connection that the service holds: its request so far, or its end after the answer.
+//! A connection that the service holds: its request so far, its answer, or its end.
 
+use crate::outgoing::Outgoing;
+use crate::paced::{MOST_WAIT, seconds_for};
 use std::alloc::Global;
 use std::io;
 use std::io::{ErrorKind, Read};
@@ -9,9 +11,6 @@ use std::time::Duration;
 
 /// The longest silence of a new connection, in seconds.
 const MOST_SILENCE: u64 = 5;
-
-/// The longest silence of a connection after a byte, in seconds.
-const MOST_WAIT: u64 = 10;
 
 /// The longest time in which a request arrives, in seconds.
 const MOST_REQUEST: u64 = 30;
@@ -39,21 +38,35 @@ pub(crate) enum Arrival {
     Lost,
 }
 
-/// A connection that was accepted.
+/// What a connection is held for.
+#[derive(Clone, Copy)]
+enum Stage {
+    /// Its request comes.
+    Request,
+    /// Its answer is sent.
+    Answer,
+    /// It is read to its end.
+    End,
+}
+
+/// A connection that was accepted. Its times are on the clock of the service, which stands while
+/// the service doesn't wait.
 #[derive(Drop)]
 pub(crate) struct Held {
     stream: TcpStream,
     /// The bytes of its request so far.
     bytes: Vec<u8>,
-    /// The time of its acceptance or of its answer, on the clock that never goes back.
+    /// The rest of its answer.
+    outgoing: Outgoing,
+    stage: Stage,
+    /// The time at which its stage began.
     begun: Duration,
-    /// The time of its last byte, on the same clock.
+    /// The time of its last byte.
     last: Duration,
-    is_answered: bool,
 }
 
 impl Held {
-    /// A connection that was accepted at a time. None of its reads waits.
+    /// A connection that was accepted at a time. None of its reads and writes waits.
     ///
     /// Returns the system's error if the socket can't be set up.
     pub(crate) fn new(alloc: Global, stream: TcpStream, now: Duration) -> io::Result<Held> {
@@ -62,9 +75,10 @@ impl Held {
         Ok(Held {
             stream,
             bytes: Vec::new(alloc),
+            outgoing: Outgoing::new(alloc),
+            stage: Stage::Request,
             begun: now,
             last: now,
-            is_answered: false,
         })
     }
 
@@ -73,9 +87,9 @@ impl Held {
         self.stream.as_raw_fd()
     }
 
-    /// The connection, for its answer.
-    pub(crate) fn stream(&self) -> &TcpStream {
-        &self.stream
+    /// The bytes of its request so far, the connection, and the rest of its answer.
+    pub(crate) fn parts(&mut self) -> (&[u8], &TcpStream, &mut Outgoing) {
+        (self.bytes.as_slice(), &self.stream, &mut self.outgoing)
     }
 
     /// The bytes of its request so far.
@@ -83,9 +97,19 @@ impl Held {
         self.bytes.as_slice()
     }
 
-    /// Returns whether it was answered, and is only read to its end.
-    pub(crate) fn is_answered(&self) -> bool {
-        self.is_answered
+    /// Returns whether its request is still to be answered.
+    pub(crate) fn is_asking(&self) -> bool {
+        matches!(self.stage, Stage::Request)
+    }
+
+    /// The number of bytes of its answer that wait.
+    pub(crate) fn waiting(&self) -> usize {
+        self.outgoing.waiting()
+    }
+
+    /// The time at which its stage began.
+    pub(crate) fn begun(&self) -> Duration {
+        self.begun
     }
 
     /// The time of its last byte, or of its acceptance.
@@ -95,16 +119,14 @@ impl Held {
 
     /// The time at which it is given up.
     pub(crate) fn deadline(&self) -> Duration {
-        if self.is_answered {
-            return self.begun.saturating_add(Duration::from_secs(MOST_CLOSE));
-        }
-        let silence = if self.bytes.is_empty() {
-            MOST_SILENCE
-        } else {
-            MOST_WAIT
+        let (silence, all) = match self.stage {
+            Stage::Request if self.bytes.is_empty() => (MOST_SILENCE, MOST_REQUEST),
+            Stage::Request => (MOST_WAIT, MOST_REQUEST),
+            Stage::Answer => (MOST_WAIT, seconds_for(self.outgoing.sent())),
+            Stage::End => (MOST_CLOSE, MOST_CLOSE),
         };
         let next = self.last.saturating_add(Duration::from_secs(silence));
-        next.min(self.begun.saturating_add(Duration::from_secs(MOST_REQUEST)))
+        next.min(self.begun.saturating_add(Duration::from_secs(all)))
     }
 
     /// Reads what has come of its request, up to the room that a request has.
@@ -146,23 +168,53 @@ impl Held {
         }
     }
 
-    /// Ends the answer. From then on the connection is only read to its end: a close over unread
-    /// bytes would take the answer back.
+    /// Begins to send the answer, whose bytes wait.
     ///
-    /// Returns the system's error if the connection fails.
-    pub(crate) fn end_answer(&mut self, now: Duration) -> io::Result<()> {
-        self.is_answered = true;
-        self.begun = now;
-        self.bytes.clear();
-        self.stream.shutdown(Shutdown::Write)?;
+    /// Returns the system's error if the connection can't be set up for it.
+    pub(crate) fn begin_answer(&mut self, now: Duration) -> io::Result<()> {
+        self.bytes = Vec::new(*self.bytes.allocator());
+        self.begin(Stage::Answer, now);
         self.stream.set_nonblocking(true)
     }
 
-    /// Discards what the peer sends after its answer. Returns false at its end.
-    pub(crate) fn drain(&mut self, now: Duration) -> bool {
+    fn begin(&mut self, stage: Stage, now: Duration) {
+        self.stage = stage;
+        self.begun = now;
+        self.last = now;
+    }
+
+    /// Sends what the system takes of its answer, and reads it to its end once all is sent: a close
+    /// over unread bytes would take the answer back. Returns false at its end.
+    pub(crate) fn go_on(&mut self, now: Duration) -> bool {
         if now >= self.deadline() {
             return false;
         }
+        if self.stage == Stage::Answer && !self.send(now) {
+            return false;
+        }
+        self.stage != Stage::End || self.drain()
+    }
+
+    /// Sends what the system takes of its answer. Returns false if the connection fails.
+    fn send(&mut self, now: Duration) -> bool {
+        let waiting = self.outgoing.waiting();
+        match self.outgoing.send(&self.stream) {
+            Ok(true) => {
+                if self.outgoing.waiting() < waiting {
+                    self.last = now;
+                }
+                true
+            }
+            Ok(false) => {
+                self.begin(Stage::End, now);
+                self.stream.shutdown(Shutdown::Write).is_ok()
+            }
+            Err(_) => false,
+        }
+    }
+
+    /// Discards what the peer sends after its answer. Returns false at its end.
+    fn drain(&mut self) -> bool {
         let mut room = [0; CHUNK];
         for _ in 0..MOST_LEFT {
             let mut stream = &self.stream;

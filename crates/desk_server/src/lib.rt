@@ -3,9 +3,12 @@
 
 mod connections;
 mod held;
+mod outgoing;
 mod paced;
 mod server;
+mod unblocked;
 mod zone;
 
 pub use server::{ServerFault, Setting, listen, serve, served_law};
+pub use unblocked::Unblocked;
 pub use zone::{Zone, moment_now, moment_of};

@@ -51,17 +51,17 @@ pub struct Setting<'a, C: Clock> {
 enum Next {
     /// More of its request is waited for.
     Waits,
-    /// It was answered, and is read to its end.
+    /// It was answered: the answer is sent, and the connection read to its end.
     Drains,
     /// It is closed.
     Ends,
 }
 
-/// Answers a connection at a moment, if its request is whole.
+/// Answers a connection at a moment, if its request is whole. The answer's bytes wait in it.
 fn answer<C: Clock, K: Keeper>(
     setting: &Setting<'_, C>,
     keeper: &mut K,
-    held: &Held,
+    held: &mut Held,
     at: Moment,
 ) -> Result<Served, ServeFault>
     ensures served { (came : List ℕ) × HasServedOne K.keeping
@@ -69,11 +69,12 @@ fn answer<C: Clock, K: Keeper>(
     // Nothing was written or changed before the request is whole.
     ensures unread { result ≡ Err ServeFault.Read → keeper.new ≡ keeper.old }
 {
+    let (bytes, stream, outgoing) = held.parts();
     serve_one(
         setting.alloc,
         keeper,
-        &mut Counted::new(held.bytes()),
-        &mut Counted::new(Paced::new(setting.clock, held.stream())),
+        &mut Counted::new(bytes),
+        &mut Counted::new(Paced::new(setting.clock, stream, outgoing)),
         at,
     )
 }
@@ -88,7 +89,8 @@ fn explain<E: ByteOut>(alloc: Global, errors: &mut E, held: &Held, served: &Serv
 }
 
 /// Reads what came of a request, and answers it if it is whole, at the moment that the clock then
-/// shows. A write that fails, or an answer that isn't read in time, ends the connection alone.
+/// shows. The answer is sent as its peer reads it. A write that fails, or an answer that isn't read
+/// in time, ends the connection alone.
 fn serve_held<C: Clock, K: Keeper, E: ByteOut>(
     setting: &Setting<'_, C>,
     keeper: &mut K,
@@ -109,7 +111,7 @@ fn serve_held<C: Clock, K: Keeper, E: ByteOut>(
     match answer(setting, keeper, held, at) {
         Ok(served) => {
             explain(setting.alloc, errors, held, &served);
-            let is_open = held.end_answer(now).is_ok() && held.drain(now);
+            let is_open = held.begin_answer(now).is_ok() && held.go_on(now);
             if served.reopen {
                 return Err(ServerFault::Store);
             }
@@ -133,7 +135,7 @@ fn serve_place<C: Clock, K: Keeper, E: ByteOut>(
     ensures same { result ≡ Ok false → keeper.new ≡ keeper.old }
 {
     let now = connections.now();
-    let Some(held) = connections.waiting_at(place, now) else {
+    let Some(held) = connections.waiting_at(place) else {
         return Ok(false);
     };
     match serve_held(setting, keeper, errors, held, now)? {

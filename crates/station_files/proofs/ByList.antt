@@ -1,5 +1,12 @@
 -- What files hold by a list of their trees: found at an opening, left by a crash and by a close.
 use Rattle.station_files.proofs.Common.{AreDatabases, Bool, FileStore, Files, Ghosts, Held, HoldsByList, HoldsDatabase, HoldsPages, HoldsShown, Image, IsCopiedAs, IsHeldAlone, IsIgnored, IsOurs, IsSound, LeavesAs, List, Names, Option, PageMap, Recovers, Some, Trees, Wanted, adopts_of, arith, bytes_of, cases_eq, false, file_state, file_trees, inl, inr, reading, recovers, refl, reserved, schema_in, size_by_file, size_by_log, size_in_file, size_is_allowed, state, stored_size, subst, sym, ℕ, ∥∥₁_elim, ∥∥₁_map, ◌≡◌, ◌≤◌}
+use Rattle.std.specs.Prelude.{IsSome, None}
+use Rattle.sqlite_wal.specs.Opening.{RefusesLog}
+use Rattle.sqlite_wal.specs.Outcome.{HasCause}
+use Rattle.sqlite_wal.specs.Recovery.{Replays}
+use Rattle.sqlite_wal.specs.declared.error.Error.{Error}
+use Rattle.sqlite_wal.specs.declared.error.Error.TheVariants as error
+use Rattle.station_files.specs.Listed.{MayRefuse}
 use Rattle.sqlite_schema.specs.declared.schema.Schema.{Schema}
 use Rattle.sqlite_wal.specs.Format.{be32}
 use Rattle.sqlite_wal.specs.declared.page_size.PageSize.{PageSize}
@@ -24,6 +31,19 @@ module _ (image : Image) (found : Option PageSize) (by_log : ¬ IsIgnored image.
 
   pub probe_pages : (size : PageSize) → found ≡ Some size → stored_size n ≡ bytes_of size
   probe_pages size is = elim (cases_eq (stored_size n) (bytes_of size)) [ inl same ↦ same | inr other ↦ absurd (names (λ named. other (sym (rw is at named.1)))) ]
+
+  pub not_named : found ≡ None → ⊥
+  not_named none = names (λ named. let never = subst IsSome none (named.0.1 held.valid) in cc)
+
+-- a log that the first page is read from is refused only if no frames of it count
+pub refuses_pages : (e : Error) → MayRefuse e → (old new size : ℕ) (log : List ℕ) → HasCause old new (RefusesLog size log) e → (k : ℕ) → ¬ Replays size log k
+refuses_pages (error.Io cause) may old new size log why k replays = absurd may
+refuses_pages error.OutOfMemory may old new size log why k replays = absurd may
+refuses_pages error.Full may old new size log why k replays = absurd may
+refuses_pages error.Closed may old new size log why k replays = elim why [ inl a ↦ let h = a.0 in cc | inr b ↦ let h = b.0 in cc ]
+refuses_pages error.NoSuchPage may old new size log why k replays = elim why [ inl a ↦ let h = a.0 in cc | inr b ↦ let h = b.0 in cc ]
+refuses_pages error.Exists may old new size log why k replays = elim why [ inl a ↦ let h = a.0 in cc | inr b ↦ let h = b.0 in cc ]
+refuses_pages error.Corrupt may old new size log why k replays = elim why [ inl a ↦ a.1 k replays | inr b ↦ let h = b.0 in cc ]
 
 by_list_of : (image : Image) (db : Trees) → HoldsDatabase image db → HoldsByList image db
 by_list_of image db held = record {

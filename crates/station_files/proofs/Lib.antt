@@ -10,6 +10,7 @@ mod OwnListing
 mod OwnReading
 mod Owning
 mod SameReading
+mod Ways
 mod StationRows
 mod StationTrees
 mod Unstarted

@@ -7,6 +7,7 @@ use Rattle.sqlite_store.specs.FileStore.{IsReady}
 use Rattle.sqlite_store.specs.Unopened.{IsCatalogOf}
 use Rattle.sqlite_store.specs.declared.store.open.Unopened.{Unopened}
 use Rattle.sqlite_wal.specs.State.{State}
+use Rattle.station_files.specs.Opened.{AreKept}
 
 module _ {D : Type 0} {g : Ghosts D} (old mid : Unopened D g) (new : State) (pages : PageMap) where
   -- both calls leave what they found
@@ -50,6 +51,13 @@ module _ {D : Type 0} {g : Ghosts D} (files : Files D) (objects : List Object) (
           | inr same ↦ stays_something now start left (omega (arith, u.size.smallest, whole)) well (stands same) (λ bad. other (unread bad))
         ];
       }
+
+  pub are_kept : (left : Unopened D g) → state_of left ≡ new → AreKept files left
+  are_kept left is = record {
+    honest = u.honest clean;
+    sized = λ n held. u.only clean n held ∙ sym (ap (λ (s : State). s.page_size) is ∙ kept.size ∙ u.sized);
+    left = λ image may. subst (λ (s : State). IsKept g files s.page_size image) (sym is) (kept_files image (subst (λ (s : State). s.may_leave image) is may));
+  }
 
 -- a store that was opened by a list of trees shows what the files recover to
 module _ {D : Type 0} {g : Ghosts D} (files : Files D) (objects : List Object) (fresh : Unopened D g) (u : IsUnopened files objects fresh) (it : FileStore D g) (ready : IsReady it)

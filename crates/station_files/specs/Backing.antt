@@ -5,7 +5,7 @@ use Rattle.sqlite.specs.Held.{state}
 use Rattle.sqlite_store.specs.FileStore as store
 use Rattle.sqlite_trees.specs.declared.store.Store as trees
 use Rattle.station_files.specs.Listed.{HoldsByList, HoldsOwn, IsCopiedAs}
-use Rattle.station_files.specs.Opened.{IsClosedOwn, FindsOwn, ListsStation}
+use Rattle.station_files.specs.Opened.{IsClosedOwn, FindsBehind, ListsStation}
 
 -- What a contract sees of the files behind a connection `C`. It ends with the closed files `F`, or
 -- with a store `L` whose log wasn't copied.
@@ -89,7 +89,7 @@ module _ {D : Type 0} (g : Ghosts D) where
     left = λ conn it. IsClosedOwn over_files (state shown conn) it;
     numbered = λ _. Unit {0};
     may_hold = λ end files. may_hold_image end (image_of g files);
-    finds = λ objects files conn. FindsOwn g files objects (length objects) (state shown conn)
+    finds = λ objects files conn. FindsBehind g files objects (length objects) (state shown conn)
         × IsLive (state shown conn);
     lists = λ objects. ListsStation objects;
     is_whole = ⊥;

@@ -3,3 +3,4 @@ pub mod Backing
 pub mod Opened
 pub mod Listed
 pub mod Others
+pub mod Ways

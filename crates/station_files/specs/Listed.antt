@@ -1,6 +1,8 @@
 -- Files read by a list of their trees.
 use Rattle.std.specs.Prelude.{◌≡◌, ◌<◌, ℕ, false, List, [], length, map, IsTrue, ◌≢◌, ◌%◌, Bool, true}
 use Rattle.station_files.specs.Common.{Ghosts, Files, outcomes, IsPageSize, AreClean, Image, PageMap, IsSoundFile, Adopts, Recovers, stored_size, catalog_tree, Trees, Object, Schema, IsSound, wanted_of, recovers, state, file_trees, listed_from, read_by, IsOurs, Wanted, FileStore, file_state, image_of, AreDatabases, Held, State, HasCleanDisk, own_trees, AreLow, bytes_of, PageSize, view, Describes, image, state_of, wanted_by, AreUsable, Unopened, IsFresh, BeginsWell}
+use Rattle.sqlite_wal.specs.declared.error.Error.{Error}
+use Rattle.sqlite_wal.specs.declared.error.Error.TheVariants as log
 
 -- Files read by a list of trees, whatever the order in the files.
 
@@ -64,6 +66,26 @@ pub record IsCopiedAs {D : Type 0} (g : Ghosts D) (holds : Image → Trees → T
   pub seen : IsHeldAlone holds (image_of g files) s.committed.trees
   pub left : (image : Image) → outcomes g files.log files.db image
       → IsHeldAlone holds image s.committed.trees
+
+-- the files hold a database of exactly these trees, in this order, without checksums
+pub record HoldsListed {D : Type 0} (g : Ghosts D) (files : Files D) (objects : List Object) : Type 0 where
+  pub size : ℕ
+  pub held : HoldsPages size (image_of g files)
+  pub plain : size % 16 ≢ 8
+  pub found : Recovers size (image_of g files) held.pages
+  pub ours : IsOurs size true (map wanted_of objects) held.pages
+  pub schema : Schema
+  pub sound : IsSound schema (file_trees size (map wanted_of objects) held.pages)
+
+-- an error of the log that isn't a failure of memory, of the disk or of its room
+abbrev pub MayRefuse : Error → Type 0
+MayRefuse (log.Io cause) = ⊥
+MayRefuse log.OutOfMemory = ⊥
+MayRefuse log.Full = ⊥
+MayRefuse log.Closed = Unit {0}
+MayRefuse log.NoSuchPage = Unit {0}
+MayRefuse log.Corrupt = Unit {0}
+MayRefuse log.Exists = Unit {0}
 
 module _ {D : Type 0} {g : Ghosts D} where
   -- The connection shows what the files hold, read by a list of trees: all of it or some of its

@@ -1,10 +1,10 @@
 -- Files that are begun, opened and left.
 use Rattle.std.specs.Prelude.{◌⊎◌, ℕ, IsTrue, ◌≡◌, ◌+◌, pos, Bool, true, not, ◌||◌, List, map, take, ◌<◌, ◌≤◌, length, slice_get, Some, false, Option}
-use Rattle.station_files.specs.Common.{Ghosts, Files, outcomes, AreClean, Image, IsBlankFile, Trees, FileStore, recovers, view, state_of, IsFresh, image_of, HoldsDatabase, IsEmpty, Leftover, list_all, list_any, Row, column, bytes, same_name, has_rowid, Object, wanted_of, listed_from, rows_from, PageMap, Recovers, read_by, IsKept, doubt, IsClean, is_shielded, file_state, IsOpened, AreDatabases, Held, IsNew, State, HasCleanDisk, own_trees, AreLow, AllByRecursion, Index, shape_code, station_schema, file_trees, IsOurs, Wanted, over_files, IsOwn, as_numbered, Adopts, faults, state, IsQuiet}
+use Rattle.station_files.specs.Common.{Ghosts, Files, outcomes, AreClean, Image, IsBlankFile, Trees, FileStore, recovers, view, state_of, IsFresh, image_of, HoldsDatabase, IsEmpty, Leftover, list_all, list_any, Row, column, bytes, same_name, has_rowid, Object, wanted_of, listed_from, rows_from, PageMap, Recovers, read_by, IsKept, doubt, IsClean, is_shielded, file_state, IsOpened, AreDatabases, Held, IsNew, State, HasCleanDisk, own_trees, AreLow, AllByRecursion, Index, shape_code, station_schema, file_trees, IsOurs, Wanted, over_files, IsOwn, as_numbered, Adopts, faults, state, IsQuiet, Unopened, Adopts}
 use Rattle.sqlite.specs.declared.file.Leftover.TheVariants as left
 use Rattle.sqlite_trees.specs.declared.store.Store as trees
 use Rattle.sqlite.specs.Table.{Table}
-use Rattle.station_files.specs.Listed.{FindsBy, HoldsOwn, LeavesAs, IsReadBy}
+use Rattle.station_files.specs.Listed.{FindsBy, HoldsOwn, HoldsPages, LeavesAs, IsReadBy}
 use Rattle.station_files.specs.Others.{AreCalls, SameOthers}
 use Rattle.station_files.specs.declared.own_trees.OwnTrees.{OwnTrees}
 
@@ -57,14 +57,20 @@ pub record AreBeside (objects : List Object) (made : ℕ) (numbers : List ℕ) (
 -- The two files after an opening that gave up.
 
 module _ {D : Type 0} {g : Ghosts D} where
-  -- Each crash state of the files now was one before, or recovers to the same pages. If the list of
-  -- trees was accepted, it reads like the files did by that list.
+  -- Each crash state of the files now was one before, or recovers to the same pages. The files hold
+  -- no pages of another size.
+  pub record AreKept (files : Files D) (now : Unopened D g) : Type 0 where
+    pub honest : AreClean g files.log files.db
+    pub sized : (n : ℕ) → HoldsPages n (image_of g files) → n ≡ (state_of now).page_size
+    pub left : (image : Image) → (state_of now).may_leave image
+        → IsKept g files (state_of now).page_size image
+
+  -- As before, or the files are kept. If the list of trees was accepted, each crash state reads like
+  -- the files did by that list.
   abbrev pub SparesFiles : Files D → List Object → Leftover D g → Type 0
   SparesFiles files objects (left.Files now) =
-      (image : Image) → outcomes g now.log now.db image → outcomes g files.log files.db image
-  SparesFiles files objects (left.Unopened now) =
-      (image : Image) → (state_of now).may_leave image
-      → IsKept g files (state_of now).page_size image
+      AreClean g files.log files.db × ((image : Image) → outcomes g now.log now.db image → outcomes g files.log files.db image)
+  SparesFiles files objects (left.Unopened now) = AreKept files now
   SparesFiles files objects (left.Store now) =
       (db : Trees) → recovers now db → (size : ℕ) × (pages : PageMap)
       × Recovers size (image_of g files) pages × (db ≡ read_by size objects pages)
@@ -135,6 +141,24 @@ pub record FindsOwn {D : Type 0} (g : Ghosts D) (files : Files D) (objects : Lis
   pub beside : AreBeside objects made numbers (listed_from 0 wanted)
   pub ours : ∥ IsOurs by.size false wanted by.pages ∥₁
   pub holds_station : ListsStation (take made objects) → (db : Trees) → HoldsOwn (image_of g files) db → IsOwn db → s.committed.trees ≡ db
+
+-- A crash leaves the files as they are read, as those that were just opened.
+abbrev pub AreSettled : {D : Type 0} → Ghosts D → Files D → Type 0
+AreSettled g files = (image : Image) → outcomes g files.log files.db image → image ≡ image_of g files
+
+-- These are the same two files, still open, after an opening by a list refused them. Each crash state
+-- was one before, or recovers to the same pages.
+pub record WereRefused {D : Type 0} (g : Ghosts D) (files now : Files D) : Type 0 where
+  pub honest : AreClean g now.log now.db → AreClean g files.log files.db
+  pub kept : AreClean g now.log now.db → (image : Image) → outcomes g now.log now.db image
+      → outcomes g files.log files.db image
+      ⊎ ((n : ℕ) (held : HoldsPages n (image_of g files)) → Adopts n image held.pages)
+
+-- The connection shows what the files hold, which an opening in order may have refused before.
+pub record FindsBehind {D : Type 0} (g : Ghosts D) (files : Files D) (objects : List Object) (made : ℕ) (s : State) : Type 0 where
+  pub now : Files D
+  pub behind : (now ≡ files) ⊎ (AreSettled g files × WereRefused g files now)
+  pub finds : FindsOwn g now objects made s
 
 module _ {D : Type 0} {g : Ghosts D} where
   -- The store shows what the files recover to, read by some list of their trees.

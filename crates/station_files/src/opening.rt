@@ -2,9 +2,9 @@
 //! Closing files.
 //! Starting a database in two empty files.
 
-ghost use Rattle.std.specs.Prelude.{◌≡◌, false, IsTrue, IfErr, IfOk, ◌↔◌, IfSome};
-ghost use Rattle.station_files.specs.Common.{outcomes, bytes_of, Image, faults, recovers, view, is_shielded, files_of, state_of, wanted_by, Describes, HasCleanDisk, IsClean, IsNew, IsFresh, IsQuiet, file_state, Finds, IsCleanLeft, IsOpened, AreClean, OnlyReads, IsBlankFile, image_of, IsEmpty};
-ghost use Rattle.station_files.specs.Listed.{FindsByList, IsReadByList, IsUnopened};
+ghost use Rattle.std.specs.Prelude.{◌≡◌, ◌%◌, ℕ, false, IsTrue, IfErr, IfOk, ◌↔◌, IfSome};
+ghost use Rattle.station_files.specs.Common.{outcomes, bytes_of, Image, faults, recovers, view, is_shielded, files_of, state_of, wanted_by, Describes, HasCleanDisk, IsClean, IsNew, IsFresh, IsQuiet, file_state, Finds, IsCleanLeft, IsOpened, AreClean, OnlyReads, IsBlankFile, image_of, IsEmpty, IsSound, Schema};
+ghost use Rattle.station_files.specs.Listed.{FindsByList, HoldsListed, HoldsPages, IsReadByList, IsUnopened};
 ghost use Rattle.station_files.specs.Opened.{IsOver, SparesFiles, IsInside, IsBegun, LeavesUnstarted};
 ghost use Rattle.sqlite.specs.Held.{state};
 ghost use Rattle.station_files.specs.Backing.{own_files, whole_files};
@@ -44,29 +44,37 @@ pub(crate) fn with_list<D: Disk>(
     }
 }
 
-/// Returns files with a list of their trees, ready to be opened. Returns the files if their pages
-/// have checksums, or they name no page size, or memory or the disk fails.
+/// Returns files with a list of their trees, ready to be opened. Returns the files with the reason
+/// if memory or the disk fails. Refuses files whose pages have checksums, or that name no page size.
 pub(crate) fn unopened<D: Disk>(
     alloc: Global,
     mut files: Files<D>,
     options: Options,
     objects: &[Object<'_>],
-) -> Result<Unopened<D>, Files<D>>
+) -> Result<Unopened<D>, (OpenError, Files<D>)>
     requires log { IsTrue (D.Disk.is_usable files.log) }
     requires db { IsTrue (D.Disk.is_usable files.db) }
     ensures unopened { IfOk result (IsUnopened files objects.now) }
-    ensures back { IfErr result (λ left. (at : Image) → outcomes D.Disk left.log left.db at
+    ensures back { IfErr result (λ e. (at : Image) → outcomes D.Disk e.1.log e.1.db at
         → outcomes D.Disk files.log files.db at) }
+    ensures refused { IfErr result (λ e. e.0 ≡ OpenError.Refused
+        → AreClean D.Disk e.1.log e.1.db
+        → (n : ℕ) → HoldsPages n (image_of D.Disk files) → n % 16 ≡ 8) }
+    ensures honest { IfErr result (λ e. AreClean D.Disk e.1.log e.1.db
+        → AreClean D.Disk files.log files.db) }
 {
-    let Some(size) = named_size(&mut files) else {
-        return Err(files);
+    let size = match named_size(&mut files) {
+        Ok(size) => size,
+        Err(error) => return Err((error, files)),
     };
-    if !begins_plain(alloc, &mut files, size) {
-        return Err(files);
+    match begins_plain(alloc, &mut files, size) {
+        Ok(true) => {}
+        Ok(false) => return Err((OpenError::Refused, files)),
+        Err(error) => return Err((error, files)),
     }
     match with_list(alloc, files, size, options, objects) {
         Ok(it) => Ok(it),
-        Err(left) => Err(left),
+        Err(left) => Err((OpenError::OutOfMemory, left)),
     }
 }
 
@@ -77,21 +85,36 @@ fn store_by_list<D: Disk>(
     files: Files<D>,
     options: Options,
     objects: &[Object<'_>],
-) -> Result<FileStore<D>, Leftover<D>>
+) -> Result<FileStore<D>, (OpenError, Leftover<D>)>
     requires log { IsTrue (D.Disk.is_usable files.log) }
     requires db { IsTrue (D.Disk.is_usable files.db) }
     ensures listed { IfOk result (λ it. IsTrue (view it).is_clean
         → IsReadByList files objects.now it) }
     ensures plain { IfOk result (λ it. IsTrue (view it).is_clean → (view it).has_sums ≡ false) }
     ensures guarded { IfOk result (λ it. IsTrue (view it).is_clean → is_shielded it) }
-    ensures spared { IfErr result (λ left. IsCleanLeft left → SparesFiles files objects.now left) }
+    ensures others { IfErr result (λ e. e.0 ≡ OpenError.Refused → IsCleanLeft e.1
+        → ¬ HoldsListed D.Disk files objects.now) }
+    ensures spared { IfErr result (λ e. IsCleanLeft e.1 → SparesFiles files objects.now e.1) }
 {
     match unopened(alloc, files, options, objects) {
         Ok(unopened) => match unopened.open_numbered() {
             Ok(it) => Ok(it),
-            Err((_, left)) => Err(Leftover::Unopened(left)),
+            Err((error, left)) => Err((error, Leftover::Unopened(left))),
         },
-        Err(left) => Err(Leftover::Files(left)),
+        Err((error, left)) => Err((error, Leftover::Files(left))),
+    }
+}
+
+/// Returns the reason why the library doesn't connect to a store.
+pub(crate) fn unconnected(error: Error) -> OpenError
+    ensures { result ≡ OpenError.Refused
+        → error ≡ Error.SqliteFailure ErrorCode.NotADatabase }
+{
+    match error {
+        Error::SqliteFailure(ErrorCode::NotADatabase) => OpenError::Refused,
+        Error::SqliteFailure(ErrorCode::OutOfMemory) => OpenError::OutOfMemory,
+        Error::SqliteFailure(ErrorCode::DiskFull) => OpenError::Full,
+        _ => OpenError::Io,
     }
 }
 
@@ -104,6 +127,9 @@ pub(crate) fn connect<D: Disk + Drop>(
     requires { IsClean (view store) → IsFresh (view store) }
     ensures over { IfOk result (IsOver store) }
     ensures left { IfErr result (λ e. IsQuiet view faults recovers is_shielded store e.1) }
+    ensures refused { IfErr result (λ e. IsClean (view e.1)
+        → e.0 ≡ Error.SqliteFailure ErrorCode.NotADatabase
+        → (schema : Schema) → ¬ IsSound schema (view store).trees) }
 {
     match Connection::over(alloc, store) {
         Ok(over) => Ok(over),
@@ -115,14 +141,19 @@ pub(crate) fn connect<D: Disk + Drop>(
 /// checksums. It recovers the log once, while `Connection::open_files` recovers it twice: first to
 /// read the list of trees.
 ///
-/// Returns the remains of other files, and of files for which memory or the disk fails; opening
-/// these finds the same content, or reports the reason.
+/// Returns the reason, with the remains of the files; opening these finds the same content, or
+/// fails again.
+///
+/// # Errors
+///
+/// `Refused` for other files, or files that aren't a database. `Io`, `Full` or `OutOfMemory` if the
+/// disk, its room or memory fails: which trees the files have isn't known then.
 pub fn open_listed<D: Disk + Drop>(
     alloc: Global,
     files: Files<D>,
     options: Options,
     objects: &[Object<'_>],
-) -> Result<Connection<FileStore<D>>, Leftover<D>>
+) -> Result<Connection<FileStore<D>>, (OpenError, Leftover<D>)>
     requires log { IsTrue (D.Disk.is_usable files.log) }
     requires db { IsTrue (D.Disk.is_usable files.db) }
     ensures opened { IfOk result (λ c. HasCleanDisk (file_state c) → IsOpened c) }
@@ -134,12 +165,14 @@ pub fn open_listed<D: Disk + Drop>(
     ensures fresh { IfOk result IsNew }
     ensures guarded { IfOk result (λ c. HasCleanDisk (file_state c)
         → (file_state c).IsShielded) }
-    ensures spared { IfErr result (λ left. IsCleanLeft left → SparesFiles files objects.now left) }
+    ensures others { IfErr result (λ e. e.0 ≡ OpenError.Refused → IsCleanLeft e.1
+        → ¬ HoldsListed D.Disk files objects.now) }
+    ensures spared { IfErr result (λ e. IsCleanLeft e.1 → SparesFiles files objects.now e.1) }
 {
     let store = store_by_list(alloc, files, options, objects)?;
     match connect(alloc, store) {
         Ok(conn) => Ok(conn),
-        Err((_, store)) => Err(Leftover::Store(store)),
+        Err((error, store)) => Err((unconnected(error), Leftover::Store(store))),
     }
 }
 

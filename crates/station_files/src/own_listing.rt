@@ -1,5 +1,5 @@
 //! Comparing the trees of a store with a list.
-ghost use Rattle.std.specs.Prelude.{◌≡◌, ◌<◌, ◌+◌, pos, false, map, take, length, find, if◌then◌else◌, [], IsTrue};
+ghost use Rattle.std.specs.Prelude.{◌≡◌, ◌<◌, ◌+◌, pos, false, map, take, length, find, if◌then◌else◌, [], IsTrue, IfOk};
 ghost use Rattle.station_files.specs.Common.{list_all, catalog_tree, has_rowid, IsClean, wanted_of, listed, listed_from, rows_from, shown_row};
 ghost use Rattle.station_files.specs.Opened.{is_about, is_known, is_one_of, AreBeside};
 
@@ -8,7 +8,7 @@ use sqlite_trees::schema::Object;
 use sqlite_trees::sound::{bytes_of, same_name};
 use sqlite_trees::store::Alter;
 use sqlite_value::row::Row;
-use std::alloc::Global;
+use std::alloc::{AllocError, Global};
 
 fn is_there<S: Alter>(store: &S, rows: &[Row], object: &Object<'_>, number: u32) -> bool
     ensures { IsTrue result → IsClean (S.Store.view store.now)
@@ -104,26 +104,24 @@ fn are_known(rows: &[Row], objects: &[Object<'_>], numbers: &[u32]) -> bool
 }
 
 /// Returns whether the first `made` objects are in the store under `numbers`, in order, the others
-/// aren't in it, and no other tree belongs to their tables.
+/// aren't in it, and no other tree belongs to their tables. Fails if memory runs out.
 pub(crate) fn are_beside<S: Alter>(
     alloc: Global,
     store: &S,
     objects: &[Object<'_>],
     made: usize,
     numbers: &[u32],
-) -> bool
-    ensures { IsTrue result → IsClean (S.Store.view store.now)
+) -> Result<bool, AllocError>
+    ensures { IfOk result (λ are. IsTrue are → IsClean (S.Store.view store.now)
         → (S.Store.view store.now).is_broken ≡ false
-        → AreBeside objects.now made numbers.now ((S.Store.view store.now).trees catalog_tree) }
+        → AreBeside objects.now made numbers.now ((S.Store.view store.now).trees catalog_tree)) }
 {
-    let Ok(rows) = store.objects(alloc) else {
-        return false;
-    };
+    let rows = store.objects(alloc)?;
     if numbers.len() != objects.len() {
-        return false;
+        return Ok(false);
     }
     if !are_there(store, rows.as_slice(), objects, made, numbers) {
-        return false;
+        return Ok(false);
     }
-    are_known(rows.as_slice(), objects, numbers)
+    Ok(are_known(rows.as_slice(), objects, numbers))
 }

@@ -6,6 +6,7 @@ ghost use Rattle.station_files.specs.Others.{SparesOthers};
 
 use crate::tree_list::row_of;
 use shown_trees::Layout;
+use sqlite_store::OpenError;
 use sqlite_trees::error::StoreError;
 use sqlite_trees::schema::Object;
 use sqlite_trees::store::{Alter, Direction, Shape, Store};
@@ -183,25 +184,30 @@ fn own_rows(alloc: Global, numbers: &[u32], rows: &[Row]) -> Result<Vec<Row>, Al
 
 impl<S: Alter> OwnTrees<S> {
     /// Shows the trees with these numbers of a store that was just opened. If `makes`, trees can be
-    /// made at numbers that are free there. Returns the store if two numbers are the same, or one
-    /// is too large.
-    pub fn new(alloc: Global, store: S, numbers: Vec<u32>, makes: bool) -> Result<OwnTrees<S>, S>
+    /// made at numbers that are free there. Refuses numbers of which two are the same, or one is too
+    /// large. Returns the store with the reason.
+    pub fn new(
+        alloc: Global,
+        store: S,
+        numbers: Vec<u32>,
+        makes: bool,
+    ) -> Result<OwnTrees<S>, (OpenError, S)>
         requires fresh { IsClean (S.Store.view store)
             → IsFresh (as_numbered (S.Store.view store)) }
         requires numbered { IsTrue makes → IsClean (S.Store.view store)
             → IsTrue (S.Store.view store).is_numbered }
         ensures same { IfOk result (λ it. it.store ≡ store) }
         ensures numbers { IfOk result (λ it. it.numbers ≡ numbers) }
-        ensures back { IfErr result (λ back. back ≡ store) }
+        ensures back { IfErr result (λ e. e.1 ≡ store) }
     {
         if !are_apart(&numbers) {
-            return Err(store);
+            return Err((OpenError::Refused, store));
         }
         let Ok(layouts) = layouts_of(alloc, &store, &numbers) else {
-            return Err(store);
+            return Err((OpenError::OutOfMemory, store));
         };
         let Ok(before) = layouts_of(alloc, &store, &numbers) else {
-            return Err(store);
+            return Err((OpenError::OutOfMemory, store));
         };
         Ok(OwnTrees {
             store,

@@ -185,7 +185,7 @@ fn play_silent(rt: &HostRuntime, station: &mut PlainStation) -> io::Result<()> {
 /// Plays requests that time out, with clocks that advance at each reading.
 fn play_slow(rt: &HostRuntime, station: &mut PlainStation) -> io::Result<()> {
     let late = Stepped {
-        step: 31,
+        step: 5,
         ..still(MORNING)
     };
     play(
@@ -196,7 +196,7 @@ fn play_slow(rt: &HostRuntime, station: &mut PlainStation) -> io::Result<()> {
         &[HOLDER],
     )?;
     let slow = Stepped {
-        step: 16,
+        step: 5,
         ..still(MORNING)
     };
     let long = long_request(rt, 6000)?;

@@ -151,6 +151,17 @@ impl Keeper for Failing {
         self.station.messages_by(query, sink)
     }
 
+    fn messages_about<S: Sink<Message>>(
+        &mut self,
+        awb: &Awb,
+        sink: &mut S,
+    ) -> Result<(), ActFault> {
+        if self.is_broken {
+            return Err(ActFault::Reopen);
+        }
+        self.station.messages_about(awb, sink)
+    }
+
     fn trail_by<S: Sink<TrailRow>>(
         &mut self,
         query: &TrailQuery,

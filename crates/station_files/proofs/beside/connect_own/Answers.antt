@@ -13,9 +13,9 @@ returns-in-Err-over-clause-left g c clean db may =
     let early : IsClean (g.S.Store.view first.store) = omega (arith, e.clean, late) in
     let was : IsClean v = subst (λ s. IsClean (g.S.Store.view s)) same early in
     let back = e.outcomes (own_trees left.numbers.items db) (db, subst (λ s. g.S.Store.recovers s db) c.into_inner.ensures may, refl) in
-    let there : IsTrue c.are_beside.result = search rules in
+    let there : IsTrue c.in-Ok-true.field-0 = search rules in
     let beside : AreBeside c.args.objects.now c.args.made c.args.numbers.items (v.trees catalog_tree) =
-    subst (λ n. AreBeside c.args.objects.now c.args.made n (v.trees catalog_tree)) c.as_slice.ensures.value (c.are_beside.ensures there was (c.requires.fresh was).sound) in
+    subst (λ n. AreBeside c.args.objects.now c.args.made n (v.trees catalog_tree)) c.as_slice.ensures.value (c.in-Ok-true.ensures there was (c.requires.fresh was).sound) in
     inr (
       left.numbers.items,
       back.0,

@@ -1,4 +1,4 @@
-use Rattle.station_files.proofs.Common.{ap, arith, inl, inr, no_doubt, own_trees, settled_at, sym, ◌∙◌}
+use Rattle.station_files.proofs.Common.{ap, arith, err_from_is_err_and, inl, inr, no_doubt, own_trees, settled_at, sym, ◌∙◌}
 use Rattle.sqlite_trees.proofs.Doubt.{clean_of as sure}
 use Rattle.sqlite_store.specs.FileStore.{state as store_state, view as shown}
 use Rattle.station_files.proofs.OwnFiles.{finds_own, reads_own}
@@ -6,6 +6,11 @@ use Rattle.station_files.proofs.beside.open_beside.Goals as goal
 
 pub connect_own-requires-clause-fresh : goal.connect_own-requires-clause-fresh
 connect_own-requires-clause-fresh g c none = (c.in_ok-store.ensures.read (sure _ none)).fresh
+
+pub returns-in_err-store-clause-spared : goal.returns-in_err-store-clause-spared
+returns-in_err-store-clause-spared g c =
+    let p = err_from_is_err_and c.from_residual.result c.from_residual.ensures.1 in
+    rw (p.1, p.2) c.in_err-store.ensures.spared
 
 pub returns-in-Ok-clause-found : goal.returns-in-Ok-clause-found
 returns-in-Ok-clause-found g c now =

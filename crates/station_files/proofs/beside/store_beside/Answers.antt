@@ -1,6 +1,6 @@
 use Rattle.station_files.proofs.Common.{ap, false, is_summed, kept_schema, no_doubt, refl, state_of, summed_used, ◌∙◌}
 use Rattle.station_files.proofs.ByList.{in_any_order}
-use Rattle.station_files.proofs.Opened.{kept_files, read_by_store}
+use Rattle.station_files.proofs.Opened.{are_kept, read_by_store}
 use Rattle.station_files.proofs.beside.store_beside.Goals as goal
 
 pub returns-in-Ok-open_all-clause-read : goal.returns-in-Ok-open_all-clause-read
@@ -21,4 +21,4 @@ returns-in-Ok-open_all-clause-plain g c now =
 pub returns-in-Err-open_all-clause-spared : goal.returns-in-Err-open_all-clause-spared
 returns-in-Err-open_all-clause-spared g c still =
     let e = c.in-Err-open_all.ensures in
-    kept_files c.args.files _ c.in-Ok.unopened c.in-Ok.ensures.unopened (e.falls still) (state_of c.in-Err-open_all.left) (e.unharmed still)
+    are_kept c.args.files _ c.in-Ok.unopened c.in-Ok.ensures.unopened (e.falls still) (state_of c.in-Err-open_all.left) (e.unharmed still) c.in-Err-open_all.left refl

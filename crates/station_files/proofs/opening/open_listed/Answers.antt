@@ -1,4 +1,4 @@
-use Rattle.station_files.proofs.Common.{AreFound, IsSound, adopts_of, arith, file_state, image_of, inl, no_doubt, refl, settled_at, subst, sym, ∥∥₁_map, ◌∙◌}
+use Rattle.station_files.proofs.Common.{AreFound, IsSound, Recovers, adopts_of, ap₂, arith, err_from_is_err_and, file_trees, map, recovers_once, wanted_of, file_state, image_of, inl, no_doubt, refl, settled_at, subst, sym, ∥∥₁_map, ◌∙◌}
 use Rattle.sqlite_trees.proofs.Doubt.{clean_of as sure}
 use Rattle.sqlite_store.specs.FileStore.{state as store_state, view as shown}
 use Rattle.station_files.proofs.ByList.{in_any_order}
@@ -45,3 +45,18 @@ returns-in-Err-clause-spared g c late db may =
     let store = c.in_ok-store.store in
     let it = c.in_ok-store.ensures.listed (sure (shown store).is_clean (omega (arith, no_doubt _ late, c.in-Err.ensures.left.clean))) in
     (it.by.size, _, it.by.found, settled_at store g.met.D.Disk.seen_may_stay db it.by.is_open (c.in-Err.ensures.left.outcomes db may) ∙ sym it.fresh.clean ∙ it.by.reads)
+
+pub returns-in_err-store-clause-others : goal.returns-in_err-store-clause-others
+returns-in_err-store-clause-others g c =
+    let p = err_from_is_err_and c.from_residual.result c.from_residual.ensures.1 in
+    rw (p.1, p.2) c.in_err-store.ensures.others
+
+pub returns-in-Err-clause-others : goal.returns-in-Err-clause-others
+returns-in-Err-clause-others g c is late h =
+    let store = c.in_ok-store.store in
+    let image = image_of g.D.Disk c.args.files in
+    let it = c.in_ok-store.ensures.listed (sure (shown store).is_clean (omega (arith, no_doubt _ late, c.in-Err.ensures.left.clean))) in
+    let same = it.by.sized h.size h.held in
+    let pages = recovers_once it.by.size image (store_state store).committed h.held.pages it.by.found (subst (λ n. Recovers n image h.held.pages) same h.found) in
+    let trees = it.by.reads ∙ ap₂ (λ n p. file_trees n (map wanted_of c.args.objects.now) p) (sym same) pages in
+    c.in-Err.ensures.refused (no_doubt _ late) (c.unconnected.ensures is) h.schema (subst (IsSound h.schema) (sym trees) h.sound)

@@ -7,9 +7,9 @@ returns g c done clean sound =
     let objects = c.args.objects.now in
     let numbers = c.args.numbers.now in
     let whole = (g.S.Store.view c.args.store.now).trees catalog_tree in
-    let rows : c.in-Ok.rows.items ≡ map (take 5) whole = search rules in
+    let rows : c.in_ok-rows.rows.items ≡ map (take 5) whole = search rules in
     let there : IsTrue c.are_there.result = search rules in
-    let known : list_all (is_known objects numbers) c.in-Ok.rows.items ≡ true = search rules in
+    let known : list_all (is_known objects numbers) c.in_ok-rows.rows.items ≡ true = search rules in
     record {
       lists = c.are_there.ensures there clean sound (c.as_slice.ensures.value ∙ rows);
       apart = sym (known_taken objects numbers whole) ∙ ap (list_all (is_known objects numbers)) (sym rows) ∙ known;
