@@ -1,8 +1,7 @@
 // How long cargo has lain here: since the move that began its stay, before which nothing of the waybill was in store.
-import { bar, counted, el, groupBy, grouped, shortDay, sum, today, tonnes } from "./parts.js";
+import { bar, counted, daysSince, el, groupBy, grouped, shortDay, sum, tonnes } from "./parts.js";
 
 export const OLD = 3; // days after which cargo counts as lying long
-const DAY = 86400000;
 
 const isStored = (place) => place === "FREE" || place === "BUILT";
 const gain = ({ from, to, pieces }) => (isStored(to) - isStored(from)) * pieces;
@@ -13,13 +12,12 @@ export function stayOf(moves) {
   return before ? moves.findLast((move) => (before -= gain(move)) === 0)?.date : undefined;
 }
 
-// Whole days until today, NaN if the day is unknown.
-const daysOf = (since) => Math.round((Date.parse(today()) - Date.parse(since)) / DAY);
-export const isOld = ({ since }) => daysOf(since) >= OLD;
+// Whole days until today are NaN if the day is unknown.
+export const isOld = ({ since }) => daysSince(since) >= OLD;
 
 // How long cargo has lain here; the day alone if the desk's clock is ahead of the browser's.
 export function ageText(since) {
-  const days = daysOf(since);
+  const days = daysSince(since);
   if (Number.isNaN(days)) return "";
   return days > 0 ? el("span", { class: days >= OLD ? "old" : undefined },
     `${shortDay(since)}, ${counted(days, "day")}`) : shortDay(since);
@@ -32,7 +30,7 @@ const SPANS = [["today", 0], ["1 day", 1], ["2 days", 2], ["3 to 6 days", 3], ["
 const weightOf = ({ free, built }) => free.tenths + built.tenths;
 
 export function agePicture(rows) {
-  const spans = groupBy(rows, ({ since }) => spanOf(daysOf(since)));
+  const spans = groupBy(rows, ({ since }) => spanOf(daysSince(since)));
   const listed = SPANS.filter(([, from]) => from === 0 || spans.has(from))
     .map(([title, from]) => ({ title, from, rows: spans.get(from) ?? [] }));
   const most = Math.max(1, ...listed.map((span) => sum(span.rows, weightOf)));

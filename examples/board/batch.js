@@ -1,20 +1,22 @@
 // A list in which several waybills are ticked, and one command is sent for each of them, one after another.
-import { once, sendKept, showAnswer, unansweredAt } from "./forms.js";
-import { el, fill, waybillLink } from "./parts.js";
-import { picked } from "./table.js";
+import { doubtsOf, isMeant, once, sendKept, showAnswer, unansweredAt } from "./forms.js";
+import { el, fill } from "./parts.js";
+import { marked, picked, totalCell } from "./table.js";
 import { AGAIN, FIELDS } from "./words.js";
 
-// `verb` is what is sent for a row; its place is the verb, `about` and the waybill. `amount` names the field of the
-// pieces, `most` says how many a row has, and `body` makes the members of a command beside these two.
-export function makeBatch({ id, verb, about, amount, does, most, columns, body, pick }) {
+// `acts` are what is sent for a row, each with its verb, the field of the pieces, what its button says, and a warning
+// if it must be pressed twice; the place of a command is the verb, `about` and the waybill. `most` says how many pieces
+// a row has, and `body` makes the members of a command beside these two. `paper` makes the head on paper, `total` the
+// last row.
+export function makeBatch({ id, acts, about, label, most, columns, body, pick, paper, total }) {
   const chosen = new Map(); // the waybills that are ticked, and the pieces of each as they were typed
   const said = new Map(); // what the desk answered, by waybill
   const list = el("div", { class: "scroll" });
-  const button = el("button", { class: "send" });
+  const buttons = acts.map(({ verb }, place) => el("button", { class: place ? "plain" : "send", id: `${id}-${verb}` }));
   const all = el("button", { type: "button", class: "plain" }, "Tick all");
   const answer = el("output", { class: "answer" });
-  const parts = { button, busy: false };
-  const form = el("form", { id, novalidate: "" }, list, el("div", { class: "row inline" }, button, all), answer);
+  const form = el("form", { id, class: "batch", novalidate: "" }, list,
+    el("div", { class: "row inline" }, ...buttons, all), answer);
   let rows = [];
   let none = "";
 
@@ -26,28 +28,35 @@ export function makeBatch({ id, verb, about, amount, does, most, columns, body, 
     for (const [awb, text] of ticked) chosen.set(awb, text);
     draw();
   });
+  const parts = { button: buttons[0], answer, busy: false, looked: null };
   form.addEventListener("submit", (event) => {
     event.preventDefault();
-    if (chosen.size) once(parts, sendAll);
+    if (parts.busy) return;
+    const place = Math.max(0, buttons.indexOf(event.submitter));
+    parts.button = buttons[place];
+    if (chosen.size) once(parts, () => sendAll(acts[place]));
     else showAnswer(answer, "warn", ["Nothing is ticked."]);
   });
 
-  const placeOf = (awb) => `${verb} ${about} ${awb}`;
+  const placeOf = (verb, awb) => `${verb} ${about} ${awb}`;
 
   // What was sent before the page was loaded again, and had no answer, is ticked again.
   function takeUnanswered(row) {
-    const { values, lost } = unansweredAt(placeOf(row.awb));
+    const lost = acts.map(({ verb }) => unansweredAt(placeOf(verb, row.awb))).find((each) => each.lost);
     if (!lost || chosen.has(row.awb)) return;
-    chosen.set(row.awb, values[amount]);
+    chosen.set(row.awb, Object.values(lost.values)[0]);
     said.set(row.awb, ["bad", [AGAIN]]);
   }
 
-  async function sendAll() {
+  async function sendAll({ verb, amount, warns }) {
     const done = [];
+    const rowOfAwb = (awb) => rows.find((each) => each.awb === awb);
+    const bodyOf = ([awb, text]) => ({ awb, ...body(rowOfAwb(awb)), [amount]: FIELDS[amount].send(text) });
+    const doubts = [...new Set([...chosen].flatMap((each) => doubtsOf(bodyOf(each))))];
+    if (!isMeant(parts, JSON.stringify([verb, ...chosen]), [...doubts, ...(warns ? [warns] : [])])) return;
     for (const [awb, text] of [...chosen]) {
-      const row = rows.find((each) => each.awb === awb);
-      const sent = { awb, ...body(row), [amount]: FIELDS[amount].send(text) };
-      const { mark, lines } = await sendKept(placeOf(awb), verb, sent, { [amount]: text },
+      const sent = bodyOf([awb, text]);
+      const { mark, lines } = await sendKept(placeOf(verb, awb), verb, sent, { [amount]: text },
         { sent: [verb, ...Object.values(sent)].join(" "), at: location.hash });
       said.set(awb, [mark, lines]);
       if (mark === "bad") break;
@@ -74,40 +83,46 @@ export function makeBatch({ id, verb, about, amount, does, most, columns, body, 
   }
 
   function mark() {
-    button.textContent = `${does} ${chosen.size || "what is ticked"}`.trim();
+    acts.forEach(({ does }, place) => { buttons[place].textContent = `${does} ${chosen.size || "what is ticked"}`; });
     all.textContent = rows.length && rows.every(({ awb }) => chosen.has(awb)) ? "Tick none" : "Tick all";
   }
 
   function rowOf(row) {
     const box = el("input", { type: "checkbox", id: `${id}-${row.awb}` });
-    const count =
-      el("input", { id: `${id}-${row.awb}-${amount}`, inputmode: "numeric", autocomplete: "off", class: "few" });
+    const count = el("input",
+      { id: `${id}-${row.awb}-${acts[0].amount}`, inputmode: "numeric", autocomplete: "off", class: "few" });
     box.checked = chosen.has(row.awb);
     count.value = chosen.get(row.awb) ?? String(most(row));
     box.addEventListener("change", () => tick(row, box.checked, count));
     count.addEventListener("input", () => {
       box.checked = count.value !== "";
-      count.setAttribute("aria-invalid", String(!FIELDS[amount].fits(count.value)));
+      count.setAttribute("aria-invalid", String(!FIELDS[acts[0].amount].fits(count.value)));
       tick(row, box.checked, count);
     });
     const [kind] = said.get(row.awb) ?? [];
     return picked(el("tr", { class: chosen.has(row.awb) && kind ? `${kind}-row` : undefined },
-      el("td", {}, box, el("label", { for: box.id, class: "hidden" }, `Tick ${row.awb}`)),
-      el("td", {}, waybillLink(row.awb)),
-      ...columns.map(({ cell, amount: right }) => el("td", { class: right ? "amount" : undefined }, cell(row))),
-      el("td", { class: "amount" }, el("label", { for: count.id, class: "hidden" }, `Pieces of ${row.awb}`), count)),
+      el("td", { class: "act noprint" }, box, el("label", { for: box.id, class: "hidden" }, `Tick ${row.awb}`)),
+      ...columns.map((column) => el("td", marked(column), column.cell(row))),
+      el("td", { class: "amount act noprint" },
+        el("label", { for: count.id, class: "hidden" }, `Pieces of ${row.awb}`), count)),
     pick && (() => pick(row)));
+  }
+
+  function tableOf() {
+    const heads = columns.map((column) => el("th", { scope: "col", ...marked(column) }, column.head));
+    const head = el("tr", {}, el("th", { class: "noprint" }), ...heads,
+      el("th", { scope: "col", class: "amount noprint" }, label ?? FIELDS[acts[0].amount].label));
+    const span = String(columns.length);
+    const onPaper = paper ? [el("tr", { class: "paper" }, el("th", { colspan: span }, paper()))] : [];
+    const foot = total ? [el("tfoot", {}, el("tr", {}, el("td", { class: "noprint" }),
+      ...total(rows).map(totalCell(columns)), el("td", { class: "noprint" })))] : [];
+    return el("table", {}, el("thead", {}, ...onPaper, head), el("tbody", {}, ...rows.map(rowOf)), ...foot);
   }
 
   function draw() {
     form.classList.toggle("bare", rows.length === 0);
-    const headOf = (text, right) => el("th", { scope: "col", class: right ? "amount" : undefined }, text);
-    const heads = [headOf(""), headOf("Waybill"), ...columns.map(({ head, amount: right }) => headOf(head, right)),
-      headOf(FIELDS[amount].label, true)];
-    const table =
-      () => el("table", {}, el("thead", {}, el("tr", {}, ...heads)), el("tbody", {}, ...rows.map(rowOf)));
-    fill(list, JSON.stringify([rows.map(({ line }) => line), [...chosen], [...said], none]),
-      () => (rows.length ? table() : el("p", { class: "empty quiet" }, none)));
+    fill(list, [rows, [...chosen], [...said], none, paper?.()],
+      () => (rows.length ? tableOf() : el("p", { class: "empty quiet" }, none)));
     mark();
   }
 

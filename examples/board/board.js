@@ -7,9 +7,10 @@ import { lostCommands, sendKept } from "./forms.js";
 import * as messages from "./messages.js";
 import * as movements from "./movements.js";
 import { at, clock, el, fill } from "./parts.js";
+import * as receipt from "./receipt.js";
 import { SEARCHED, beginSearch } from "./search.js";
 import * as shed from "./shed.js";
-import { deskName, findStation, isTraining } from "./station.js";
+import { deskName, here, isTraining } from "./station.js";
 import * as stock from "./stock.js";
 import * as day from "./today.js";
 import * as waybill from "./waybill.js";
@@ -25,6 +26,7 @@ const VIEWS = {
   flights: flights.make,
   flight: flight.make,
   waybill: waybill.make,
+  receipt: receipt.make,
   stock: stock.make,
   messages: messages.make,
   telegram: messages.makeTelegram,
@@ -163,7 +165,8 @@ async function readOnce() {
     if (all || isDue(report, reading.number)) whole.push((await read(report, reading.number)).whole);
   }
   showTouch(whole.every(Boolean));
-  at("station").textContent = await findStation();
+  if (!here()) await read(REPORTS.station, reading.number);
+  at("station").textContent = here();
   showView();
   board.search.refresh();
   await board.view.also?.();

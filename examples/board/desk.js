@@ -59,113 +59,68 @@ function refusal(number, detail) {
   return lines;
 }
 
-// Reports. One is whole if its last line is `END n`, after n rows. Spaces tell the fields of a row apart.
-function reportRows(rowOf) {
-  return (text) => {
-    const lines = text.split("\n");
-    const behind = lines.pop();
-    const end = lines.pop();
-    return behind === "" && end === `END ${lines.length}` ? lines.map((line) => rowOf(line.trim().split(/ +/), line))
-                                                          : null;
-  };
-}
+// Reports: the rows of a JSON answer, whose members the views call by their names. One that is cut off doesn't parse.
+const rowsBy = (rowOf = (row) => row) => (text) => {
+  const { rows, count } = objectOf(text);
+  return Array.isArray(rows) && rows.length === count ? rows.map(rowOf) : null;
+};
 
-const tenthsOf = (weight) => Math.round(Number(weight) * 10);
-const amountOf = (pieces, weight) => ({ pieces: Number(pieces), tenths: tenthsOf(weight) });
-const routeOf = (route) => ({ origin: route.slice(0, 3), destination: route.slice(3) });
-
-const shedRow = ([since, awb, route, , free, freeWeight, , built, builtWeight, notified], line) => ({
-  line, since, awb, route, ...routeOf(route), free: amountOf(free, freeWeight), built: amountOf(built, builtWeight),
-  notified: notified === "notified",
-});
-const announcedRow = ([awb, route, pieces, weight, since, ...goods], line) => ({
-  line, awb, route, ...routeOf(route), ...amountOf(pieces, weight), since, goods: goods.join(" "),
-});
-const flightRow = ([flight, unload, waybills, pieces, weight, state], line) => ({
-  line, flight, unload, waybills: Number(waybills), ...amountOf(pieces, weight), state,
-});
-const expectedRow = ([flight, awb, route, pieces, weight, state], line) => ({
-  line, flight, awb, route, ...routeOf(route), ...amountOf(pieces, weight), state,
-});
-const irregularRow = ([awb, route, , missing, missingWeight, , found, foundWeight], line) => ({
-  line, awb, route, missing: amountOf(missing, missingWeight), found: amountOf(found, foundWeight),
-});
-const stockRow = ([prefix, first, last, count, holder, agent = ""], line) => ({
-  line, prefix, first, last, count: Number(count), holder, agent,
-});
-const moveRow = ([number, date, time, awb, from, to, pieces, weight, flight], line) => ({
-  line,
-  number: Number(number),
-  date,
-  time,
-  awb,
-  from,
-  to,
-  ...amountOf(pieces, weight),
-  flight: flight === "-" ? null : flight,
-});
-const manifestRow = ([awb, , built, builtWeight, , departed, departedWeight], line) => ({
-  line, awb, built: amountOf(built, builtWeight), departed: amountOf(departed, departedWeight),
-});
-
-// The trail has its numbers only as JSON, and that is complete if it parses.
-const trailRows = (text) => objectOf(text).rows ?? null;
+const routed = (row) => ({ ...row, route: row.origin + row.destination });
+const flown = (row) => ({ ...row, flight: `${row.flight}/${row.date}` });
 
 const objectRow = (text) => {
   const known = objectOf(text);
   return known.awb ? known : null;
 };
 
-// Messages have a line `MESSAGE number length`, and then the text of so many bytes, each a character of ASCII.
-function messageRows(text) {
-  const messages = [];
-  for (let start = 0; ;) {
-    const stop = text.indexOf("\n", start);
-    const [word, number, length] = text.slice(start, stop).split(" ");
-    if (word === "END" && Number(number) === messages.length) return messages;
-    if (word !== "MESSAGE" || stop < 0) return null;
-    start = stop + 1 + Number(length);
-    messages.push({ number: Number(number), text: text.slice(stop + 1, start) });
-  }
-}
-
 // A report: its title, its path, and what makes rows of its text. Of one with `after` the last rows are read first, and
 // then only the rows after those that were seen: rows begin with their number, from 1, and never change. At most `kept`
 // rows stay, or as many as `readOlder` has read. If the last rows of one with `deep` don't reach back to yesterday, so
 // many are read instead.
 export const REPORTS = {
-  shed: { title: "Shed", path: "/v1/reports/shed-days", rowsOf: reportRows(shedRow) },
-  announced: { title: "Announced", path: "/v1/reports/announced", rowsOf: reportRows(announcedRow) },
-  flights: { title: "Open flights", path: "/v1/reports/open-flights", rowsOf: reportRows(flightRow) },
-  expected: { title: "Expected", path: "/v1/reports/open-expected", rowsOf: reportRows(expectedRow) },
-  irregularities: { title: "Irregularities", path: "/v1/reports/irregularities", rowsOf: reportRows(irregularRow) },
-  stock: { title: "Stock", path: "/v1/reports/stock", rowsOf: reportRows(stockRow) },
-  outbox: { title: "Outbox", path: "/v1/outbox", rowsOf: messageRows },
+  station: { title: "Station", path: "/v1/station.json", rowsOf: rowsBy() },
+  shed: { title: "Shed", path: "/v1/reports/shed-days.json", rowsOf: rowsBy(routed) },
+  announced: { title: "Announced", path: "/v1/reports/announced.json", rowsOf: rowsBy(routed) },
+  flights: { title: "Open flights", path: "/v1/reports/open-flights.json", rowsOf: rowsBy(flown) },
+  expected: {
+    title: "Expected", path: "/v1/reports/open-expected.json", rowsOf: rowsBy((row) => routed(flown(row))),
+  },
+  irregularities: {
+    title: "Irregularities", path: "/v1/reports/irregularities.json", rowsOf: rowsBy(routed),
+  },
+  uneven: {
+    title: "Open irregularities", path: "/v1/reports/open-irregularities.json", rowsOf: rowsBy(routed),
+  },
+  stock: { title: "Stock", path: "/v1/reports/stock.json", rowsOf: rowsBy() },
+  outbox: { title: "Outbox", path: "/v1/outbox.json", rowsOf: rowsBy() },
   moves: {
-    title: "Last movements", path: "/v1/movements/last/400", after: (number) => `/v1/movements/after/${number}`,
-    last: (count) => `/v1/movements/last/${count}`, rowsOf: reportRows(moveRow), kept: 5000, deep: 5000,
+    title: "Last movements", path: "/v1/movements/last/400.json",
+    after: (number) => `/v1/movements/after/${number}.json`, last: (count) => `/v1/movements/last/${count}.json`,
+    rowsOf: rowsBy(), kept: 5000, deep: 5000,
   },
   trail: {
     title: "Last status messages", path: "/v1/trail/last/20.json", after: (number) => `/v1/trail/after/${number}.json`,
-    last: (count) => `/v1/trail/last/${count}.json`, rowsOf: trailRows, kept: 1000,
+    last: (count) => `/v1/trail/last/${count}.json`, rowsOf: rowsBy(), kept: 1000,
   },
 };
 
 const word = encodeURIComponent;
 export const agentReport = (agent) => ({
-  title: `Numbers of ${agent}`, path: `/v1/agents/${word(agent)}/stock`, rowsOf: reportRows(stockRow),
+  title: `Numbers of ${agent}`, path: `/v1/agents/${word(agent)}/stock.json`, rowsOf: rowsBy(),
 });
+const flightRows = (flight) => `/v1/flights/${flight.split("/").map(word).join("/")}`;
 export const manifestReport = (flight) => ({
-  title: `Manifest of ${flight}`,
-  path: `/v1/flights/${flight.split("/").map(word).join("/")}`,
-  rowsOf: reportRows(manifestRow),
+  title: `Manifest of ${flight}`, path: `${flightRows(flight)}.json`, rowsOf: rowsBy(),
+});
+export const arrivalReport = (flight) => ({
+  title: `Arrivals of ${flight}`, path: `${flightRows(flight)}/arrivals.json`, rowsOf: rowsBy(routed), isDear: true,
 });
 export const waybillReports = (awb) => ({
   waybill: { title: awb, path: `/v1/waybills/${word(awb)}`, rowsOf: objectRow },
   holder: { title: `Holder of ${awb}`, path: `/v1/stock/${word(awb)}`, rowsOf: objectRow },
-  moves: { title: `Movements of ${awb}`, path: `/v1/waybills/${word(awb)}/movements`, rowsOf: reportRows(moveRow) },
-  trail: { title: `Status messages of ${awb}`, path: `/v1/waybills/${word(awb)}/trail.json`, rowsOf: trailRows },
-  sent: { title: `Our messages of ${awb}`, path: `/v1/waybills/${word(awb)}/sent`, rowsOf: messageRows },
+  moves: { title: `Movements of ${awb}`, path: `/v1/waybills/${word(awb)}/movements.json`, rowsOf: rowsBy() },
+  trail: { title: `Status messages of ${awb}`, path: `/v1/waybills/${word(awb)}/trail.json`, rowsOf: rowsBy() },
+  sent: { title: `Our messages of ${awb}`, path: `/v1/waybills/${word(awb)}/sent.json`, rowsOf: rowsBy() },
 });
 
 // What was read last of each path: its rows, whether they came whole this time, and in which reading that was.
@@ -194,6 +149,12 @@ export async function read(report, reading) {
   return { whole: now.whole, isNew: rows !== null && rows.length > 0 && now.seen !== last.seen };
 }
 
+// The rows of a report as they are now, which nobody keeps; null if they don't come whole.
+export async function rowsNow({ path, rowsOf: made }) {
+  const { status, text } = await ask(path);
+  return status === 200 ? made(text) : null;
+}
+
 async function askDeeper(report, first, answer) {
   if (!report.deep || first !== report.path || answer.status !== 200) return answer;
   const [oldest] = report.rowsOf(answer.text) ?? [];
@@ -214,10 +175,13 @@ export async function readOlder(report) {
   if (rows) kept.set(report.path, { ...last, ...joined({ kept: rows.length }, { rows: [] }, rows) });
 }
 
-// Small reports are read each time, large ones less often: a reading takes about so many bytes of each.
-const A_READING = 12000;
+// Small reports are read each time, large ones less often: a reading takes about so many bytes of each. Dear ones, for
+// which the desk reads much and answers little, are read as seldom as the largest.
+const A_READING = 24000;
+const SELDOM = 15;
 
 export function isDue(report, reading) {
   const { size = 0, whole, reading: last } = readLast(report);
-  return !whole || report.after !== undefined || reading - last >= Math.min(15, Math.max(1, size / A_READING));
+  const wait = report.isDear ? SELDOM : Math.min(SELDOM, Math.max(1, size / A_READING));
+  return !whole || report.after !== undefined || reading - last >= wait;
 }

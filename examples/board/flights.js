@@ -3,7 +3,7 @@ import { REPORTS, rowsOf } from "./desk.js";
 import { makeList } from "./list.js";
 import { bar, card, codeField, counted, el, empty, fill, flightLink, flightOrder, flightPath, groupBy,
   grouped, isLate, kilograms, pieces, sum, today, tonnes, waybillLink } from "./parts.js";
-import { arrivals, comingBars, comingFlights, freeByPlace } from "./today.js";
+import { NONE_EXPECTED, arrivals, comingBars, comingFlights, freeByPlace } from "./today.js";
 import { FIELDS } from "./words.js";
 
 const dayOf = ({ flight }) => flight.slice(-10);
@@ -13,7 +13,7 @@ const whens = (late) => ({
   later: ["Later", (row) => dayOf(row) > today()],
 });
 
-const stateTag = (row, late) => (isLate(row.flight) ? el("span", { class: "tag warn" }, late) : row.state);
+const stateTag = (row, late) => (isLate(row.flight) ? el("span", { class: "tag warn" }, late) : "open");
 const stateOrder = (row) => `${isLate(row.flight) ? 0 : 1} ${flightOrder(row.flight)}`;
 
 const OPEN_COLUMNS = [
@@ -53,12 +53,12 @@ const dueTotals = (rows) => [...totals("All of these", counted(rows.length, "way
 export function make({ query }) {
   const load = makeList({ id: "flights", title: "Open flights", unit: "flight", wide: true, columns: OPEN_COLUMNS,
     shows: whens("Not departed"), query, hint: "flight or airport", by: OPEN_COLUMNS.length - 1,
-    keyOf: ({ line, free, most }) => `${line} ${free} ${most}`, totalOf: openTotals, none: "No flight is open." });
+    totalOf: openTotals, none: "No flight is open: name one above, and build pieces on it." });
   const come = card("Expected flights", { id: "coming" });
   const left = card("Left today", { id: "left" });
   const due = makeList({ id: "expected", title: "Expected waybills", wide: true, columns: DUE_COLUMNS,
     shows: whens("Overdue"), query, prefix: "due-", hint: "flight, number or airport", totalOf: dueTotals,
-    none: "Nothing is expected any more." });
+    none: NONE_EXPECTED });
   return {
     title: "Flights",
     node: el("div", { class: "view" }, goForm(),
@@ -91,7 +91,7 @@ function goForm() {
     field(day, "Day of the flight"), el("button", { class: "send" }, "Open"));
   form.addEventListener("submit", (event) => {
     event.preventDefault();
-    const name = flight.value.trim().toUpperCase();
+    const name = FIELDS.flight.read(flight.value).toUpperCase();
     flight.setAttribute("aria-invalid", String(!FIELDS.flight.fits(name)));
     if (FIELDS.flight.fits(name) && day.value) location.hash = flightPath(`${name}/${day.value}`);
   });

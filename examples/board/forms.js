@@ -1,14 +1,34 @@
 // The forms of the commands and of telegrams. Each form has a key of its own, which is kept until an answer settles it.
-import { ask, meaning, objectOf } from "./desk.js";
-import { drawn, el, today } from "./parts.js";
-import { AGAIN, FIELDS, TWICE, VERBS, checkDigit } from "./words.js";
+import { REPORTS, ask, meaning, objectOf, rowsOf } from "./desk.js";
+import { counted, dayMeant, dayText, daysSince, drawn, el, linked, pieces, today } from "./parts.js";
+import { AGAIN, FIELDS, LINE_FAULTS, TWICE, VERBS, checkDigit, numberOf } from "./words.js";
 
 const DOUBLE_CLICK = 500; // milliseconds after an answer in which a form isn't sent again
 
 const tell = (name) => document.dispatchEvent(new Event(name));
 
 export function showAnswer(output, mark, lines) {
-  output.replaceChildren(el("div", { class: `${mark}-answer` }, ...lines.map((line) => el("p", {}, line))));
+  output.replaceChildren(el("div", { class: `${mark}-answer` }, ...lines.map((line) => el("p", {}, ...linked(line)))));
+}
+
+// What is unusual about a command: a flight that is more than a week away, a count above what is announced.
+const A_WEEK = 7;
+
+export function doubtsOf({ awb, flight, date, counted: many }) {
+  const days = daysSince(date ?? today());
+  const away = `${counted(Math.abs(days), "day")} ${days < 0 ? "ahead" : "ago"}`;
+  const name = `${flight?.replace(/^(..)0+(?=\d{3})/, "$1")}/${date}`;
+  const row = rowsOf(REPORTS.expected).find((each) => each.awb === awb && each.flight === name);
+  return [Math.abs(days) > A_WEEK && `${flight} of ${dayText(date)} is ${away}.`,
+    row && many > row.pieces && `${awb}: ${pieces(many)} counted, ${row.pieces} announced.`].filter(Boolean);
+}
+
+// Whether to send what is unusual: the first press shows it, and the second sends it, if it is the same then.
+export function isMeant(parts, text, doubts, why = "Not sent yet.") {
+  const meant = !doubts.length || parts.looked === text;
+  parts.looked = meant ? null : text;
+  if (!meant) showAnswer(parts.answer, "warn", [why, ...doubts, TWICE]);
+  return meant;
 }
 
 // Commands without an answer that settles them. They are kept in the tab, also where the page is loaded anew.
@@ -36,15 +56,28 @@ export async function sendKept(place, verb, body, values, about) {
     sessionStorage.setItem(PLACE + place, JSON.stringify({ key, verb, body, values, about, lost }));
   keep(true);
   under.add(place);
-  const said = meaning(await ask(`/v1/act/${verb}`, {
+  const answer = await ask(`/v1/act/${verb}`, {
     method: "POST",
     headers: { "Content-Type": "application/json", "Request-Key": key },
     body: JSON.stringify(body),
-  }));
+  });
+  const said = meaning(answer);
+  if (answer.status === 400 && objectOf(answer.text).detail === "body") await addFault(said, verb, body);
   under.delete(place);
   if (said.settled) sessionStorage.removeItem(PLACE + place);
   else keep(said.mark === "bad");
   return said;
+}
+
+// Why the desk can't read a command, in its own words: it names the field first.
+async function addFault(said, verb, body) {
+  const { reason } = objectOf((await ask(`/v1/check/${verb}`, { method: "POST", body: JSON.stringify(body) })).text);
+  const [, name, words] = /^"(\w+)": (.*)$/.exec(reason ?? "") ?? [];
+  if (reason) said.lines = ["Not taken.", reason];
+  if (!FIELDS[name]) return;
+  // The desk counts tenths, and the page kilograms.
+  said.fault = { name, words: name === "tenths" ? `expected ${FIELDS.tenths.wanted}` : words };
+  said.lines = ["Not taken.", `${FIELDS[name].label}: ${said.fault.words}`];
 }
 
 // A field of a form: its label, its input, and the hint that becomes a fault where the text doesn't fit.
@@ -61,10 +94,14 @@ function makeField(spec, name, optional) {
   const row = el("div", { class: "field" }, el("label", { for: id }, label), input, hint);
   const made = { name, optional, field, input, hint, row };
   input.addEventListener("input", () => mark(made, input.value !== ""));
+  input.addEventListener("change", () => { input.value = textOf(made); });
   return made;
 }
 
-const textOf = ({ field, input }) => (field.code ? input.value.trim().toUpperCase() : input.value);
+function textOf({ field: { code, read = String }, input }) {
+  const text = read(input.value.trim());
+  return code ? text.toUpperCase() : text;
+}
 const isLeftOut = (made) => made.optional && textOf(made) === "";
 
 function mark(made, strict) {
@@ -74,9 +111,16 @@ function mark(made, strict) {
   made.hint.textContent = (made.optional ? "or nothing; " : "") + wantedOf(made, off);
 }
 
-function wantedOf({ name, field, input }, off) {
-  const awb = /^\d{3}-\d{8}$/.test(input.value) && name === "awb";
-  return off && awb ? `the check digit of this serial is ${checkDigit(input.value)}` : field.wanted;
+function wantedOf(made, off) {
+  const text = textOf(made);
+  const awb = /^\d{3}-\d{8}$/.test(text) && made.name === "awb";
+  return off && awb ? `the check digit of this serial is ${checkDigit(text)}` : made.field.wanted;
+}
+
+function markFault(made, words) {
+  made.input.setAttribute("aria-invalid", "true");
+  made.hint.classList.add("off");
+  made.hint.textContent = words;
 }
 
 // Puts back what a field begins with: what the view knows, the day, or nothing.
@@ -97,9 +141,10 @@ export function makeForm(
   const button = el("button", { class: "send" }, "Send");
   const answer = el("output", { class: "answer" });
   const said = el("p", { class: "said quiet" });
-  const parts = { spec, words, fields, fixed, prefill, place, busy: false, button, answer };
-  const form = el("form", { id: `${spec.verb}-form`, novalidate: "" }, said,
-    el("div", { class: "fields" }, ...fields.map((made) => made.row)), button, answer);
+  const parts = { spec, words, fields, fixed, prefill, place, busy: false, looked: null, button, answer };
+  const asked = el("div", { class: "asked" }, said,
+    el("div", { class: "fields" }, ...fields.map((made) => made.row)), button);
+  const form = el("form", { id: `${spec.verb}-form`, novalidate: "" }, asked, answer);
   const tellNote = () => {
     said.textContent = note(Object.fromEntries(fields.map((made) => [made.name, textOf(made)])));
   };
@@ -117,6 +162,8 @@ export function makeForm(
       for (const made of fields)
         if (made.input.value === made.given && document.activeElement !== made.input) clear(made, given);
       tellNote();
+      // What was accepted, and can't be sent again, leaves its answer.
+      asked.hidden = !applies && Boolean(answer.querySelector(".good-answer"));
       node.hidden = !applies && !answer.firstChild && !node.contains(document.activeElement);
     },
     fill(values) {
@@ -187,8 +234,12 @@ async function sendCommand(parts) {
   for (const made of fields) mark(made, true);
   const values = Object.fromEntries(fields.map((made) => [made.name, made.input.value]));
   const sent = wordsOf(parts);
-  const said = await sendKept(place, spec.verb, bodyOf(parts), values, { sent, at: location.hash });
+  const body = bodyOf(parts);
+  if (!isMeant(parts, sent, unansweredAt(place).lost ? [] : doubtsOf(body))) return;
+  const said = await sendKept(place, spec.verb, body, values, { sent, at: location.hash });
   const accepted = said.mark === "good";
+  const wrong = fields.find(({ name }) => name === said.fault?.name);
+  if (wrong) markFault(wrong, said.fault.words);
   showAnswer(answer, said.mark, accepted ? [...said.lines, sent] : said.lines);
   if (!accepted) return;
   fields.forEach((made) => clear(made, prefill()));
@@ -207,7 +258,7 @@ export function makeTelegramForm(showRead) {
   });
   const button = el("button", { class: "send" }, "Send");
   const answer = el("output", { class: "answer" });
-  const parts = { busy: false, looked: null, waiting: 0, input, hint, button, answer, showRead };
+  const parts = { busy: false, looked: null, told: {}, waiting: 0, input, hint, button, answer, showRead };
   const form = el("form", { id: "telegram-form" },
     el("div", { class: "field long" }, el("label", { for: input.id }, "Text"), input, hint), button, answer);
   input.addEventListener("input", () => {
@@ -240,31 +291,50 @@ async function look({ input, showRead, busy }) {
   if (text === input.value) showRead(text, answer);
 }
 
-// The lines of a telegram that the desk would pass over, or keep as a remark, and that may be meant.
+// The lines of a telegram that the desk would pass over, or keep as a remark, and that may be meant. They are counted
+// from the start of the text, as everywhere on the page.
 async function doubtfulLines(parts, body) {
   const answer = await ask("/v1/read", { method: "POST", body });
   parts.showRead(parts.input.value, answer);
-  const { dropped = [], passed = [], read = [] } = answer.status === 200 ? objectOf(answer.text) : {};
-  const named = [...dropped.map((line) => ({ ...line, line: "Before the message" })), ...passed, ...read];
-  return named.filter(({ doubtful }) => doubtful)
-    .map(({ line, text }) => `${Number.isInteger(line) ? `Line ${line}` : line}: ${text}`);
+  parts.told = answer.status === 200 ? objectOf(answer.text) : {};
+  const { dropped = [], passed = [], read = [] } = parts.told;
+  const named = [...dropped.map((line, place) => ({ ...line, line: place + 1 - dropped.length })), ...passed, ...read];
+  return named.filter(({ doubtful }) => doubtful).map(({ line, text }) => `Line ${line + dropped.length}: ${text}`);
 }
+
+// The faulty line of a telegram that can't be read, counted from the start of the text, and what is wrong there. Faults
+// of bytes and of length are counted so by the desk, all others from the line that names the message.
+export function faultOf(body, detail) {
+  const [number, fault] = detail.split(" ");
+  const lines = body.split(/\r?\n/);
+  const start =
+    fault === "byte" || fault === "long" ? 0 : Math.max(0, lines.findIndex((line) => /^(FWB|FFM|FSU)\//.test(line)));
+  const line = start + Number(number);
+  const awb = numberOf(lines[line - 1]?.slice(0, 12) ?? "");
+  const digit = fault === "number" ? `: of this serial it is ${checkDigit(awb)}` : "";
+  return { line, words: `${LINE_FAULTS[fault] ?? fault}${digit}` };
+}
+
+// What a telegram is about: the flight of an FFM, the waybill of an FWB or FSU.
+const aboutOf = ({ kind, flight, date, awb, read = [] }) =>
+  (kind === "FFM" ? `${flight}/${dayMeant(date)}` : awb ?? read[0]?.awb);
 
 // A telegram with such a line is sent on a second press, if it is the same then.
 async function sendTelegram(parts) {
   clearTimeout(parts.waiting);
   const body = wireText(parts.input.value);
   const doubts = parts.looked === body ? [] : await doubtfulLines(parts, body);
-  if (doubts.length) {
-    parts.looked = body;
-    showAnswer(parts.answer, "warn", ["Not sent yet: the desk would pass over what may be meant.", ...doubts, TWICE]);
-    return;
-  }
-  const said = meaning(await ask("/v1/telegrams", { method: "POST", body }));
-  showAnswer(parts.answer, said.mark, said.lines);
+  if (!isMeant(parts, body, doubts, "Not sent yet: the desk would pass over what may be meant.")) return;
+  const answer = await ask("/v1/telegrams", { method: "POST", body });
+  const said = meaning(answer);
+  const { refused, detail } = objectOf(answer.text);
+  const fault = refused === 301 && detail ? faultOf(body, detail) : null;
+  if (fault) said.lines[1] = `Line ${fault.line}: ${fault.words}`;
+  const about = said.mark === "good" && aboutOf(parts.told);
+  showAnswer(parts.answer, said.mark, about ? [...said.lines, `See ${about}`] : said.lines);
   if (said.mark !== "good") return;
-  parts.looked = null;
   parts.input.value = "";
+  parts.showRead("", null);
   markTelegram(parts);
 }
 

@@ -2,6 +2,7 @@
 import { card, clock, counted, dayText, el, empty, grouped, today } from "./parts.js";
 import { deskName, here } from "./station.js";
 import { makeTable } from "./table.js";
+import { numberOf } from "./words.js";
 
 // Keeps a filter in the address, so that Back and a bookmark find it again.
 export function keepInAddress(values) {
@@ -17,17 +18,23 @@ export const paperHead = (title, ...more) => [
   `${title} · ${deskName()} ${here() || "(airport not known)"}`,
   `printed ${dayText(today())}, ${clock().slice(0, 5)}`, ...more].filter(Boolean).join(" · ");
 
+// On paper: lines to sign on.
+export const signLines = (...texts) =>
+  el("div", { class: "signatures onpaper" }, ...texts.map((text) => el("div", {}, el("span", {}, text))));
+
 export function printButton() {
   const button = el("button", { type: "button", class: "plain noprint" }, "Print");
   button.addEventListener("click", () => window.print());
   return button;
 }
 
+const wordsOf = (row) => Object.values(row).filter((each) => typeof each === "string").join(" ");
+
 // `shows` are choices of rows: a name for the address, its title, and which rows it takes. `wanted` may take further
 // rows away, and `words` says so on paper. `textOf` is what the text of the filter is looked for in, `prefix` begins
 // the names of the filter in the address.
 export function makeList({ id, title, unit = "waybill", columns, shows = {}, query, none, wide, by, down, pick,
-  hint = "number or airport", prefix = "", keyOf = ({ line }) => line, textOf = ({ line }) => line,
+  hint = "number or airport", prefix = "", keyOf = (row) => JSON.stringify(row), textOf = wordsOf,
   wanted = () => true, words = () => "", totalOf = () => [], shown = () => {} }) {
   const choices = { all: ["All", () => true], ...shows };
   const names = { text: `${prefix}with`, show: `${prefix}show` };
@@ -37,14 +44,14 @@ export function makeList({ id, title, unit = "waybill", columns, shows = {}, que
     makeTable({ id, title, columns, keyOf, by, down, pick, printHead: el("tr", { class: "paper" }, paper) });
   const body = card(title, { wide });
   const controls = filterRow({ id, hint, filter, choices, changed: draw });
-  const nothing = el("div", { class: "none" });
+  const nothing = el("div", { class: "nothing" });
   let all = [];
   let last = null;
   body.head.append(printButton());
   body.body.append(controls.node, el("div", { class: "scroll" }, table.node), nothing);
 
   function isWanted(row) {
-    const text = filter.text.trim().toUpperCase();
+    const text = numberOf(filter.text.trim().toUpperCase());
     return choiceOf()[1](row) && wanted(row) && (!text || textOf(row).toUpperCase().includes(text));
   }
 
@@ -66,7 +73,7 @@ export function makeList({ id, title, unit = "waybill", columns, shows = {}, que
     body.note.textContent =
       (rows.length < all.length ? `${grouped(rows.length)} of ` : "") + counted(all.length, unit);
     table.node.hidden = rows.length === 0;
-    nothing.replaceChildren(...(rows.length ? [] : [empty(all.length ? "No row is like that." : none)]));
+    nothing.replaceChildren(...(rows.length ? [] : [all.length ? empty("No row is like that.") : empty(none)]));
     paper.textContent = paperHead(title, filterWords(), counted(rows.length, unit));
     shown(rows);
   }

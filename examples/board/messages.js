@@ -1,6 +1,6 @@
 // Messages: those in the outbox, the last that arrived, and a telegram that is read before it is taken.
 import { REPORTS, objectOf, rowsOf, meaning } from "./desk.js";
-import { makeForm, makeTelegramForm, openForm, specOf } from "./forms.js";
+import { faultOf, makeForm, makeTelegramForm, openForm, specOf } from "./forms.js";
 import { makeList } from "./list.js";
 import { olderButton } from "./movements.js";
 import { card, counted, el, empty, fill, grouped, kilograms, waybillLink } from "./parts.js";
@@ -125,31 +125,24 @@ function readPart(body, answer) {
   if (!answer) return empty("Paste an FWB, FFM or FSU: its lines are shown here before anything is taken.");
   const told = objectOf(answer.text);
   if (answer.status === 200) return [readHead(told), lineTable(body, told)];
-  const lines = meaning(answer).lines.map((line) => el("p", {}, line));
+  const lines = meaning(answer).lines.slice(0, 1).map((line) => el("p", {}, line));
   return [
     el("div", { class: "answer" }, el("div", { class: "warn-answer" }, ...lines)),
-    ...(told.refused === 301 ? [faultLines(body, told.detail)] : [])
+    ...(told.refused === 301 ? [faultLines(body, faultOf(body, told.detail))] : [])
   ];
 }
 
-// The text of a telegram that can't be read, with its faulty line marked. Faults of bytes and of length count from the
-// start of the text, all others from the line that names the message.
-function faultLines(body, detail) {
-  const [number, fault] = detail.split(" ");
-  const lines = linesOf(body.trimEnd());
-  const start =
-    fault === "byte" || fault === "long" ? 0 : Math.max(0, lines.findIndex((line) => /^(FWB|FFM|FSU)\//.test(line)));
-  return el("ol", { class: "lines" }, ...lines.map((line, place) => {
-    const isFault = place + 1 === start + Number(number);
-    return el("li", { class: isFault ? "doubtful" : "frame" }, el("code", {}, line),
-      el("span", {}, isFault ? `the fault: ${fault}` : ""));
-  }));
-}
+// The text of a telegram that can't be read, with its faulty line marked.
+const faultLines = (body, fault) => el("ol", { class: "lines" }, ...linesOf(body.trimEnd()).map((line, place) => {
+  const isFault = place + 1 === fault.line;
+  return el("li", { class: isFault ? "doubtful" : "frame" }, el("code", {}, line),
+    el("span", {}, isFault ? fault.words : ""));
+}));
 
 function readHead({ kind, flight, date, loaded, part, awb, read, doubtful }) {
   const about = kind === "FFM" ? `${flight}/${date} from ${loaded}, part ${part}` : awb ?? "";
   return el("p", { class: doubtful ? "verdict warn" : "verdict good" }, el("b", {}, kind),
-    ` ${about}: ${counted(read.length, "line")} read`,
+    `${about && ` ${about}`}: ${counted(read.length, "line")} read`,
     doubtful ? "; a line may be meant and isn't read: look at what is marked." : ".");
 }
 

@@ -19,7 +19,10 @@ const COLUMNS = [
   { head: "Waybill", cell: (row) => waybillLink(row.awb), sort: (row) => row.awb },
   { head: "Pieces", amount: true, cell: (row) => row.pieces, sort: (row) => row.pieces },
   { head: "kg", amount: true, cell: (row) => kilograms(row.tenths), sort: (row) => row.tenths },
-  { head: "What happened", cell: (row) => moveText(row), sort: ({ from, to, flight }) => `${from} ${to} ${flight}` },
+  {
+    head: "What happened", kind: "words", cell: (row) => moveText(row),
+    sort: ({ from, to, flight }) => `${from} ${to} ${flight}`,
+  },
 ];
 
 const totalOf = (rows) => ["", "All of these", "", "", grouped(sum(rows, (row) => row.pieces)),

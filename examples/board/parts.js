@@ -15,8 +15,21 @@ export const el = (tag, attributes = {}, ...children) => filled(document.createE
 export const drawn = (tag, attributes = {}, ...children) =>
   filled(document.createElementNS("http://www.w3.org/2000/svg", tag), attributes, children);
 
-// Texts.
-export const clock = () => new Date().toLocaleTimeString("en-GB");
+// Texts. Days and times are those of the desk's zone, if the page's head names it, or else the browser's.
+const timeZone = zoneOf(document.querySelector("meta[name=zone]")?.content.trim());
+const DAYS = new Intl.DateTimeFormat("sv-SE", { timeZone });
+const IN_WORDS =
+  new Intl.DateTimeFormat("en-GB", { day: "numeric", month: "short", year: "numeric", timeZone: "UTC" });
+
+function zoneOf(name) {
+  try {
+    return name && new Intl.DateTimeFormat("sv-SE", { timeZone: name }) ? name : undefined;
+  } catch {
+    return undefined;
+  }
+}
+
+export const clock = () => new Date().toLocaleTimeString("en-GB", { timeZone });
 export const kilograms = (tenths) => (tenths / 10).toFixed(1);
 export const grouped = (number) => number.toLocaleString("en-GB");
 export const tonnes = (tenths) => (tenths < 100000 ? `${grouped(Math.round(tenths / 10))} kg`
@@ -24,23 +37,34 @@ export const tonnes = (tenths) => (tenths < 100000 ? `${grouped(Math.round(tenth
 export const counted = (number, one, many = `${one}s`) => `${grouped(number)} ${number === 1 ? one : many}`;
 export const pieces = (number) => counted(number, "piece");
 
-export function today() {
-  const now = new Date();
-  return [now.getFullYear(), now.getMonth() + 1, now.getDate()].map((part) => String(part).padStart(2, "0")).join("-");
-}
+export const today = () => DAYS.format(new Date());
+const DAY = 86400000;
+export const daysSince = (day) => Math.round((Date.parse(today()) - Date.parse(day)) / DAY);
 
 // A day as people write it: 28 Nov 2026.
 export function dayText(day) {
   const date = new Date(day + "T" + "00:00Z");
-  return Number.isNaN(date.getTime()) ? day
-    : date.toLocaleDateString("en-GB", { day: "numeric", month: "short", year: "numeric", timeZone: "UTC" });
+  return Number.isNaN(date.getTime()) ? day : IN_WORDS.format(date);
 }
 
 // A flight's day is the end of its name.
 export const isLate = (flight) => flight.slice(-10) < today();
 export const flightOrder = (flight) => flight.split("/").reverse().join(" ");
 
-export const shortDay = (day) => (day === today() ? "today" : dayText(day).replace(/ \d+$/, ""));
+// Without its year where that is this one.
+export const shortDay = (day) => (day === today() ? "today"
+  : day.slice(0, 4) === today().slice(0, 4) ? dayText(day).replace(/ \d+$/, "") : dayText(day));
+
+const MONTHS = ["JAN", "FEB", "MAR", "APR", "MAY", "JUN", "JUL", "AUG", "SEP", "OCT", "NOV", "DEC"];
+export const dayAndMonth = (day) => `${day.slice(-2)}${MONTHS[Number(day.slice(5, 7)) - 1]}`;
+
+// The day that a telegram means, such as 12JAN: the nearest one.
+export function dayMeant(text) {
+  const year = Number(today().slice(0, 4));
+  const month = String(MONTHS.indexOf(text.slice(2, 5)) + 1).padStart(2, "0");
+  const days = [year - 1, year, year + 1].map((each) => `${each}-${month}-${text.slice(0, 2)}`);
+  return days.sort((one, other) => Math.abs(daysSince(one)) - Math.abs(daysSince(other)))[0];
+}
 
 // Sums over rows.
 export const sum = (rows, amount) => rows.reduce((all, row) => all + amount(row), 0);
@@ -63,6 +87,18 @@ export const waybillLink = (awb) => el("a", { class: "number-link", href: waybil
 export function flightLink(flight) {
   const [name, day] = flight.split("/");
   return el("a", { href: flightPath(flight), title: flight }, name, " ", el("span", { class: "quiet" }, shortDay(day)));
+}
+
+// A text with links: its waybills, its flights with their days, and the views that it names.
+const LINKED = new RegExp("(\\d{3}-\\d{8})|([A-Z\\d]{2}\\d{1,4}[A-Z]?/\\d{4}-\\d\\d-\\d\\d)|" +
+  "(?<=\\b(?:in|under) )(Movements|Flights|Telegram|Stock)\\b");
+
+export function linked(text) {
+  const found = LINKED.exec(text);
+  if (!found) return [text];
+  const [all, awb, flight, view] = found;
+  const href = awb ? waybillPath(awb) : flight ? flightPath(flight) : `#/${view.toLowerCase()}`;
+  return [text.slice(0, found.index), el("a", { href }, all), ...linked(text.slice(found.index + all.length))];
 }
 
 // A field for a code, such as an airport's, in capital letters.
@@ -116,7 +152,7 @@ function markOf(node, active) {
   return href ? `a[href="${CSS.escape(href)}"]` : null;
 }
 
-export const empty = (text) => el("p", { class: "empty quiet" }, text);
+export const empty = (text) => el("p", { class: "empty quiet" }, ...linked(text));
 
 // A row of a list of bars: who or what, its bar, and its numbers.
 export const barRow = (who, amounts, most, ...what) =>

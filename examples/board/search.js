@@ -2,7 +2,7 @@
 import { REPORTS, rowsOf } from "./desk.js";
 import { at, counted, el, flightPath, shortDay, today, waybillPath } from "./parts.js";
 import { holdings } from "./stock.js";
-import { FIELDS, VERBS, isNumber } from "./words.js";
+import { FIELDS, VERBS, isNumber, numberOf } from "./words.js";
 
 const MOST = 12;
 export const SEARCHED =
@@ -18,9 +18,8 @@ function findAll(typed) {
 }
 
 function wholeNumber(text) {
-  const digits = text.replace(/[-\s]/g, "");
-  const awb = `${digits.slice(0, 3)}-${digits.slice(3)}`;
-  return /^\d{11}$/.test(digits)
+  const awb = numberOf(text);
+  return /^\d{3}-\d{8}$/.test(awb)
     ? [{ href: waybillPath(awb), name: awb, what: isNumber(awb) ? "waybill" : "wrong check digit" }]
     : [];
 }
@@ -49,7 +48,8 @@ function withPrefix(text) {
     .map((awb) => ({ href: waybillPath(awb), name: awb, what: "perhaps; not read yet" }));
 }
 
-function flights(text) {
+function flights(typed) {
+  const text = FIELDS.flight.read(typed);
   const isLike = ({ flight }) => flight && (flight.startsWith(text) || flight.split("/")[0].endsWith(text));
   const open =
     rowsOf(REPORTS.flights).filter(isLike).map(({ flight, unload }) => flightOf(flight, `open, to ${unload}`));

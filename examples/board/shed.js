@@ -5,13 +5,14 @@ import { keepInAddress, makeList } from "./list.js";
 import { bar, card, counted, el, empty, fill, groupBy, grouped, kilograms, pieces, sum, today,
   tonnes, waybillLink } from "./parts.js";
 import { here, isHere } from "./station.js";
-import { isUnnotified } from "./today.js";
+import { isLater, readNotices, untold } from "./notices.js";
 
 const SHOWS = {
   free: ["With free pieces", (row) => row.free.pieces > 0],
   built: ["With built pieces", (row) => row.built.pieces > 0],
   out: ["Outbound", (row) => !isHere(row.destination)],
-  unnotified: ["Not notified", isUnnotified],
+  unnotified: ["Not notified", (row) => untold(row) > 0],
+  later: ["Came after the notification", isLater],
   notified: ["Notified, not delivered", (row) => row.notified],
   old: [`${OLD} days or more`, isOld],
 };
@@ -23,9 +24,14 @@ const COLUMNS = [
   { head: "kg", amount: true, cell: (row) => kilograms(row.free.tenths), sort: (row) => row.free.tenths },
   { head: "Built", amount: true, cell: (row) => row.built.pieces, sort: (row) => row.built.pieces },
   { head: "kg", amount: true, cell: (row) => kilograms(row.built.tenths), sort: (row) => row.built.tenths },
-  { head: "Consignee", cell: (row) => (row.notified ? "notified" : "-"), sort: (row) => (row.notified ? 0 : 1) },
-  { head: "Here since", kind: "since", cell: (row) => ageText(row.since), sort: (row) => row.since },
+  { head: "Consignee", kind: "words", cell: toldText, sort: (row) => (row.notified ? untold(row) : Infinity) },
+  { head: "Here since", kind: "words", cell: (row) => ageText(row.since), sort: (row) => row.since },
 ];
+
+function toldText(row) {
+  if (isLater(row)) return el("span", { class: "old" }, `${grouped(untold(row))} came later`);
+  return row.notified ? "notified" : "-";
+}
 
 function totalOf(rows) {
   const all = ["free", "built"].flatMap(
@@ -36,7 +42,9 @@ function totalOf(rows) {
 export function make({ query }) {
   const to = { name: query.get("to") ?? "" };
   const list = makeList({
-    id: "shed", title: "Shed", columns: COLUMNS, shows: SHOWS, query, totalOf, none: "Nothing is in store.",
+    id: "shed", title: "Shed", columns: COLUMNS, shows: SHOWS, query, totalOf,
+    none: "Nothing is in store: pieces come in with receive, or when a flight is checked in.",
+    keyOf: (row) => JSON.stringify([row, untold(row)]),
     textOf: ({ awb, route }) => `${awb} ${route}`,
     wanted: (row) => !to.name || row.destination === to.name,
     words: () => to.name && `to ${to.name}`,
@@ -52,15 +60,15 @@ export function make({ query }) {
 
   function show() {
     const all = rowsOf(REPORTS.shed);
-    const lines = all.map(({ line }) => line).join();
     list.show(all);
-    fill(places.body, [lines, to.name, here()], () => placeRows(all, to.name, choose));
-    fill(ages.body, [lines, today()], () => (all.length ? agePicture(all) : empty("Nothing is in store.")));
+    fill(places.body, [all, to.name, here()], () => placeRows(all, to.name, choose));
+    fill(ages.body, [all, today()], () => (all.length ? agePicture(all) : empty("Nothing is in store.")));
   }
   return {
     title: "Shed",
     node: el("div", { class: "view with-side" }, list.node, el("aside", {}, ages.node, places.node)),
     needs: () => [REPORTS.shed, REPORTS.moves],
+    also: readNotices,
     show,
     whole: () => list.whole(),
   };
@@ -92,8 +100,9 @@ function placeRow({ to, free, built, pieces: many }, most, chosen, choose) {
     el("span", { class: "what", title: pieces(many) }, tonnes(free + built)));
 }
 
-// Irregularities: pieces that are missing, and pieces that were found.
+// Irregularities: pieces that are missing, and pieces that were found. Open are those that don't even out.
 const WRONG = {
+  open: ["Open", ({ awb }) => rowsOf(REPORTS.uneven).some((row) => row.awb === awb)],
   missing: ["Missing", (row) => row.missing.pieces > 0],
   found: ["Found", (row) => row.found.pieces > 0],
 };
@@ -114,19 +123,20 @@ const wrongTotals = (rows) => ["All of these", counted(rows.length, "waybill"), 
 function listView(report, query, about) {
   const list = makeList({ ...about, query });
   return {
-    title: about.title, node: el("div", { class: "view" }, list.node), needs: () => [report],
+    title: about.title, node: el("div", { class: "view" }, list.node), needs: () => [report, ...(about.also ?? [])],
     show: () => list.show(rowsOf(report)), whole: () => list.whole(),
   };
 }
 
 export const makeIrregular = ({ query }) => listView(REPORTS.irregularities, query, {
   id: "irregularities", title: "Irregularities", columns: WRONG_COLUMNS, shows: WRONG, totalOf: wrongTotals,
-  none: "No pieces are missing, and none were found.",
+  also: [REPORTS.uneven], none: "No pieces are missing, and none were found.",
 });
 
 // Announced: declared waybills of which nothing has come in.
 const ANNOUNCED = {
   out: ["Outbound", (row) => isHere(row.origin)],
+  new: [`Up to ${OLD - 1} days`, (row) => !isOld(row)],
   old: [`${OLD} days or more`, isOld],
 };
 
@@ -136,7 +146,7 @@ const ANNOUNCED_COLUMNS = [
   { head: "Pieces", amount: true, cell: (row) => row.pieces, sort: (row) => row.pieces },
   { head: "kg", amount: true, cell: (row) => kilograms(row.tenths), sort: (row) => row.tenths },
   { head: "Goods", cell: (row) => row.goods, sort: (row) => row.goods },
-  { head: "Declared", kind: "since", cell: (row) => ageText(row.since), sort: (row) => row.since },
+  { head: "Declared", kind: "words", cell: (row) => ageText(row.since), sort: (row) => row.since },
 ];
 
 const announcedTotals = (rows) => ["All of these", counted(rows.length, "waybill"),
@@ -144,5 +154,5 @@ const announcedTotals = (rows) => ["All of these", counted(rows.length, "waybill
 
 export const makeAnnounced = ({ query }) => listView(REPORTS.announced, query, {
   id: "announced", title: "Announced", columns: ANNOUNCED_COLUMNS, shows: ANNOUNCED, totalOf: announcedTotals,
-  none: "All that is declared has come.",
+  none: "Nothing is announced: all that is declared has come.",
 });

@@ -7,10 +7,10 @@ import { plainTable } from "./table.js";
 
 export const LOW = 20; // an agent with fewer numbers runs out
 
-const agentsOf = (stock) => stock.filter(({ holder }) => holder === "AGENT");
+const agentsOf = (stock) => stock.filter(({ holder }) => holder === "agent");
 
 // How many numbers each agent has.
-export const holdings = (stock) => [...groupBy(agentsOf(stock), ({ agent }) => agent)]
+export const holdings = (stock) => [...groupBy(agentsOf(stock), ({ name }) => name)]
   .map(([agent, runs]) => ({ agent, count: sum(runs, ({ count }) => count), runs: runs.length }));
 
 const countOf = (stock, holder) => sum(stock.filter((row) => row.holder === holder), ({ count }) => count);
@@ -61,7 +61,7 @@ export function holdingRow({ agent, count }, most, ...what) {
 
 function agentBars(stock) {
   const all = holdings(stock).sort((one, other) => one.count - other.count);
-  const desk = countOf(stock, "DESK");
+  const desk = countOf(stock, "desk");
   if (!all.length) return empty("No agent has numbers.");
   const most = Math.max(LOW, ...all.map(({ count }) => count));
   const rows = all.map((each) => holdingRow(each, most, `${counted(each.count, "number")} `,
@@ -69,8 +69,8 @@ function agentBars(stock) {
   return [
     el("ul", { class: "bars" }, ...rows),
     el("p", { class: "empty quiet" },
-      `The desk has ${grouped(desk)}; ${grouped(countOf(stock, "USED"))} are used, ${
-        grouped(countOf(stock, "VOID"))} void.`)
+      `The desk has ${grouped(desk)}; ${grouped(countOf(stock, "used"))} are used, ${
+        grouped(countOf(stock, "void"))} void.`)
   ];
 }
 
@@ -90,30 +90,29 @@ const RUN = [
   { head: "Count", amount: true, cell: (row) => row.count, sort: (row) => row.count },
 ];
 
-const HELD = Object.fromEntries([["desk", "With the desk", "DESK"], ["agent", "With agents", "AGENT"],
-  ["used", "Used", "USED"], ["void", "Void", "VOID"]].map(([name, title, holder]) =>
-  [name, [title, (row) => row.holder === holder]]));
+const HELD = Object.fromEntries([["desk", "With the desk"], ["agent", "With agents"], ["used", "Used"],
+  ["void", "Void"]].map(([holder, title]) => [holder, [title, (row) => row.holder === holder]]));
 
 const runTotals = (rows) => ["All of these", "", "", grouped(sum(rows, ({ count }) => count)), "", ""];
 
 const runList = (forms, query) => makeList({
   id: "stock", title: "Runs of numbers", unit: "run", wide: true, by: 1, shows: HELD, query, totalOf: runTotals,
-  hint: "prefix, serial, agent", none: "No numbers are in stock.",
-  textOf: ({ prefix, first, last, agent }) => `${prefix} ${prefix}-${first} ${prefix}-${last} ${agent}`,
-  pick: (row) => fillOpen(forms, { prefix: row.prefix, serial: row.first, count: String(row.count), agent: row.agent }),
+  hint: "prefix, serial, agent", none: "No numbers are in stock: take in those that the airline gave you.",
+  textOf: ({ prefix, first, last, name }) => `${prefix} ${prefix}-${first} ${prefix}-${last} ${name}`,
+  pick: (row) => fillOpen(forms, { prefix: row.prefix, serial: row.first, count: String(row.count), agent: row.name }),
   columns: [...RUN,
-    { head: "Holder", cell: (row) => `${row.holder} ${row.agent}`.trim(), sort: (row) => `${row.holder} ${row.agent}` },
+    { head: "Holder", cell: (row) => `${row.holder} ${row.name}`.trim(), sort: (row) => `${row.holder} ${row.name}` },
     { head: "", kind: "act noprint", cell: (row) => runButton(row, forms) }],
 });
 
 // The command that a run asks for: numbers of the desk are issued, numbers of an agent returned.
 function runButton(row, forms) {
-  const verb = { DESK: "issue", AGENT: "return" }[row.holder];
+  const verb = { desk: "issue", agent: "return" }[row.holder];
   if (!verb) return "";
   const title = `Fill the form of ${verb}: from ${row.prefix} ${row.first}`;
   const button = el("button", { type: "button", class: "plain", title }, verb === "issue" ? "Issue" : "Return");
   const values = verb === "issue" ? { prefix: row.prefix, serial: row.first, count: String(Math.min(50, row.count)) }
-    : { prefix: row.prefix, serial: row.first, count: String(row.count), agent: row.agent };
+    : { prefix: row.prefix, serial: row.first, count: String(row.count), agent: row.name };
   button.addEventListener("click", () => openForm(forms.find(({ spec }) => spec.verb === verb), values));
   return button;
 }

@@ -8,7 +8,7 @@ const A_PAUSE = 20; // milliseconds between two steps, for keys and pictures
 
 // A column has a head, what a cell shows, and what it is sorted by; `amount` stands at the right.
 const kindOf = ({ amount, kind }) => [amount && "amount", kind].filter(Boolean).join(" ");
-const marked = (column) => (kindOf(column) ? { class: kindOf(column) } : {});
+export const marked = (column) => (kindOf(column) ? { class: kindOf(column) } : {});
 
 export function makeTable({ id, title, columns, keyOf, by = 0, down = false, printHead, pick }) {
   const state = { rows: [], made: new Map(), by, down, waiting: 0 };
@@ -70,7 +70,7 @@ export function makeTable({ id, title, columns, keyOf, by = 0, down = false, pri
   };
 }
 
-const totalCell = (columns) => (text, place) =>
+export const totalCell = (columns) => (text, place) =>
   el(place ? "td" : "th", {...marked(columns[place]), scope: place ? undefined : "row" }, text);
 
 function compare(one, other) {

@@ -1,21 +1,22 @@
 // The picture of the day.
 import { OLD, agePicture, isOld } from "./ages.js";
-import { REPORTS, rowsOf } from "./desk.js";
+import { REPORTS, readLast, rowsOf } from "./desk.js";
 import { bar, card, counted, drawn, el, empty, fill, flightLink, flightOrder, groupBy, grouped, isLate, legend,
   pieces, sum, today, tonnes, warning, waybillLink } from "./parts.js";
+import { isLater, readNotices, untold } from "./notices.js";
 import { LOW, holdingRow, holdings } from "./stock.js";
-import { here } from "./station.js";
 import { plainTable } from "./table.js";
 import { moveText } from "./waybill.js";
 
 const A_LIST = 8; // rows of a list of the day; the views have them all
 const THE_LAST = 12; // movements
 
-export const isArrival = ({ from, flight }) => flight && (from === "HAND" || from === "SURPLUS");
-export const isUnnotified = (row) => row.destination === here() && row.free.pieces > 0 && !row.notified;
+const isArrival = ({ from, flight }) => flight && (from === "HAND" || from === "SURPLUS");
+export const NONE_EXPECTED = "Nothing is expected. An FFM, pasted under Telegram, says what its flight brings.";
 
 export function make() {
   const figures = el("ul", { class: "figures" });
+  const first = card("A new desk: what to do first", { id: "first" });
   const load = card("Flights that load", { id: "loading", wide: true, link: ["#/flights", "All flights"] });
   const come = card("Expected, and what has come", { id: "coming", link: ["#/announced", "Announced"] });
   const hours = card("Pieces by the hour", { id: "hours", wide: true });
@@ -27,18 +28,21 @@ export function make() {
   const cards = [load, come, waiting, wrong, agents, hours, lain, moves].map(({ node }) => node);
   return {
     title: "Today",
-    node: el("div", { class: "view today" }, figures, el("div", { class: "grid" }, ...cards)),
+    node: el("div", { class: "view today" }, first.node, figures, el("div", { class: "grid" }, ...cards)),
+    also: readNotices,
     needs:
-      () => ["shed", "flights", "expected", "irregularities", "outbox", "stock", "moves"].map((name) => REPORTS[name]),
+      () => ["shed", "flights", "expected", "uneven", "outbox", "stock", "moves"].map((name) => REPORTS[name]),
     show() {
       const day = dayNow();
       const items = figuresOf(day);
+      first.node.hidden = !day.isNew;
+      fill(first.body, "", firstSteps);
       fill(figures, items, () => items.map(figure));
       fill(load.body, [day.flights, day.shed], () => loadRows(day));
-      fill(come.body, day.coming, () => comingBars(day.coming, "Nothing is expected any more."));
+      fill(come.body, day.coming, () => comingBars(day.coming, NONE_EXPECTED));
       fill(hours.body, day.hours, () => hourChart(day));
       hours.note.textContent = day.since;
-      fill(waiting.body, day.unnotified, () => unnotifiedRows(day));
+      fill(waiting.body, [day.unnotified, day.unnotified.map(untold)], () => unnotifiedRows(day));
       fill(wrong.body, day.irregular, () => irregularRows(day));
       fill(lain.body, [day.shed, today()],
         () => (day.shed.length ? agePicture(day.shed) : empty("Nothing is in store.")));
@@ -50,16 +54,27 @@ export function make() {
 
 function dayNow() {
   const [shed, flights, expected, irregular, outbox, stock, moves] =
-    ["shed", "flights", "expected", "irregularities", "outbox", "stock", "moves"].map((name) => rowsOf(REPORTS[name]));
+    ["shed", "flights", "expected", "uneven", "outbox", "stock", "moves"].map((name) => rowsOf(REPORTS[name]));
   const now = moves.filter(({ date }) => date === today());
   return {
     shed, flights, expected, irregular, outbox, stock, moves,
     coming: comingFlights(expected, arrivals(moves, expected)),
     since: now.length && now[0] === moves[0] && now[0].number > 1 ? `since ${now[0].time}` : "",
-    hours: hoursOf(now), unnotified: shed.filter(isUnnotified), old: shed.filter(isOld),
+    hours: hoursOf(now), unnotified: shed.filter(untold), old: shed.filter(isOld),
     late: lateFlights(flights, expected),
+    isNew: [shed, flights, expected, stock, moves].every(({ length }) => length === 0)
+      && readLast(REPORTS.moves).rows !== null,
   };
 }
+
+// Where an empty station begins.
+const FIRST = [["#/stock", "Stock", "take in the waybill numbers that the airlines gave you, and issue them to agents"],
+  ["#/commands/book", "book", "declare a shipment, or paste its FWB under Telegram; then receive its pieces"],
+  ["#/telegram", "Telegram", "paste an FFM: what its flight brings is expected, and can be checked in"],
+  ["#/flights", "Flights", "name a flight, build pieces on it, and let it leave"]];
+
+const firstSteps = () => el("ol", { class: "steps" },
+  ...FIRST.map(([href, name, text]) => el("li", {}, el("a", { href }, name), `: ${text}.`)));
 
 // Flights of an earlier day that haven't departed, or of which something isn't checked in.
 const lateFlights = (flights, expected) =>
@@ -80,9 +95,9 @@ function figuresOf({ shed, flights, expected, unnotified, irregular, outbox, old
     ["Lain long", old.length, `${OLD} days or more, ${tonnes(oldWeight)}`, "#/shed?show=old", old.length > 0],
     ["Late", late.length, `of ${counted(open, "open flight")}`, "#/flights", late.length > 0],
     ["Expected", sum(expected, (row) => row.pieces), `pieces of ${counted(expected.length, "waybill")}`, "#/flights"],
-    ["Not notified", unnotified.length, `${pieces(sum(unnotified, (row) => row.free.pieces))} lie here`,
+    ["Not notified", unnotified.length, `${pieces(sum(unnotified, untold))} lie here`,
       "#/shed?show=unnotified", unnotified.length > 0],
-    ["Irregular", irregular.length, `${pieces(missing)} missing`, "#/irregularities", missing > 0],
+    ["Irregular", irregular.length, `${pieces(missing)} missing`, "#/irregularities?show=open", irregular.length > 0],
     ["Outbox", outbox.length, outbox.length ? "messages to send" : "all is confirmed", "#/messages"],
   ];
 }
@@ -121,10 +136,14 @@ function loadRow(row, free, most) {
     el("span", { class: "quiet" }, free ? ` and ${tonnes(free)} free` : " and nothing free")));
 }
 
-// The arrivals of today, and those of flights of which something isn't checked in.
-export function arrivals(moves, expected) {
+// The arrivals of today, and those of flights of which something isn't checked in; or those of one flight. What is
+// found of a flight that only loads here, such as a piece that was left behind, isn't an arrival.
+export function arrivals(moves, expected, only) {
   const open = new Set(expected.map(({ flight }) => flight));
-  return moves.filter((move) => isArrival(move) && (move.date === today() || open.has(move.flight)));
+  const brings = new Set([...open, ...moves.filter(({ from }) => from === "HAND").map(({ flight }) => flight)]);
+  const loads = new Set(moves.filter(({ from, to }) => [from, to].includes("BUILT")).map(({ flight }) => flight));
+  return moves.filter((move) => isArrival(move) && (brings.has(move.flight) || !loads.has(move.flight))
+    && (only ? move.flight === only : move.date === today() || open.has(move.flight)));
 }
 
 // What flights bring: what came by the movement book, and what isn't checked in.
@@ -185,29 +204,30 @@ function hourChart({ hours }) {
     drawn("svg", { class: "hours", viewBox: `0 0 820 ${deep}`, role: "img", "aria-label": text }, ...bars, ...marks)];
 }
 
-const byPieces = (one, other) => other.free.pieces - one.free.pieces;
+const byPieces = (one, other) => untold(other) - untold(one);
 
-function unnotifiedRows({ unnotified }) {
-  if (!unnotified.length) return empty("Every consignee is notified.");
+function unnotifiedRows({ unnotified, shed }) {
+  if (!unnotified.length) return empty(shed.length ? "Every consignee is notified." : "Nothing is in store.");
   const columns = [
     { head: "Waybill", cell: (row) => waybillLink(row.awb) }, { head: "From", cell: (row) => row.origin },
-    { head: "Pieces", amount: true, cell: (row) => row.free.pieces },
-    { head: "kg", amount: true, cell: (row) => (row.free.tenths / 10).toFixed(1) },
+    { head: "Pieces", amount: true, cell: untold },
+    { head: "", kind: "words", cell: (row) => (isLater(row) ? "came after the notification" : "") },
   ];
   return [plainTable("Not notified", columns, [...unnotified].sort(byPieces).slice(0, A_LIST)),
     ...others(unnotified.length - A_LIST, "waybill", "#/shed?show=unnotified")];
 }
 
+// Waybills of which the pieces in store and those that left aren't as many as are declared.
 function irregularRows({ irregular }) {
-  const rows = irregular.filter(({ missing }) => missing.pieces).reverse();
-  if (!rows.length) return empty("No pieces are missing.");
+  const rows = [...irregular].reverse();
+  if (!rows.length) return empty("All pieces are where they are to be.");
   const columns = [
     { head: "Waybill", cell: (row) => waybillLink(row.awb) }, { head: "Route", cell: (row) => row.route },
     { head: "Missing", amount: true, cell: (row) => row.missing.pieces },
     { head: "Found", amount: true, cell: (row) => row.found.pieces },
   ];
   return [plainTable("Irregular", columns, rows.slice(0, A_LIST)),
-    ...others(rows.length - A_LIST, "waybill", "#/irregularities?show=missing")];
+    ...others(rows.length - A_LIST, "waybill", "#/irregularities?show=open")];
 }
 
 function agentRows({ stock }) {
@@ -229,7 +249,7 @@ const MOVE_COLUMNS = [
   { head: "To", kind: "wideonly", cell: (row) => row.to },
   { head: "Pieces", amount: true, kind: "wideonly", cell: (row) => row.pieces },
   { head: "kg", amount: true, cell: (row) => (row.tenths / 10).toFixed(1) },
-  { head: "What happened", cell: (row) => moveText(row) },
+  { head: "What happened", kind: "words", cell: (row) => moveText(row) },
 ];
 
 const moveTable = (moves) => (moves.length

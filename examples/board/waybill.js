@@ -2,7 +2,9 @@
 import { ageText, stayOf } from "./ages.js";
 import { REPORTS, readLast, rowsOf, waybillReports } from "./desk.js";
 import { makeForm, specOf } from "./forms.js";
-import { card, dayText, drawn, el, empty, fill, flightLink, groupBy, kilograms, pieces, today,
+import { paperHead } from "./list.js";
+import { laterOf } from "./notices.js";
+import { card, dayText, drawn, el, empty, fill, flightLink, groupBy, kilograms, pieces, today, warning,
   waybillPath } from "./parts.js";
 import { here, isHere } from "./station.js";
 import { plainTable } from "./table.js";
@@ -41,7 +43,8 @@ export function make({ rest }) {
     show() {
       const now = waybillNow(state);
       state.now = now;
-      fill(head, [now.read, now.known, now.holder, now.since, here()], () => headOf(awb, now));
+      fill(head, [now.read, now.known, now.holder, now.since, now.later, now.places.FREE, here()],
+        () => headOf(awb, now));
       fill(where.body, [now.read, now.known, now.places, now.flows],
         () => (now.known ? [placesPicture(now), ...builtWords(now)] : empty(unknownText(awb, now))));
       fill(facts.body, [now.known, now.holder], () => factList(awb, now));
@@ -70,8 +73,12 @@ function waybillNow({ awb, reports }) {
     }
     flows[`${from} ${to}`] = (flows[`${from} ${to}`] ?? 0) + many;
   }
+  const known = readLast(reports.waybill).rows;
+  const free = known && isHere(known.destination) ? places.FREE.pieces : 0;
+  const sent = readLast(reports.sent).rows;
   return {
-    known: readLast(reports.waybill).rows,
+    known,
+    later: !known?.notified ? free : sent ? laterOf(free, sent) : 0,
     read: readLast(reports.waybill).reading > 0,
     holder: readLast(reports.holder).rows,
     moves,
@@ -81,7 +88,7 @@ function waybillNow({ awb, reports }) {
     built: Object.entries(built).filter(([, many]) => many > 0),
     trail: rowsOf(reports.trail),
     due: rowsOf(REPORTS.expected).filter((row) => row.awb === awb),
-    own: rowsOf(reports.sent),
+    own: sent ?? [],
     waiting: new Set(rowsOf(REPORTS.outbox).map(({ number }) => number)),
   };
 }
@@ -97,15 +104,19 @@ function unknownText(awb, { holder, read }) {
     : "It isn't declared here: book it, or take its FWB or FFM.";
 }
 
-function headOf(awb, { known, read, since }) {
+function headOf(awb, { known, read, since, later, places }) {
   if (!known) return [el("h1", {}, awb), el("span", { class: "tag" }, read ? "not declared here" : "asking")];
   const way = here() === known.destination ? "import" : here() === known.origin ? "export" : here() ? "transit" : "";
   return [
+    el("p", { class: "onpaper papertitle" }, paperHead(awb)),
     el("h1", {}, awb, " ", el("span", { class: "quiet" }, `${known.origin} to ${known.destination}`)),
     ...(way ? [el("span", { class: "tag" }, way)] : []),
     ...(known.notified ? [el("span", { class: "tag good" }, "notified")] : []),
+    ...warning(known.notified && later, `${pieces(later)} came after the notification`),
     ...(since ? [el("span", { class: "tag" }, "here since ", ageText(since))] : []),
     ...(known.missing[0] ? [el("span", { class: "tag bad" }, `${pieces(known.missing[0])} missing`)] : []),
+    ...(known.delivered[0] || (known.notified && places.FREE.pieces)
+      ? [el("a", { href: `#/receipt/${awb}`, class: "noprint" }, "Delivery receipt")] : []),
     el("p", { class: "big" }, el("b", {}, String(known.pieces)), " pieces ", el("b", {}, kilograms(known.tenths)),
       " kg ", known.goods)
   ];
@@ -272,8 +283,8 @@ function waybillForms(state) {
       ({ known }) => known && isFree() && (!here() || known.destination !== here())
     ],
     [form("offload", () => ({ pieces: now().built[0]?.[1] ?? "", ...on() })), ({ built }) => built.length > 0],
-    [form("notify"), ({ known }) => known && isHere(known.destination) && isFree() && !known.notified],
-    [form("deliver", some), ({ known }) => known?.notified && isFree()],
+    [form("notify", undefined, () => laterText(now())), ({ known }) => known && isHere(known.destination) && isFree()],
+    [form("deliver", some, () => laterText(now())), ({ known }) => known?.notified && isFree()],
     [form("transfer", some), ({ known }) => known && isFree() && (!here() || known.destination !== here())],
     [form("withdraw", some), ({ known }) => known && isHere(known.origin) && isFree()],
     [form("missing"), isFree],
@@ -284,8 +295,10 @@ function waybillForms(state) {
   ];
 }
 
-const flightOf = (flight = "") => (flight ? { flight: flight.split("/")[0], date: flight.split("/")[1] } : {});
+const laterText = ({ known, later }) => (known?.notified && later
+  ? `${pieces(later)} came after the last notification: notify the consignee again.` : "");
 
+const flightOf = (flight = "") => (flight ? { flight: flight.split("/")[0], date: flight.split("/")[1] } : {});
 
 const bookPrefill = (known) => (known ? {
   goods: known.goods,
