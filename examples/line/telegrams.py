@@ -5,6 +5,7 @@ know, so an answer (FNA) that quotes an FWB would act as that FWB.
 """
 import os
 import re
+from typing import List, Optional, Tuple
 
 MOST_BYTES = 65536
 READ = ("FWB", "FFM", "FSU")
@@ -22,13 +23,20 @@ LIKE_CONSIGNMENT = re.compile(r"\s*[0-9]{3}\W{0,3}[0-9]{5,10}\s*[A-Z]{3}")
 CONSIGNMENT = re.compile(r"([0-9]{3}-([0-9]{7})([0-9]))[A-Z]{6}/")
 
 
+# A line of a file: number, start, end, the line itself, and whether it has SOH, STX or ETX.
+Line = Tuple[int, int, int, str, bool, bool, bool]
+# The numbered lines of a telegram.
+Body = List[Tuple[int, str]]
+
+
 class Doubt(Exception):
     """Says why a file isn't posted."""
 
 
-def pieces(text):
-    """Returns the lines of a file: number, start, end, the line itself, and whether it has SOH, STX or ETX."""
-    number, found = 1, []
+def pieces(text: str) -> List[Line]:
+    """Returns the lines of a file."""
+    number = 1
+    found: List[Line] = []
     for match in PIECE.finditer(text):
         raw = match[0]
         if raw:
@@ -38,7 +46,7 @@ def pieces(text):
     return found
 
 
-def begins_header(lines, at):
+def begins_header(lines: List[Line], at: int) -> bool:
     """Whether a new header begins here, after a telegram without an end."""
     number, _, _, line, soh, *_ = lines[at]
     if soh or re.fullmatch(r"ZCZC( [A-Z0-9 ]+)?|=[A-Z ]+", line):
@@ -53,9 +61,13 @@ def begins_header(lines, at):
     raise Doubt(f"line {number}: it looks like a priority line in the middle of a telegram")
 
 
-def split(text):
+def split(text: str) -> List[Tuple[Body, int]]:
     """Returns the telegrams of a file: for each one its numbered lines and where it ends."""
-    lines, found, body, step, sitatex, head = pieces(text), [], None, 0, False, 0
+    lines = pieces(text)
+    found: List[Tuple[Body, int]] = []
+    body: Optional[Body] = None
+    step: Optional[int] = 0
+    sitatex, head = False, 0
     for at, (number, start, end, line, _, stx, etx) in enumerate(lines):
         if body is not None and begins_header(lines, at):
             found.append((body, start))
@@ -90,7 +102,7 @@ def split(text):
     return found
 
 
-def check(body):
+def check(body: Body) -> None:
     """Raises a doubt if the desk would pass over a line, or take one for another message's."""
     kind, consignments = body[0][1][:3], 0
     for number, line in body[1:]:
@@ -110,12 +122,27 @@ def check(body):
         raise Doubt(f"line {body[0][0]}: the telegram has {len(text_of(body))} bytes, the desk takes {MOST_BYTES}")
 
 
-def text_of(body):
+def text_of(body: Body) -> bytes:
     """Returns the bytes that are posted."""
     return "".join(f"{line}\r\n" for _, line in body).encode("latin-1")
 
 
-def read(path):
+def origin_of(data: bytes) -> Optional[str]:
+    """Returns the address that the header of a file's first telegram names as its origin, or `None`."""
+    origin: Optional[str] = None
+    is_next = False
+    for _, _, _, line, *_ in pieces(data.decode("latin-1")):
+        if MESSAGE.match(line):
+            break
+        if ORIGIN.fullmatch(line):
+            origin = line[1:8]
+        elif is_next and re.fullmatch(r"[A-Z0-9]{7}", line):
+            origin = line
+        is_next = line == "=ORIGIN"
+    return origin
+
+
+def read(path: str) -> Tuple[bytes, List[Tuple[Body, int]]]:
     """Returns the bytes of a file and its telegrams, which are fit to be posted."""
     if os.path.getsize(path) > 16 * MOST_BYTES:
         raise Doubt(f"the file has more than {16 * MOST_BYTES} bytes")

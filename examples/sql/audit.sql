@@ -1,8 +1,9 @@
 -- Each row of a station's file of version 2 that isn't lawful, with its table, its key and the reason:
 --     sqlite3 -readonly fra.db < examples/sql/audit.sql
 -- If it finds nothing it prints nothing. It is written from the table in docs/FILES.md alone, so it is a second opinion
--- on `fault 601`. It doesn't test the texts of keys, commands, telegrams, parts, flights and names, fractions in columns
--- without STRICT, nor what a place or a flight held in the middle of the book.
+-- on `fault 601`. It doesn't test the texts of keys, commands, telegrams, parts, flights and names, the counts kept
+-- under keys, fractions in columns without STRICT, nor what a place or a flight held in the middle of the book. The
+-- program's opening tests them, and names the table.
 .headers off
 .mode list
 .separator "  "
@@ -35,7 +36,7 @@ found(name, key, reason) AS (
     WHERE tenths NOT BETWEEN pieces AND 999999
   UNION ALL SELECT 'waybill2', awb, 'origin or destination isn''t three letters' FROM waybill2
     WHERE origin NOT GLOB '[A-Z][A-Z][A-Z]' OR destination NOT GLOB '[A-Z][A-Z][A-Z]'
-  UNION ALL SELECT 'waybill2', awb, 'goods have more than 15 characters, or end in a blank' FROM waybill2
+  UNION ALL SELECT 'waybill2', awb, 'goods have more than 15 characters, or end in a space' FROM waybill2
     WHERE length(goods) > 15 OR goods GLOB '* '
   UNION ALL SELECT 'waybill2', awb, 'notified isn''t 0 or 1' FROM waybill2 WHERE notified NOT IN (0, 1)
   UNION ALL SELECT 'waybill2', awb, 'since isn''t 0 or a day from 2000-01-01 to 2099-12-31' FROM waybill2
