@@ -7,6 +7,10 @@ import shutil
 import signal
 import subprocess
 import threading
+from typing import Any
+
+# A function: its module, its type or trait, and its name.
+Function = tuple[str, str, str]
 
 TOP = pathlib.Path(__file__).resolve().parents[2]
 KIT = pathlib.Path(shutil.which("rt") or "/bin/rt").resolve().parent.parent
@@ -24,15 +28,19 @@ LIMITS = re.compile(r"antt ran out of (stack|the (steps|memory) that the check o
                     r"|(outgrew the memory limit|stopped at the step limit) \(")
 
 
-def edits_of(name):
+def edits_of(name: str) -> list[str]:
     return sorted(it.name for it in (TOP / "crates" / name / "planted").glob("*.edit"))
 
 
 class Edit:
     """An edit: the texts that it makes, or why it can't be applied, and the function if it changes one body alone."""
 
-    def __init__(self, folder, name):
-        self.name, self.texts, self.why, self.function, self.lines = name, {}, None, None, {}
+    def __init__(self, folder: pathlib.Path, name: str) -> None:
+        self.name = name
+        self.texts: dict[str, str] = {}
+        self.lines: dict[int, str] = {}
+        self.why: str | None = None
+        self.function: Function | None = None
         self.text = (folder / "planted" / name).read_text()
         self.path = old = ""
         for line in self.text.splitlines():
@@ -58,9 +66,9 @@ class Edit:
             self.function = functions.pop() if len(functions) == 1 else None
 
 
-def function_at(folder, path, lines, at):
+def function_at(folder: pathlib.Path, path: str, lines: list[str], at: int) -> Function | None:
     """The function whose body has that line, as its module, its impl and its name, or None. `rt fmt` laid it out."""
-    def around(start, words):
+    def around(start: int, words: str) -> tuple[int | None, str, str]:
         """The nearest item from a line upwards that ends after the edited line: its line, margin and name."""
         for up in range(start, -1, -1):
             found = re.match(rf"( *)(?:(?:pub(?:\(\w+\))?|const|unsafe|final) )*(?:{words})", lines[up])
@@ -85,27 +93,29 @@ def function_at(folder, path, lines, at):
     return module, owner, name
 
 
-def owner_of(header):
+def owner_of(header: str) -> str:
     """What rattle calls an impl or a trait: `Holder`, `HolderDisplay`, or `BookAuditRowFoldMoveRow`."""
     head, _, text = header.partition("impl")
     if "trait " in head or not text:
-        return re.search(r"trait (\w+)", header)[1]
-    known = []
+        return str(re.findall(r"trait (\w+)", header)[0])
+    known: list[str] = []
     if text.startswith("<"):
         end = next(at for at in range(len(text)) if text[:at + 1].count("<") == text[:at + 1].count(">"))
         known, text = re.findall(r"(?:^|, )(\w+)", text[1:end]), text[end + 1:]
-    trait, _, kind = re.split(r"\{| where ", text)[0].strip().rpartition(" for ")
-    kind, trait = (re.findall(r"(?<!')\b\w+\b(?!::)", it) for it in (kind, trait))
+    of_what, _, what = re.split(r"\{| where ", text)[0].strip().rpartition(" for ")
+    kind, trait = ([str(word) for word in re.findall(r"(?<!')\b\w+\b(?!::)", it)] for it in (what, of_what))
     if trait:
         return kind[0] + trait[0] + "".join(it for it in trait[1:] if it not in known)
     return "+".join(kind) if set(kind[1:]) - set(known) else kind[0]
 
 
-def path_of(crate, function):
-    return "::".join(filter(None, (crate, *function)))
+def path_of(crate: str, function: Function | None, *before: str) -> str:
+    """The path of a function, with words between its module and the rest."""
+    module, *rest = function or ("",)
+    return "::".join(filter(None, (crate, module, *before, *rest)))
 
 
-def has_goal(name, said, told):
+def has_goal(name: str, said: str, told: list[str]) -> bool:
     """Whether what is printed of a function says that a goal of its own is left, and not only one of what it calls."""
     if re.match(r"no holes|proved|depends on a hole|could not tell|(not )?assumed", said):
         return False
@@ -114,20 +124,20 @@ def has_goal(name, said, told):
     return "did not prove `" in said or any(it and not GONE.search(it[1]) for it in errors)
 
 
-def refused(crate, edits, told):
+def refused(crate: str, edits: list[Edit], told: list[str]) -> set[Edit] | None:
     """Of edits that one check tried, those whose function has a goal left, or None if the check can't be split so."""
     functions = re.findall(r"^fn (\S+?): (.*)", "\n".join(told), re.M)
     left = {name for name, said in functions if has_goal(name, said, told)}
     mine = {}
     for it in edits:
-        path, closures = path_of(crate, it.function), path_of(crate, (it.function[0], "fn", *it.function[1:])) + "::"
+        path, closures = path_of(crate, it.function), path_of(crate, it.function, "fn") + "::"
         mine[it] = {name for name, _ in functions if name == path or name.startswith(closures)}
     if not functions or left - set().union(*mine.values()):
         return None
     return {it for it in edits if mine[it] & left}
 
 
-def named(crate, edits, told):
+def named(crate: str, edits: list[Edit], told: list[str]) -> list[Edit]:
     """The edits whose lines or functions are in the errors of a check that ended before the proofs."""
     found = re.findall(r"^(?:\./)?(src/\S+?):(\d+):\d+: error", "\n".join(told), re.M)
     lines = {(path, int(line) - 1) for path, line in found}
@@ -135,10 +145,10 @@ def named(crate, edits, told):
             or any(f"function `{path_of(crate, it.function)}`" in line for line in told)]
 
 
-def verdict(edit, status, told):
+def verdict(edit: Edit, status: int, told: list[str]) -> str:
     """What a check of the whole crate with this edit alone says of it."""
-    places = [(it, re.match(r"(?:note: )?(?:\./)?(\S+?):\d+:\d+:", it)) for it in told]
-    places = [(it, found[1]) for it, found in places if found]
+    matches = [(it, re.match(r"(?:note: )?(?:\./)?(\S+?):\d+:\d+:", it)) for it in told]
+    places = [(it, str(found[1])) for it, found in matches if found]
     for it, file in places:
         said = re.search(r": error: (`[^`]*`: )?(.*)", it)
         if said and (file in edit.texts or file.startswith(("src/", "specs/"))):
@@ -152,18 +162,21 @@ def verdict(edit, status, told):
         return NAME if errors and gone == errors else REFUSED
     if status == 3 and any(LIMITS.search(it) for it in told):
         return LIMIT
-    found = next((it for it in told if re.search(r"\berror\[[\w-]+\]", it)), None)
+    found = next((it for it in told if re.search(r"\berror\[[\w-]+\]", it)), "")
     return f"{BROKEN}: {found[:160]}" if status == 1 and found else f"{NONE}: the check ended with status {status}"
 
 
 class Crate:
     """A crate, its edits, and the folder in which they are tried."""
 
-    def __init__(self, name, needs):
-        self.name, self.folder, self.below = name, TOP / "crates" / name, []
+    def __init__(self, name: str, needs: dict[str, str]) -> None:
+        self.name, self.folder = name, TOP / "crates" / name
+        self.below: list[str] = []
+        # Where its edits are tried, and the libraries below; the tool sets both.
+        self.work = self.libraries = pathlib.Path()
         self.deps = needs[name].partition(":")[2].split()
 
-        def add(it):
+        def add(it: str) -> None:
             for dep in needs[it].partition(":")[2].split():
                 if dep in needs and dep not in self.below:
                     self.below.append(dep)
@@ -177,20 +190,21 @@ class Crate:
             found.update(repr((str(file.relative_to(TOP)), file.read_bytes())).encode())
         self.sum, self.size = found.hexdigest(), sum(it.stat().st_size for it in parts[name])
 
-    def kept(self, edit):
+    def kept(self, edit: Edit) -> pathlib.Path:
         """The file that has the verdict on an edit, if there is one."""
         return KEPT / self.name / hashlib.sha256(f"{self.sum} {edit.name} {edit.text}".encode()).hexdigest()
 
-    def check(self, texts, *flags):
+    def check(self, texts: dict[str, str], *flags: Any) -> tuple[int, list[str]]:
         """Checks the crate with these texts, over what earlier checks of this run kept: its status and its lines."""
         for path, text in texts.items():
             (self.work / path).write_text(text)
         rlib = {it: self.libraries / it / "out/rlib" / f"{it}.rlib" for it in self.below}
-        words = ["--crate-name", self.name, "src/lib.rt" if (self.work / "src/lib.rt").is_file() else "src/main.rt"]
+        root = "src/lib.rt" if (self.work / "src/lib.rt").is_file() else "src/main.rt"
+        words: list[str | pathlib.Path] = ["--crate-name", self.name, root]
         for it in dict.fromkeys(["std", *self.deps]):
             words += ["--extern", f"{it}={rlib.get(it, KIT / 'rlibs' / f'{it}.rlib')}"]
-        for it in [KIT / "rlibs", *[it.parent for it in rlib.values()]]:
-            words += ["-L", f"dependency={it}"]
+        for folder in [KIT / "rlibs", *[it.parent for it in rlib.values()]]:
+            words += ["-L", f"dependency={folder}"]
         words += ["--antt-project", KIT / "rattle/logic/antt-project.json", "--logic-built", KIT / "logic_built",
                   "--links", f"{self.name}=", "--jobs", "1", "--incremental", self.work / "kept", *flags]
         for _ in range(2):
@@ -209,7 +223,7 @@ class Crate:
             shutil.copy(self.folder / path, self.work / path)
         return run.returncode, told.rstrip("\n").split("\n")
 
-    def refused(self, edits):
+    def refused(self, edits: list[Edit]) -> set[Edit]:
         """Tries edits of different functions in one check, and returns those whose own function is refused."""
         texts = {it.path: (self.folder / it.path).read_text().split("\n") for it in edits}
         for it in edits:
