@@ -282,6 +282,10 @@ ANSWERS: dict[str, tuple[str, Schema, Any]] = {
                 {"detail": "origin", "refused": 400}),
     "Unreadable": ("the telegram can't be read (301) or is of an unknown kind (302); or a bad request",
                    {"anyOf": [ref("Refused"), ref("BadRequest")]}, {"detail": "4 ending", "refused": 301}),
+    "Misread": ("the telegram can't be read (301) or is of an unknown kind (302), with the reason in words; or a bad request",
+                {"anyOf": [ref("Misread"), ref("BadRequest")]},
+                {"detail": "4 ending", "reason": "line 4 of the message: the message ends too early, or goes on after its end: an "
+                 "FFM ends with LAST or CONT, an FWB has at least two lines, an FSU three", "refused": 301}),
     "Refused": ("refused by a rule, and nothing changed. `refused` is the number of the rule, `detail` the waybill, flight or "
                 "number that it is about", ref("Refused"), {"detail": "020-12345723", "refused": 102}),
     "Unknown": ("no such path, waybill or number", ref("Fault"), {"detail": "", "refused": 404}),
@@ -311,6 +315,8 @@ SCHEMAS: dict[str, Schema] = {
     "BadHead": thing({"detail": text(enum=["head", "origin"]), "refused": BAD}),
     "Fault": thing({"detail": text(maxLength=0), "refused": {"type": "integer", "enum": [404, 405, 411, 413, 503]}}),
     "Refused": thing({"detail": text(), "refused": {"type": "integer", "enum": sorted(REFUSALS)}}),
+    "Misread": thing({"detail": text(), "reason": text(PRINTABLE, "the line, and what is wanted there"),
+                      "refused": {"type": "integer", "enum": [301, 302]}}),
     "Waybill": thing(
         {"awb": AWB, **ROUTE, **AMOUNT, "goods": text(), "since": SINCE, "notified": flag(), "taken": PAIR, "found": PAIR,
          "store": PAIR, "departed": PAIR, "delivered": PAIR, "transferred": PAIR, "missing": PAIR},

@@ -190,12 +190,29 @@ pub fn open_file(
     }
 }
 
+/// Returns the folder of a path, if it doesn't exist.
+fn missing_folder<'a>(rt: &HostRuntime, path: &'a str) -> Option<&'a str> {
+    let (folder, _) = path.rsplit_once('/')?;
+    if folder.is_empty() || fs::metadata(rt, folder).is_ok() {
+        return None;
+    }
+    Some(folder)
+}
+
+/// Writes that a file has no station, or that there is no such folder.
+fn tell_no_station(rt: &HostRuntime, path: &str) -> io::Result<()> {
+    match missing_folder(rt, path) {
+        Some(folder) => eprint!(rt; "{path}: there is no folder {folder}\n"),
+        None => eprint!(rt; "{path}: no station is in this file; init makes one\n"),
+    }
+}
+
 /// Writes the reason why a file isn't opened, after the line of its fault. The library doesn't keep
 /// the system's reason, so the file is opened again to get it.
 pub fn tell_unopened(rt: &HostRuntime, path: &str, fault: FileFault) {
     let _told = match fault {
         FileFault::Memory => Ok(()),
-        FileFault::NoStation => eprint!(rt; "{path}: no station is in this file; init makes one\n"),
+        FileFault::NoStation => tell_no_station(rt, path),
         FileFault::Busy => eprint!(rt;
             "{path}: another program has this file; wait until that ends, or ask the service that has \
             it by --at PORT\n"
@@ -206,6 +223,14 @@ pub fn tell_unopened(rt: &HostRuntime, path: &str, fault: FileFault) {
         },
         FileFault::Store(code) => eprint!(rt; "{path}: {code}\n"),
     };
+}
+
+/// Writes where to find what to do, after the line of a fault of a file without a station for the
+/// command.
+pub fn tell_help(rt: &HostRuntime, path: &str) {
+    let _told = eprint!(rt;
+        "{path}: `cargo_desk help` and the number of this fault, as in `cargo_desk help 603`, say what to do\n"
+    );
 }
 
 /// Writes how the disk failed, after the line of a store's fault: a write found no room, or a read

@@ -1,6 +1,6 @@
 //! Running a command line over its station, in memory or in a file.
 
-use crate::files::{make_file, open_file, tell_disk, tell_unopened};
+use crate::files::{make_file, open_file, tell_disk, tell_help, tell_unopened};
 use cli_call::{
     DeskFault, FileEnd, Service, end, run_file, run_gathered, serve_file, serve_kept,
     tell_undeclared,
@@ -84,8 +84,15 @@ fn warn_undeclared<F, L, E: ByteOut>(line: &Line<'_>, ended: &FileEnd<F, L>, err
     }
 }
 
-/// Returns the exit status of a call whose file was closed. If the disk failed, a line says how.
+/// The exit status of a call whose file has no station for its command.
+const NO_STATION: u8 = 4;
+
+/// Returns the exit status of a call whose file was closed. If the disk failed, a line says how; if
+/// the file has no station for the command, one says where to find what to do.
 fn end_file(rt: &HostRuntime, path: &str, ended: FileEnd<Files<File>, FileStore<File>>) -> u8 {
+    if ended.status == NO_STATION {
+        tell_help(rt, path);
+    }
     if let Err(store) = &ended.files {
         tell_disk(rt, path, store.tally());
     }

@@ -187,9 +187,11 @@ IsRefusedOrTalked until request old new result = IsRefused old new result ⊎ Ha
 abbrev pub HasTried : Until → List ℕ → Talk → Talk → Result Response AskFault → Type 0
 HasTried until request old new result = IsRefusedOrTalked until request old new result × (new.last ≡ last_of result)
 
--- the question is sent again after this fault: no whole answer was received
+-- the question is sent again after this fault: no desk answered, or its answer broke off
 abbrev pub is_vain : AskFault → Bool
 is_vain fault.Memory = false
+is_vain fault.Long = false
+is_vain fault.Foreign = false
 is_vain _ = true
 
 -- the question isn't sent again

@@ -149,7 +149,7 @@ impl AskFault {
     fn is_vain(self) -> bool
         ensures { result ≡ is_vain self }
     {
-        self != AskFault::Memory
+        !matches!(self, AskFault::Memory | AskFault::Long | AskFault::Foreign)
     }
 
     pub(crate) fn by_time(self, is_late: bool) -> AskFault
@@ -247,10 +247,11 @@ pub trait Ask {
     ghost talk: { Self → Talk };
 
     /// Asks a question in up to three tries. Each try sends the same bytes. It tries again only if
-    /// the connection was refused or broke, or the bytes received aren't a whole answer.
+    /// the connection was refused or broke, or ended before the whole answer.
     ///
-    /// `Ok` is a whole answer. Returns [`AskFault::Memory`] if memory runs out. Otherwise returns
-    /// the fault of the third try, which `talk` keeps as the outcome of the last try. The desk may
+    /// `Ok` is a whole answer. Returns [`AskFault::Memory`] if memory runs out, and
+    /// [`AskFault::Long`] or [`AskFault::Foreign`] at once if the answer isn't a desk's. Otherwise
+    /// returns the fault of the third try. `talk` keeps the outcome of the last try. The desk may
     /// have done a command or a telegram even then: ask again, under the same key.
     fn ask(&mut self, alloc: Global, question: &Question<'_>) -> Result<Response, AskFault>
         ensures { IsAnswered (most_of question.now) (request_of question.now) (talk self.old)

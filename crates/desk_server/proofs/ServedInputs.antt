@@ -15,7 +15,7 @@ use Rattle.http_desk.specs.declared.serve.Served.{Served}
 use Rattle.http_desk.specs.declared.serve.ServeFault.{ServeFault}
 use Rattle.http_desk.specs.declared.serve.ServeFault.TheVariants as serve
 use Rattle.http_desk.specs.Reply.{head_room, most_fields, head_of, HasHead, SendsWhole, Replied, IsAnsweredAs, Answers, body_reply, body_state, AsksInput, HasServed, IsAnswer, IsBrokenAt, IsPartOut, StationAfter, station_after, WorksAt}
-use Rattle.http_desk.specs.Request.{HeadAsks, refuses, looks_up, sends, head_asks, BodyAsks, bad_body, unreadable, looks_at, for_station, Posted}
+use Rattle.http_desk.specs.Request.{HeadAsks, refuses, looks_up, sends, head_asks, BodyAsks, bad_body, unreadable, looks_at, misreads, for_station, Posted}
 use Rattle.desk_server.specs.Served.{store_fault, AreAskedBy, HasServedInputs, WasWritten, IsWritten, Exchange, GoesOn, HasServedOne, HaveServed}
 use Rattle.desk_server.proofs.HeadFound.{Decided, head_found}
 
@@ -49,6 +49,7 @@ module _ (bytes : List ℕ) (s : State) (at : LocalMinute) (left : StationAfter)
   sent_went h has posted n is (bad_body f) sent status out after r works = still (subst (WorksAt left) r.state works)
   sent_went h has posted n is (unreadable refusal) sent status out after r works = still (subst (WorksAt left) r.state works)
   sent_went h has posted n is (looks_at seen) sent status out after r works = still (subst (WorksAt left) r.state works)
+  sent_went h has posted n is (misreads text) sent status out after r works = still (subst (WorksAt left) r.state works)
   sent_went h has posted n is (for_station i) sent status out after r works = inl (record {
     one = Some i;
     asks = record { head = h; has = has; posted = posted; size = n; is_sent = is; sent = sent };

@@ -1,5 +1,5 @@
 -- Once a 200 to a POST has begun.
-use Rattle.http_desk.proofs.Common.{BeginsAs200, BodyAsks, Bool, Err, Fault, GetsReport, Given, Got, HasHead, HasServed, Head, HeadAsks, IsAfterStep, IsAnswer, IsAnsweredAs, IsAskedUnder, IsPartOut, IsPosted, IsWritten, List, LocalMinute, None, Ok, Option, Place, Posted, Printout, Refusal, Replied, RequestHead, Result, SendsWhole, ServeFault, Served, Some, State, StationAfter, [], accepted, added, answer_reply, ap, arith, bad_body, body_length, body_reply, body_state, bytes_eq, codes, compact_text, drop, false, fault, for_station, gets, head_asks, head_of, if◌then◌else◌, inl, inr, is_dry, is_foreign, key_of, length, length_among, length_beside, looks_at, looks_up, nat_le, number_told, own_asks, place_asks, place_of, posted_check, posted_command, posted_look, posted_telegram, posts, print_request, refl, refusal_status, refused_data, refuses, sends, sends_body, step, subst, sym, take, true, unreadable, values_of, within_length, wrong_method, ℕ, ◌++◌, ◌==◌, ◌||◌, ◌∙◌, ◌∷◌, ◌≡◌}
+use Rattle.http_desk.proofs.Common.{BeginsAs200, BodyAsks, Bool, Err, Fault, GetsReport, Given, Got, HasHead, HasServed, Head, HeadAsks, IsAfterStep, IsAnswer, IsAnsweredAs, IsAskedUnder, IsPartOut, IsPosted, IsWritten, List, LocalMinute, None, Ok, Option, Place, Posted, Printout, Refusal, Replied, RequestHead, Result, SendsWhole, ServeFault, Served, Some, State, StationAfter, [], accepted, added, answer_reply, ap, arith, bad_body, body_length, body_reply, body_state, bytes_eq, codes, compact_text, drop, false, fault, for_station, gets, head_asks, head_of, if◌then◌else◌, inl, inr, is_dry, is_foreign, key_of, length, length_among, length_beside, looks_at, looks_up, misreads, nat_le, number_told, own_asks, place_asks, place_of, posted_check, posted_command, posted_look, posted_telegram, posts, print_request, refl, refusal_status, refused_data, refuses, sends, sends_body, step, subst, sym, take, true, unreadable, values_of, within_length, wrong_method, ℕ, ◌++◌, ◌==◌, ◌||◌, ◌∙◌, ◌∷◌, ◌≡◌}
 use Rattle.station_core.specs.Step.{detail_text}
 use Rattle.station_core.specs.declared.answer.Answer.{Answer}
 use Rattle.station_core.specs.declared.answer.Answer.TheVariants as answer
@@ -88,11 +88,12 @@ asked_told (posted_check verb) key body asks (d, checked, is) = subst IsBodyTold
 asked_told posted_telegram key body asks (inl (t, means, is)) = subst IsBodyTold (sym is) tt
 asked_told posted_telegram key body asks (inr (told, why, is)) = subst IsBodyTold (sym is) tt
 asked_told posted_look key body asks (inl (look, is_look, is)) = subst IsBodyTold (sym is) tt
-asked_told posted_look key body asks (inr (told, why, is)) = subst IsBodyTold (sym is) tt
+asked_told posted_look key body asks (inr (told, why, text, misread, is)) = subst IsBodyTold (sym is) tt
 
 -- only a dry run looks
 abbrev IsLooking : BodyAsks → Bool
 IsLooking (looks_at look) = true
+IsLooking (misreads text) = true
 IsLooking _ = false
 
 no_look : (posted : Posted) (key : Option (List ℕ)) (body : List ℕ) (asks : BodyAsks) → IsAskedUnder posted key body asks → IsLooking asks ≡ true → is_dry posted ≡ true
@@ -161,6 +162,8 @@ module _ (s : State) (at : LocalMinute) (bytes : List ℕ) (left : StationAfter)
   sent_begun h has posted n is acts (unreadable refusal) sent status out after r kept (rest, e) = absurd (no_refusal refusal.number None (refusal_body refusal) (rest, sym r.written ∙ e))
   sent_begun h has posted n is acts (looks_at look) sent status out after r kept begun =
       absurd (no_both (is_dry posted) (no_look posted (key_of (head_of h).fields) (take n (behind h)) (looks_at look) sent.asked refl) acts)
+  sent_begun h has posted n is acts (misreads text) sent status out after r kept begun =
+      absurd (no_both (is_dry posted) (no_look posted (key_of (head_of h).fields) (take n (behind h)) (misreads text) sent.asked refl) acts)
   sent_begun h has posted n is acts (for_station i) sent status out after r kept begun = (
     i,
     record { head = h; has = has; posted = posted; size = n; is_sent = is; sent = sent },

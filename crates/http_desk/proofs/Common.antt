@@ -7,7 +7,7 @@ pub use Rattle.desk_commands.specs.Command.{verb_called, word}
 pub use Rattle.desk_commands.specs.declared.verb.Verb.{Verb}
 pub use Rattle.http_desk.specs.Reply.{Answers, HasHead, IsAnsweredAs, Replied, SendsWhole, head_of, head_room, most_fields, HasCome, HasEndedAfter, HasEndedEarly, HasGrown, HasMore, HasNoHead, HasNoHeadYet, IsHistory, IsWritten, Reply, answer_reply, body_reply, body_state, fault_reply, got_reply, history_of, holder_data, holder_reply, holding_data, json_answer, json_reply, look_reply, numbered, ok_answer, ok_data, pair_data, refusal_reply, refusal_status, refused_data, report_head, status_line, unknown, waybill_data, waybill_reply, BeginsAs200, BeginsAs503, GetsReport, HasServed, HasServedShut, IsAfterStep, IsAnswer, IsBeginning, IsPartOut, IsPosted, IsUnchangedOrBroken, IsUnfinished, LacksBody, SomeOrEach, StopsServing, added, unavailable, StationAfter, WorksAt, station_after, station_at, HasAsked, HasAskedShut, IsHistoryTold, IsToldAs, IsUnavailable, TellsHistory, tells_reopen, BodyWants, HasWants, Wants, WantsNow, posted_of, wanted_reply, wanted_state, HasBegun, HasReported, HasSent, HasWritten, HasWrittenShut, IsToldFor, IsToldShut}
 pub use Rattle.http_desk.specs.Came.{BeginsWith, HasBody, HasPartBody}
-pub use Rattle.http_desk.specs.Request.{is_number, number_told, meant, HasPath, IsListed, IsName, IsPage, IsPath, IsPathOf, LeadsTo, LeadsToPage, is_path_byte, listing_path, rows_path, rows_segments, segments, IsPrinted, as_text, flight_on, in_form, is_json, numbered_rows, printout_at, row_number, rows_at, rows_named, rows_part, rows_word, waybill_rows, BodyAsks, Fault, Head, HeadAsks, IsAskedUnder, IsCheckAsked, IsSaid, bad_body, bad_data, body_length, fault, for_station, good_data, head_asks, is_foreign, is_named, key_of, length_among, length_beside, looks_at, looks_up, own_asks, place_asks, refuses, sends, sends_body, unreadable, values_of, within_length, wrong_method, Got, Place, Posted, asked_place, gets, got_history, got_holder, got_report, got_waybill, is_dry, page_at, page_named, page_part, page_word, path_of, place_of, place_told, posted_check, posted_command, posted_look, posted_telegram, posts, by_segments, by_slash, has_slash, is_slash, joined, path_text}
+pub use Rattle.http_desk.specs.Request.{is_number, number_told, meant, HasPath, IsListed, IsName, IsPage, IsPath, IsPathOf, LeadsTo, LeadsToPage, is_path_byte, listing_path, rows_path, rows_segments, segments, IsPrinted, as_text, flight_on, in_form, is_json, numbered_rows, printout_at, row_number, rows_at, rows_named, rows_part, rows_word, waybill_rows, BodyAsks, Fault, Head, HeadAsks, IsAskedUnder, IsCheckAsked, IsSaid, bad_body, bad_data, body_length, fault, for_station, good_data, head_asks, is_foreign, is_named, key_of, length_among, length_beside, looks_at, looks_up, misread_data, misreads, IsMisread, own_asks, place_asks, refuses, sends, sends_body, unreadable, values_of, within_length, wrong_method, Got, Place, Posted, asked_place, gets, got_history, got_holder, got_report, got_waybill, is_dry, page_at, page_named, page_part, page_word, path_of, place_of, place_told, posted_check, posted_command, posted_look, posted_telegram, posts, by_segments, by_slash, has_slash, is_slash, joined, path_text}
 pub use Rattle.http_desk.specs.Keys.{and_then, decoded, escaped_byte, is_unescaped, key_in, key_segment, printed_byte}
 pub use Rattle.http_desk.specs.declared.asking.Response.{Response}
 pub use Rattle.http_desk.specs.declared.serve.FaultTold.{FaultTold}

@@ -1,6 +1,6 @@
 -- Requests: their paths, keys and bodies, by the tests in their order.
 use Rattle.std.specs.Prelude.{ℕ, ◌==◌, Bool, nat_lt, if◌then◌else◌, Option, None, List, [], ◌∷◌, ◌++◌, take, drop, length, codes, ◌&&◌, nat_le, ◌-◌, ◌^◌, Some, option_map, option_and_then, true, false, ◌≡◌, ◌⊎◌, ◌||◌, not, map, Result, Ok, Err, IsUtf8, IsTrue, ◌<◌, ◌≤◌, decimal, ⊤, string_bytes}
-use Rattle.http_desk.specs.Common.{position_or_len, before_first, after_first, bytes_eq, list_all, decimal_value, where_true, result_ok, number_of, Designator, flight_of, is_agent_code, day_of, FlightDate, State, IsListing, listing_called, Form, Listing, Report, Verb, verb_called, to_ascii_lowercase, Data, boolean, string, object, member, no_members, read, compact_text, is_printable, most_bytes, TextFault, Refusal, Command, IsBodyOf, Meant, IsTelegram, telegram_fault, refusal_of, IsLook, IsLookFault, look_object, Look, is_key, Input, Keyed, Wire, is_ascii_graphic, IsNumber, number_text, IsDesignator, flight_text, day_line, word, Printout}
+use Rattle.http_desk.specs.Common.{position_or_len, before_first, after_first, bytes_eq, list_all, decimal_value, where_true, result_ok, number_of, Designator, flight_of, is_agent_code, day_of, FlightDate, State, IsListing, listing_called, Form, Listing, Report, Verb, verb_called, to_ascii_lowercase, Data, boolean, string, number, unsigned, object, member, no_members, read, compact_text, is_printable, most_bytes, TextFault, Refusal, detail_text, Command, IsBodyOf, Meant, IsTelegram, telegram_fault, refusal_of, IsLook, IsLookFault, look_object, Look, is_key, Input, Keyed, Wire, is_ascii_graphic, IsNumber, number_text, IsDesignator, flight_text, day_line, word, Printout}
 use Rattle.awb_number.specs.Number.{is_digit}
 use Rattle.reports.specs.declared.layout.Form.TheVariants as form
 use Rattle.reports.specs.declared.report.Listing.TheVariants as listing
@@ -336,12 +336,13 @@ key_among _ = None
 abbrev pub key_of : List (List ℕ × List ℕ) → Option (List ℕ)
 key_of fields = key_among (values_of (codes "request-key") fields)
 
--- The content of a body: it is refused with a word, it isn't a telegram, it is a dry run, or it is
--- an input for the station.
+-- The content of a body: it is refused with a word, it isn't a telegram, it is a dry run, a dry run
+-- of what isn't a telegram, or an input for the station.
 pub data BodyAsks : Type 0 where
   bad_body : Fault → BodyAsks
   unreadable : Refusal → BodyAsks
   looks_at : List ℕ → BodyAsks
+  misreads : List ℕ → BodyAsks
   for_station : Input → BodyAsks
 
 -- the bytes are JSON of this command of the verb
@@ -381,10 +382,23 @@ IsTelegramAsked bytes asks =
     ⊎ ((told : TextFault) × (telegram_fault bytes ≡ Some told)
     × (asks ≡ unreadable (refusal_of told)))
 
+abbrev pub misread_data : ℕ → List ℕ → List ℕ → Data
+misread_data refused detail reason =
+    object (member (codes "detail") (string detail)
+    (member (codes "reason") (string reason)
+    (member (codes "refused") (number (unsigned refused)) no_members)))
+
+-- the refusal of a telegram that can't be read, with a reason in printable ASCII
+abbrev pub IsMisread : Refusal → List ℕ → Type 0
+IsMisread refusal text =
+    (reason : List ℕ) × IsTrue (list_all is_printable reason)
+    × (text ≡ compact_text (misread_data refusal.number (detail_text refusal.detail) reason))
+
 abbrev pub IsLookAsked : List ℕ → BodyAsks → Type 0
 IsLookAsked bytes asks =
     ((look : Look) × IsLook bytes look × (asks ≡ looks_at (look_object look)))
-    ⊎ ((told : TextFault) × IsLookFault bytes told × (asks ≡ unreadable (refusal_of told)))
+    ⊎ ((told : TextFault) × IsLookFault bytes told
+    × ((text : List ℕ) × IsMisread (refusal_of told) text × (asks ≡ misreads text)))
 
 abbrev pub IsAskedUnder : Posted → Option (List ℕ) → List ℕ → BodyAsks → Type 0
 IsAskedUnder (posted_command verb) key bytes asks = IsCommandAsked verb key bytes asks
@@ -548,4 +562,5 @@ abbrev pub body_meant : Body → BodyAsks
 body_meant (body.Bad word) = bad_body (fault 400 word.now)
 body_meant (body.Unreadable refusal) = unreadable refusal
 body_meant (body.Look seen) = looks_at (string_bytes seen)
+body_meant (body.Misread text) = misreads (string_bytes text)
 body_meant (body.Input i) = for_station i

@@ -3,7 +3,7 @@
 
 ghost use Rattle.std.specs.Prelude.{◌≡◌, ◌++◌, length, IfOk, string_bytes, option_map};
 ghost use Rattle.http_desk.specs.Common.{IsStatusCode, view, compact_text, boolean, string, IsListing, given_of, inner_of, Given, nothing_given};
-ghost use Rattle.http_desk.specs.Request.{good_data, bad_data};
+ghost use Rattle.http_desk.specs.Request.{good_data, bad_data, misread_data};
 ghost use Rattle.http_desk.specs.Reply.{status_line, allow_line, history_head, json_fields, json_answer, media_type, report_head, refused_data, pair_data, holding_data, holder_data, waybill_data, IsHistory, record_line};
 ghost use Rattle.http_desk.specs.Came.{first_members, second_members, third_members, stored_members, last_members, IsBehind, ReadsText, act_fault};
 
@@ -114,6 +114,20 @@ pub(crate) fn bad_text(alloc: Global, reason: &str) -> Result<String, AllocError
     ensures { IfOk result (λ text. string_bytes text ≡ compact_text (bad_data reason.now)) }
 {
     json!(in alloc; {"good": false, "reason": reason})?.to_string(alloc)
+}
+
+pub(crate) fn misread_text(
+    alloc: Global,
+    refused: u16,
+    detail: &str,
+    reason: &str,
+) -> Result<String, AllocError>
+    ensures { IfOk result (λ text. string_bytes text ≡ compact_text
+        (misread_data refused detail.now reason.now)) }
+{
+    let detail = quoted(alloc, detail)?;
+    let reason = quoted(alloc, reason)?;
+    format!(in alloc; "{{\"detail\":{detail},\"reason\":{reason},\"refused\":{refused}}}")
 }
 
 fn holding_text(alloc: Global, awb: &str, holder: &str, name: &str) -> Result<String, AllocError>

@@ -4,12 +4,12 @@
 ghost use Rattle.std.specs.Prelude.{◌≡◌, true, false, IfOk, Option, Some, string_bytes, option_map, ℕ, IsTrue, List, MatchOption};
 ghost use Rattle.http_desk.specs.Common.{IsStatusCode, Data, compact_text, IfSound, IfWorks, KeepsSound, OnlyReads, StaysIfBroken, State, LocalMinute, detail_text, list_all, is_printable, look_object};
 ghost use Rattle.http_desk.specs.Reply.{station_after, IsHistoryTold, IsToldAs, HasAsked, HasAskedShut, IsUnavailable, TellsHistory, tells_reopen, refused_data, json_reply, look_reply, fault_reply, refusal_status, refusal_reply, waybill_reply, holder_reply};
-ghost use Rattle.http_desk.specs.Request.{meant, body_meant, IsCheckAsked, IsCommandAsked, IsLookAsked, IsSaid, IsTelegramAsked, bad_data, looks_at};
+ghost use Rattle.http_desk.specs.Request.{meant, body_meant, IsCheckAsked, IsCommandAsked, IsLookAsked, IsMisread, IsSaid, IsTelegramAsked, bad_data, looks_at};
 ghost use Rattle.desk_commands.specs.declared.command.Command.{Command as AnyCommand};
 
 use crate::answer::{
-    bad_text, good_text, history_answer, history_text, holder_text, json_answer, refused_text,
-    waybill_text,
+    bad_text, good_text, history_answer, history_text, holder_text, json_answer, misread_text,
+    refused_text, waybill_text,
 };
 use crate::printout::Printout;
 use crate::request::NOT_FOUND;
@@ -18,7 +18,7 @@ use crate::wanted::Wanted;
 use agent_stock::Holder;
 use awb_number::Awb;
 use desk_commands::{BadBody, Command, Verb, read_command};
-use input_reasons::{Look, body_fault, look_at, look_object};
+use input_reasons::{Look, body_fault, look_at, look_object, telegram_fault};
 use serde_json::Value;
 use shipment_machine::Refusal;
 use station_core::{ActFault, Answer, Input, Keeper, Key, Waybill, answer_one, detail_text};
@@ -70,11 +70,12 @@ fn fault_told(alloc: Global, fault: &FaultTold) -> Response
 }
 
 /// Returns the answer to a dry run, or [`Response::Unavailable`] if memory runs out.
-fn look_told(alloc: Global, seen: &str) -> Response
-    ensures { IsToldAs (look_reply seen.now) result }
+fn look_told(alloc: Global, status: u16, seen: &str) -> Response
+    requires { IsStatusCode status }
+    ensures { IsToldAs (look_reply status seen.now) result }
 {
-    match json_answer(alloc, 200, None, seen) {
-        Ok(text) => Response::Whole(200, text.into_bytes()),
+    match json_answer(alloc, status, None, seen) {
+        Ok(text) => Response::Whole(status, text.into_bytes()),
         Err(_) => Response::Unavailable(false),
     }
 }
@@ -227,7 +228,8 @@ pub(crate) fn ask<K: Keeper>(
     match wanted {
         Wanted::Fault(fault) => fault_told(alloc, fault),
         Wanted::Unreadable(refusal) => refusal_told(alloc, refusal),
-        Wanted::Look(seen) => look_told(alloc, seen.as_str()),
+        Wanted::Look(seen) => look_told(alloc, 200, seen.as_str()),
+        Wanted::Misread(text) => look_told(alloc, 400, text.as_str()),
         Wanted::Waybill(number) => ask_waybill(alloc, keeper, number),
         Wanted::History(number) => ask_history(alloc, keeper, number),
         Wanted::Holder(number) => ask_holder(alloc, keeper, number),
@@ -245,6 +247,8 @@ pub(crate) enum Body<'a> {
     Unreadable(Refusal),
     /// A dry run, as JSON.
     Look(String),
+    /// A dry run of a body that isn't a telegram: its refusal and the reason, as JSON.
+    Misread(String),
     /// An input for the station.
     Input(Input<'a>),
 }
@@ -334,13 +338,25 @@ fn look_seen<'a>(alloc: Global, look: &Look<'_>) -> Result<Body<'a>, AllocError>
     Ok(Body::Look(seen))
 }
 
+/// Returns the refusal of a body that isn't a telegram, and the reason, as JSON.
+fn misread(alloc: Global, refusal: &Refusal) -> Result<String, AllocError>
+    ensures { IfOk result (λ text. IsMisread refusal.now (string_bytes text)) }
+{
+    let detail = detail_text(alloc, &refusal.detail)?;
+    let reason = telegram_fault(alloc, refusal)?;
+    misread_text(alloc, refusal.number, detail.as_str(), reason.as_str())
+}
+
 /// Returns the content of a body for a dry run.
 pub(crate) fn look_asked<'a>(alloc: Global, bytes: &'a [u8]) -> Result<Body<'a>, AllocError>
     ensures { IfOk result (λ body. IsLookAsked bytes.entry.now (body_meant body)) }
 {
     match look_at(alloc, bytes) {
         Ok(look) => look_seen(alloc, &look),
-        Err(TelegramFault::Refused(refusal)) => Ok(Body::Unreadable(refusal)),
+        Err(TelegramFault::Refused(refusal)) => {
+            let text = misread(alloc, &refusal)?;
+            Ok(Body::Misread(text))
+        }
         Err(TelegramFault::Memory) => Err(AllocError),
     }
 }

@@ -30,6 +30,8 @@ pub(crate) enum Wanted<'a> {
     Unreadable(Refusal),
     /// A dry run, as JSON.
     Look(String),
+    /// A dry run of a body that isn't a telegram: its refusal and the reason, as JSON.
+    Misread(String),
     Waybill(Awb),
     History(Awb),
     Holder(Awb),
@@ -206,6 +208,7 @@ fn wanted_of(body: Body<'_>) -> Wanted<'_>
         }),
         Body::Unreadable(refusal) => Wanted::Unreadable(refusal),
         Body::Look(seen) => Wanted::Look(seen),
+        Body::Misread(text) => Wanted::Misread(text),
         Body::Input(input) => Wanted::Input(input),
     }
 }

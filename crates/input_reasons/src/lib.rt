@@ -21,5 +21,5 @@ pub use as_text::look_text;
 pub use body::{body_fault, body_reason};
 pub use look::{DroppedLine, LinePart, Look, SeenLine, look_at};
 pub use row::row_reason;
-pub use telegram::{is_unread, telegram_reason};
+pub use telegram::{is_unread, telegram_fault, telegram_reason};
 pub use tell::{look_law, tell_reason};

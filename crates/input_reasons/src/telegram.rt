@@ -1,8 +1,9 @@
 //! Why a telegram can't be read.
-ghost use Rattle.std.specs.Prelude.{◌≡◌, IfOk, codes, string_bytes};
+ghost use Rattle.std.specs.Prelude.{◌≡◌, IfOk, IsTrue, codes, string_bytes};
+ghost use Rattle.input_reasons.specs.Common.{list_all, is_printable};
 ghost use Rattle.input_reasons.specs.Reason.{IsReason, is_unread};
 
-use crate::shown::reason_line;
+use crate::shown::{printable, reason_line};
 use imp_fields::Why;
 use shipment_machine::{Detail, Refusal};
 use std::alloc::{AllocError, Global};
@@ -62,4 +63,14 @@ pub fn telegram_reason(alloc: Global, refusal: &Refusal) -> Result<String, Alloc
 {
     let words = refusal_words(alloc, refusal)?;
     reason_line(alloc, "telegram: ", words.as_str())
+}
+
+/// Returns the words of that reason alone.
+///
+/// Returns [`AllocError`] when out of memory.
+pub fn telegram_fault(alloc: Global, refusal: &Refusal) -> Result<String, AllocError>
+    ensures { IfOk result (λ words. IsTrue (list_all is_printable (string_bytes words))) }
+{
+    let words = refusal_words(alloc, refusal)?;
+    printable(alloc, words.as_bytes())
 }

@@ -19,7 +19,13 @@ pub returns-in-Look-clause-asked : goal.returns-in-Look-clause-asked
 returns-in-Look-clause-asked g c = λ s kept works sound.
     let left = station_after g.K.Keeper.keeping c.args.keeper.now in
     subst (λ (w : Wanted). HasAsked s c.args.at w c.look_told.result left) (sym c.in-Look.is)
-    (asked_json s c.args.at (wanted.Look c.in-Look.seen) c.look_told.result left (subst (λ (seen : List ℕ). IsToldAs (look_reply seen) c.look_told.result) c.as_str.ensures.value c.look_told.ensures) refl (works, kept))
+    (asked_json s c.args.at (wanted.Look c.in-Look.seen) c.look_told.result left (subst (λ (seen : List ℕ). IsToldAs (look_reply 200 seen) c.look_told.result) c.as_str.ensures.value c.look_told.ensures) refl (works, kept))
+
+pub returns-in-Misread-clause-asked : goal.returns-in-Misread-clause-asked
+returns-in-Misread-clause-asked g c = λ s kept works sound.
+    let left = station_after g.K.Keeper.keeping c.args.keeper.now in
+    subst (λ (w : Wanted). HasAsked s c.args.at w c.look_told-in-Misread.result left) (sym c.in-Misread.is)
+    (asked_json s c.args.at (wanted.Misread c.in-Misread.text) c.look_told-in-Misread.result left (subst (λ (seen : List ℕ). IsToldAs (look_reply 400 seen) c.look_told-in-Misread.result) c.as_str-in-Misread.ensures.value c.look_told-in-Misread.ensures) refl (works, kept))
 
 pub returns-in-Fault-clause-shut : goal.returns-in-Fault-clause-shut
 returns-in-Fault-clause-shut g c = λ broken.
@@ -34,7 +40,12 @@ returns-in-Unreadable-clause-shut g c = λ broken.
 pub returns-in-Look-clause-shut : goal.returns-in-Look-clause-shut
 returns-in-Look-clause-shut g c = λ broken.
     subst (λ (w : Wanted). HasAskedShut c.args.at w c.look_told.result) (sym c.in-Look.is)
-    (shut_json c.args.at (wanted.Look c.in-Look.seen) c.look_told.result (λ s. subst (λ (seen : List ℕ). IsToldAs (look_reply seen) c.look_told.result) c.as_str.ensures.value c.look_told.ensures) (λ s. refl))
+    (shut_json c.args.at (wanted.Look c.in-Look.seen) c.look_told.result (λ s. subst (λ (seen : List ℕ). IsToldAs (look_reply 200 seen) c.look_told.result) c.as_str.ensures.value c.look_told.ensures) (λ s. refl))
+
+pub returns-in-Misread-clause-shut : goal.returns-in-Misread-clause-shut
+returns-in-Misread-clause-shut g c = λ broken.
+    subst (λ (w : Wanted). HasAskedShut c.args.at w c.look_told-in-Misread.result) (sym c.in-Misread.is)
+    (shut_json c.args.at (wanted.Misread c.in-Misread.text) c.look_told-in-Misread.result (λ s. subst (λ (seen : List ℕ). IsToldAs (look_reply 400 seen) c.look_told-in-Misread.result) c.as_str-in-Misread.ensures.value c.look_told-in-Misread.ensures) (λ s. refl))
 
 pub returns-in-Waybill-clause-shut : goal.returns-in-Waybill-clause-shut
 returns-in-Waybill-clause-shut g c = λ broken. shut_unavailable c.args.at c.args.wanted.now c.ask_waybill.result (c.ask_waybill.ensures.shut broken).1
