@@ -1,13 +1,11 @@
--- The sums of a waybill's movements with a flight, by a pass over them; and the expectations of a
--- flight.
-use Rattle.reports.proofs.Common.{ActFault, BookRow, Bool, Cargo, Count, Err, ExpectedRow, FlightDate, Free, Hand, HandedOut, IsOk, List, Missing, Move, Of, Ok, OnOk, Result, Surplus, [], ap, append-nil, append_assoc, arith, book_row, counted, false, false≢true, filter, if◌then◌else◌, map, movements_for, numbered, own_moves, refl, subst, sum_by_push, sym, tenths_of, true, true≢false, ℕ, ◌++◌, ◌+◌, ◌∙◌, ◌∷◌, ◌≡◌, AreExpectedRows, same_place}
+-- The sums of a waybill's movements with a flight, by a pass over them; and the arrivals of a flight.
+use Rattle.reports.proofs.Common.{ActFault, BookRow, Bool, Cargo, Count, Err, FlightDate, Free, Hand, HandedOut, IsOk, List, Missing, Move, Of, Ok, OnOk, Result, Surplus, [], ap, append-nil, append_assoc, arith, book_row, counted, false, false≢true, if◌then◌else◌, map, movements_for, numbered, own_moves, refl, sum_by_push, sym, tenths_of, true, true≢false, ℕ, ◌++◌, ◌+◌, ◌∙◌, ◌∷◌, ◌≡◌}
 use Rattle.shipment_machine.specs.Book.{pieces_of}
 use Rattle.shipment_machine.specs.declared.moves.Place.{Place}
-use Rattle.reports.specs.Arrivals.{AreArrivals, TakesExpected, TakesSum, arrival_row, is_on, is_with, next_sums, no_sums, sums_of, sums_with, with_flight}
-use Rattle.reports.specs.declared.arrivals.Announced.{Announced}
+use Rattle.reports.specs.Arrivals.{AreArrivals, TakesSum, arrival_row, is_with, next_sums, no_sums, sums_of, sums_with, with_flight}
 use Rattle.reports.specs.declared.arrivals.ArrivalRow.{ArrivalRow}
 use Rattle.reports.specs.declared.arrivals.ArrivalSums.{ArrivalSums}
-use Rattle.station_core.specs.declared.rows.ExpectedQuery.TheVariants.{All}
+use Rattle.station_core.specs.declared.rows.ExpectedQuery.TheVariants.{On}
 use Rattle.reports.proofs.FlightLists.{one_expected}
 use Rattle.reports.proofs.Passing.{moves_of}
 use Rattle.reports.proofs.Stays.{own_rows}
@@ -50,24 +48,6 @@ sums_known f w book (Ok x) old new start (rows, are, handed) is room =
     all_summed f rows [] old new start handed room ∙ ap (sums_of f) (ap moves_of are ∙ own_rows w 1 book)
 sums_known f w book (Err e) old new start took is room = absurd (false≢true is)
 
--- the expectations of a flight are kept, if there was room
-kept_on : (f : FlightDate) (rows : List ExpectedRow) (old new : Announced) → old.flight ≡ f → HandedOut TakesExpected rows old new → new.is_full ≡ false → new.rows.items ≡ old.rows.items ++ filter (is_on f) rows
-kept_on f [] old new of h room = ap (λ (g : Announced). g.rows.items) h ∙ sym (append-nil _)
-kept_on f (row ∷ rows) old new of (true, mid, took, more) room =
-    kept_on f rows mid new (took.0 ∙ of) more room ∙ ap (λ l. l ++ filter (is_on f) rows) (took.2 ∙ ap (λ g. old.rows.items ++ filter (is_on g) (row ∷ [])) of)
-    ∙ append_assoc old.rows.items (filter (is_on f) (row ∷ [])) (filter (is_on f) rows)
-    ∙ ap (λ l. old.rows.items ++ l) (sym (filter_front (is_on f) row rows))
-  where
-    filter_front : (p : ExpectedRow → Bool) (row : ExpectedRow) (rows : List ExpectedRow) → filter p (row ∷ rows) ≡ filter p (row ∷ []) ++ filter p rows
-    filter_front p row rows = elim (p row) as (λ b. (if b then row ∷ filter p rows else filter p rows) ≡ (if b then row ∷ [] else []) ++ filter p rows) [ true ↦ refl | false ↦ refl ]
-kept_on f (row ∷ rows) old new of (false, mid, took, more) room = absurd (true≢false (sym took ∙ sym (ap (λ (g : Announced). g.is_full) more) ∙ room))
-
-pub announced_known : (f : FlightDate) (s : Cargo) (read : Result (Unit {0}) ActFault) (old new : Announced) → old.flight ≡ f → old.rows.items ≡ []
-    → OnOk read ((rows : List ExpectedRow) × AreExpectedRows s rows × HandedOut TakesExpected rows old new) → IsOk read → new.is_full ≡ false
-    → (all : List ExpectedRow) × AreExpectedRows s all × (new.rows.items ≡ filter (is_on f) all)
-announced_known f s (Ok x) old new of none (rows, are, handed) is room = (rows, are, kept_on f rows old new of handed room ∙ ap (λ l. l ++ filter (is_on f) rows) none)
-announced_known f s (Err e) old new of none took is room = absurd (false≢true is)
-
 -- a flight's arrivals are one list
 pub one_arrivals : (f : FlightDate) (s : Cargo) (xs ys : List ArrivalRow) → AreArrivals s f xs → AreArrivals s f ys → xs ≡ ys
-one_arrivals f s xs ys (expected, are, is) (others, too, is_too) = is ∙ ap (λ l. map (arrival_row s.book) (filter (is_on f) l)) (one_expected All s expected others are too) ∙ sym is_too
+one_arrivals f s xs ys (expected, are, is) (others, too, is_too) = is ∙ ap (map (arrival_row s.book)) (one_expected (On f) s expected others are too) ∙ sym is_too

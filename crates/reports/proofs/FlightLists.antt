@@ -35,18 +35,18 @@ pub one_expected : (query : ExpectedQuery) (s : Cargo) (xs ys : List ExpectedRow
 one_expected query s xs ys are too = are.2 ∙ ap (map (expected_row s)) (one_expectations (expected_for query s.expected) are.0 too.0 are.1 too.1) ∙ sym too.2
 
 -- what isn't checked in of all lines is what is asked for
-mapped_awaited : (s : Cargo) (all : List Expectation) → filter is_awaited (map (expected_row s) all) ≡ map (expected_row s) (filter (λ (row : Expectation). asks_for Open row.expected) all)
+mapped_awaited : (s : Cargo) (all : List Expectation) → filter is_awaited (map (expected_row s) all) ≡ map (expected_row s) (filter (asks_for Open) all)
 mapped_awaited s [] = refl
 mapped_awaited s (row ∷ all) =
     elim (not row.expected.checked) as (λ b. cond b (expected_row s row ∷ filter is_awaited (map (expected_row s) all)) (filter is_awaited (map (expected_row s) all))
-    ≡ map (expected_row s) (cond b (row ∷ filter (λ (row : Expectation). asks_for Open row.expected) all) (filter (λ (row : Expectation). asks_for Open row.expected) all))) [
+    ≡ map (expected_row s) (cond b (row ∷ filter (asks_for Open) all) (filter (asks_for Open) all))) [
       | true ↦ ap (λ rows. expected_row s row ∷ rows) (mapped_awaited s all)
       | false ↦ mapped_awaited s all
     ]
 
 pub open_expected : (s : Cargo) (rows : List ExpectedRow) → AreExpectedRows s rows → AreExpectedBy Open s (filter is_awaited rows)
 open_expected s rows are =
-    (filter (λ (row : Expectation). asks_for Open row.expected) are.0, are_asked Open s.expected are.0 are.1, ap (filter is_awaited) are.2 ∙ mapped_awaited s are.0)
+    (filter (asks_for Open) are.0, are_asked Open s.expected are.0 are.1, ap (filter is_awaited) are.2 ∙ mapped_awaited s are.0)
 
 pub one_flight_text : (s : Cargo) (a b : List ℕ) → IsFlightReport s a → IsFlightReport s b → a ≡ b
 one_flight_text s a b is too = is.2 ∙ ap (report_text (line_by flight_cells)) (one_flights s is.0 too.0 is.1 too.1) ∙ sym too.2

@@ -1,11 +1,11 @@
 -- Arrivals of a flight: what manifests announced with it, and what its check-in counted.
-use Rattle.std.specs.Prelude.{ℕ, List, [], ◌∷◌, ◌+◌, ◌==◌, ◌++◌, ◌&&◌, Bool, true, false, map, filter, ◌≡◌, if◌then◌else◌, not}
-use Rattle.reports.specs.Common.{sum_by, amount, pieces_of, same_place, same_flight_date, tenths_of, Amount, Cargo, FlightDate, Move, Place, Hand, Free, Missing, Surplus, ExpectedRow, AreExpectedRows, is_named}
+use Rattle.std.specs.Prelude.{ℕ, List, ◌+◌, ◌==◌, ◌&&◌, Bool, true, false, map, ◌≡◌, if◌then◌else◌, not}
+use Rattle.reports.specs.Common.{sum_by, amount, pieces_of, same_place, tenths_of, Amount, Cargo, FlightDate, Move, Place, Hand, Free, Missing, Surplus, ExpectedRow, AreExpectedBy, is_named}
+use Rattle.station_core.specs.declared.rows.ExpectedQuery.TheVariants.{On}
 use Rattle.reports.specs.Passes.{counted, own_moves, zero}
 use Rattle.reports.specs.declared.arrivals.ArrivalRow.{ArrivalRow}
 use Rattle.reports.specs.declared.arrivals.ArrivalState.{ArrivalState}
 use Rattle.reports.specs.declared.arrivals.ArrivalState.TheVariants as state
-use Rattle.reports.specs.declared.arrivals.Announced.{Announced}
 use Rattle.reports.specs.declared.arrivals.ArrivalSums.{ArrivalSums}
 use Rattle.reports.specs.declared.tallies.Count.{Count}
 
@@ -43,11 +43,8 @@ arrival_state row =
     else state.Checked
 
 -- the announced waybills of a flight, in the order of the expectations
-abbrev pub is_on : FlightDate → ExpectedRow → Bool
-is_on f row = same_flight_date f row.expectation.flight
-
 abbrev pub AreArrivals : Cargo → FlightDate → List ArrivalRow → Type 0
-AreArrivals s f rows = (expected : List ExpectedRow) × AreExpectedRows s expected × (rows ≡ map (arrival_row s.book) (filter (is_on f) expected))
+AreArrivals s f rows = (expected : List ExpectedRow) × AreExpectedBy (On f) s expected × (rows ≡ map (arrival_row s.book) expected)
 
 -- The sums of one waybill's movements, made in one pass.
 
@@ -85,9 +82,3 @@ next_sums m t = record t {
 abbrev pub TakesSum : ArrivalSums → Move → Bool → ArrivalSums → Type 0
 TakesSum old m true new = new ≡ next_sums m old
 TakesSum old m false new = new.is_full ≡ true
-
--- an expectation is kept if it is the flight's, or it doesn't fit
-abbrev pub TakesExpected : Announced → ExpectedRow → Bool → Announced → Type 0
-TakesExpected old row true new =
-    (new.flight ≡ old.flight) × (new.is_full ≡ old.is_full) × (new.rows.items ≡ old.rows.items ++ filter (is_on old.flight) (row ∷ []))
-TakesExpected old row false new = new.is_full ≡ true

@@ -1,9 +1,10 @@
 //! Arrivals of flights.
-ghost use Rattle.std.specs.Prelude.{◌≡◌, ◌++◌, ◌∷◌, [], List, false, map, filter, IfErr, IfOk, IfSome};
-ghost use Rattle.reports.specs.Arrivals.{AreArrivals, arrival_row, arrival_state, is_on, is_with, next_sums, no_sums, row_by, sums_of};
+ghost use Rattle.std.specs.Prelude.{◌≡◌, ◌++◌, ◌∷◌, [], false, map, IfErr, IfOk, IfSome};
+ghost use Rattle.reports.specs.Arrivals.{AreArrivals, arrival_row, arrival_state, is_with, next_sums, no_sums, row_by, sums_of};
 ghost use Rattle.reports.specs.Passes.{own_moves};
-ghost use Rattle.reports.specs.Common.{AreExpectedRows, ExpectedRow, IfSound, IsReadersFault, OnlyReads, Reads};
+ghost use Rattle.reports.specs.Common.{IfSound, IsReadersFault, OnlyReads, Reads};
 
+use crate::days::gathered;
 use crate::readings::Reading;
 use crate::tallies::{Count, ZERO, amount_of};
 use awb_number::Awb;
@@ -165,53 +166,6 @@ fn arrival<K: Keeper>(keeper: &mut K, expected: &ExpectedRow) -> Result<ArrivalR
     }
 }
 
-/// The expectations of a flight, kept.
-#[derive(Drop)]
-struct Announced {
-    flight: FlightDate,
-    rows: Vec<ExpectedRow>,
-    // True if memory ran out.
-    is_full: bool,
-}
-
-impl Sink<ExpectedRow> for Announced {
-    ghost use Rattle.reports.specs.Arrivals.{TakesExpected};
-
-    ghost takes = { λ old row go new. TakesExpected old row go new };
-
-    fn take(&mut self, row: ExpectedRow) -> bool {
-        if !self.flight.is_same(&row.expectation.flight) {
-            return true;
-        }
-        if self.rows.push(row).is_err() {
-            self.is_full = true;
-            return false;
-        }
-        true
-    }
-}
-
-/// Returns the expectations of a flight.
-fn announced_with<K: Keeper>(
-    alloc: Global,
-    keeper: &mut K,
-    flight: &FlightDate,
-) -> Result<Vec<ExpectedRow>, ActFault>
-    ensures { Reads K.keeping keeper.old keeper.new result (λ s rows. (all : List ExpectedRow)
-        × AreExpectedRows s.cargo all × (rows.items ≡ filter (is_on flight.now) all)) }
-{
-    let mut announced = Announced {
-        flight: *flight,
-        rows: Vec::new(alloc),
-        is_full: false,
-    };
-    match keeper.expected_by(&ExpectedQuery::All, &mut announced) {
-        Ok(()) if announced.is_full => Err(ActFault::Memory),
-        Ok(()) => Ok(announced.rows),
-        Err(fault) => Err(fault),
-    }
-}
-
 /// Puts the row of an expectation behind the others.
 fn put_arrival<K: Keeper>(
     keeper: &mut K,
@@ -256,7 +210,7 @@ fn arrivals_of<K: Keeper>(
     ensures { Reads K.keeping keeper.old keeper.new result
         (λ s rows. AreArrivals s.cargo flight.now rows.items) }
 {
-    let expected = announced_with(alloc, keeper, flight)?;
+    let expected = gathered(alloc, keeper, &ExpectedQuery::On(*flight))?;
     arrivals_among(alloc, keeper, &expected)
 }
 

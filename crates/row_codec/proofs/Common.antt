@@ -28,7 +28,7 @@ pub use Rattle.station_core.specs.Keeping.{AreAllBalances, IsRequest, load_on, l
 pub use Rattle.station_core.specs.declared.stored.Load.{Load}
 pub use Rattle.station_days.specs.Date.{IsMomentDay, where_true, ◌>>=◌}
 pub use Rattle.station_rows.specs.Shown.{Reads, ShowsChange}
-pub use Rattle.station_rows.specs.Meant.{build_meant, changing_build, changing_count, changing_waybill, confirming, count_meant, counts_for, expected_meant, flight_meant, is_flown, is_line_after, is_line_of, is_message_after, is_move_after, is_of, is_on, kept_meant, move_meant, pieces_in, stock_meant, waybill_meant, with_build, with_count, with_expected, with_flight, with_kept, with_kept_text, with_message, with_move, with_part, with_trail_line, with_waybill, without_build, without_count}
+pub use Rattle.station_rows.specs.Meant.{build_meant, changing_build, changing_count, changing_waybill, confirming, count_meant, counts_for, expected_meant, flight_meant, is_flown, is_line_after, is_line_of, is_listed_on, is_message_after, is_move_after, is_of, is_on, kept_meant, move_meant, pieces_in, stock_meant, waybill_meant, with_build, with_count, with_expected, with_flight, with_kept, with_kept_text, with_message, with_move, with_part, with_trail_line, with_waybill, without_build, without_count}
 pub use Rattle.station_rows.specs.declared.counts.CountRow.{CountRow}
 pub use Rattle.station_schema.proofs.Keys.{count_total, expected_same, expected_total, flight_same, flight_total, kept_same, kept_text_same, kept_text_total, kept_total, part_same, part_total}
 pub use Rattle.station_schema.proofs.Maps.{all_passed, ascending_where, entries_rise}

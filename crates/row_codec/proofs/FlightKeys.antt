@@ -44,7 +44,7 @@ same_text a b is_a is_b = go (same_flight a b) refl
     go true e = ap (λ (f : Designator). bytes_eq (flight_text a) (flight_text f)) (sym (one_by_fields a b e)) ∙ bytes_eq-refl (flight_text a)
     go false e = false_from_ne_true _ (λ h. true≢false (sym (same_of_one a b (one_by_text a b (is_one a is_a) (is_one b is_b) (bytes_eq-true _ _ h))) ∙ e))
 
-same_number : (a b : ℕ) → int_eq (pos a) (pos b) ≡ (a == b)
+pub same_number : (a b : ℕ) → int_eq (pos a) (pos b) ≡ (a == b)
 same_number a b = grind (arith, ints)
 
 tied_number : (a b : ℕ) → eq_by_cmp int_cmp (pos a) (pos b) ≡ (a == b)

@@ -1,6 +1,6 @@
 -- What is noted of flights and what they are to bring, as readers are given them: in the order of their rows' keys.
-use Rattle.std.proofs.Common.{◌≡◌, ℕ, ◌<◌, ◌≤◌, length, ℤ, pos, negsuc, Bool, true, false, cond, ◌&&◌, Option, Some, None, option_map, List, [], ◌∷◌, map, take, drop, is_lt, int_cmp, refl, sym, ap, ap₂, subst, ◌∙◌, true≢false, arith, Ordering, Less, Equal, Greater, T}
-use Rattle.row_codec.proofs.Common.{AllByRecursion, AreExpectations, AreNoted, Designator, Expected, ExpectedKey, FinMap, Flight, FlightDate, FlightKey, IfSome, IsTrue, Means, State, Tables, and_parts, below_all, by_expectation, by_flight, bytes_eq-true, count_of, drop_while, entries, entries_sorted, eq_by_cmp, expectation_by, expected_by, expected_cmp, expected_key, false_from_ne_true, find, flight_cmp, flight_date_of, flight_key, flight_of, flight_text, get, get-entries, ints, is_carrier, is_day, is_designator, is_expected_row, is_flight_row, is_flight_text, is_sorted, is_within, is_written, le-leb, leb-true, list_all, nat_cmp, nat_le, natural, noted_by, ordering_then, outbound_by, same_flight_date, suffix_of, take_while, where_true, ◌>>=◌, ◌^◌}
+use Rattle.std.proofs.Common.{◌≡◌, ℕ, ◌<◌, ◌≤◌, length, ℤ, pos, negsuc, Bool, true, false, cond, ◌&&◌, Option, Some, None, option_map, List, [], ◌∷◌, map, take, drop, is_lt, int_cmp, int_eq, refl, sym, ap, ap₂, subst, ◌∙◌, true≢false, arith, Ordering, Less, Equal, Greater, T}
+use Rattle.row_codec.proofs.Common.{AllByRecursion, AreExpectations, AreNoted, Designator, Expected, ExpectedKey, FinMap, Flight, FlightDate, FlightKey, IfSome, IsTrue, Means, State, Tables, and_parts, below_all, by_expectation, by_flight, bytes_cmp, bytes_eq-true, count_of, drop_while, entries, entries_sorted, eq_by_cmp, expectation_by, expected_by, expected_cmp, expected_key, false_from_ne_true, filter, find, flight_cmp, flight_date_of, flight_key, flight_of, flight_text, get, get-entries, ints, is_carrier, is_day, is_designator, is_expected_row, is_flight_row, is_flight_text, is_listed_on, is_sorted, is_within, is_written, le-leb, leb-true, list_all, nat_cmp, nat_le, natural, noted_by, ordering_then, outbound_by, same_flight_date, suffix_of, take_while, where_true, ◌>>=◌, ◌^◌}
 use Rattle.std.specs.Cmp.Lexicographic.{slice_cmp}
 use Rattle.std.specs.FinMap as tree
 use Rattle.std.proofs.Math.Nat.{pow-le-pow_right}
@@ -8,8 +8,12 @@ use Rattle.awb_number.specs.Number.{decimal_value, is_digit, is_letter}
 use Rattle.awb_number.proofs.Padded.{decimal_value_bound}
 use Rattle.station_core.specs.declared.rows.Expectation.{Expectation}
 use Rattle.station_core.specs.declared.rows.NotedFlight.{NotedFlight}
-use Rattle.row_codec.proofs.FlightKeys.{designator_test, same_designator, same_expected, same_expected_designator, same_expected_key, same_key}
+use Rattle.row_codec.proofs.FlightKeys.{designator_test, same_designator, same_expected, same_expected_designator, same_expected_key, same_key, same_number, tied_text}
 use Rattle.row_codec.proofs.MapLaws.{each_passes}
+use Rattle.shipment_machine.proofs.FlightKeys.{same-comm}
+use Rattle.station_core.proofs.Asked.{are_asked}
+use Rattle.station_core.specs.Readers.{asks_for, expected_for}
+use Rattle.station_core.specs.declared.rows.ExpectedQuery.TheVariants.{On}
 
 -- ---- what is read as a designator is one
 
@@ -186,6 +190,55 @@ is_expectation e row is fits =
     let of = flight_made e.0.0 e.0.1.0 (λ f. record { flight = f; awb = natural e.0.1.1; expected = expected_by e.1 }) row is two.0 two.1 in
     subst (IsExpected e) (sym of.1) (record { key_is = λ i. (of.2 i, (of.3 i, day_again _ _ e.0.1.1 three.1 i)); value_is = refl; may_be = of.4 })
 
+-- ---- what a flight is to bring
+
+-- a row in range has an expectation
+decoded : (e : ExpectedKey × Expected) → is_expected_row e ≡ true → (row : Expectation) × (Some row ≡ expectation_by e)
+decoded e fits =
+    let three = and_parts _ _ (and_parts _ _ (and_parts _ _ (and_parts _ _ fits).0).0).0 in
+    go (flight_of e.0.0) (and_parts _ _ three.0).0
+  where
+    go : (o : Option Designator) → is_written e.0.0 o ≡ true
+        → (row : Expectation) × (Some row ≡ option_map (λ (f : FlightDate). record { flight = f; awb = natural e.0.1.1; expected = expected_by e.1 }) (option_map (λ d. record { flight = d; day = natural e.0.1.0 }) o))
+    go None written = absurd (true≢false (sym written))
+    go (Some d) written = (record { flight = record { flight = d; day = natural e.0.1.0 }; awb = natural e.0.1.1; expected = expected_by e.1 }, refl)
+
+all_decoded : (es : List (ExpectedKey × Expected)) → AllByRecursion (λ e. is_expected_row e ≡ true) es → (rows : List Expectation) × (map Some rows ≡ map expectation_by es)
+all_decoded [] all = ([], refl)
+all_decoded (e ∷ es) all =
+    let one = decoded e all.0 in
+    let rest = all_decoded es all.1 in
+    (one.0 ∷ rest.0, λ i. one.1 i ∷ rest.1 i)
+
+-- a row is the flight's where its expectation is
+listed_on : (f : FlightDate) → is_designator f.flight ≡ true → (e : ExpectedKey × Expected) (row : Expectation) → IsExpected e row
+    → is_listed_on (flight_text f.flight) (pos f.day) e ≡ same_flight_date f row.flight
+listed_on f is e row of =
+    ap (λ (k : ExpectedKey). eq_by_cmp bytes_cmp k.0 (flight_text f.flight) && int_eq k.1.0 (pos f.day)) of.key_is
+    ∙ ap₂ ◌&&◌ (tied_text row.flight.flight f.flight of.may_be is) (same_number row.flight.day f.day)
+    ∙ same-comm row.flight f
+
+-- the flight's expectations are in its rows
+of_flight : (f : FlightDate) → is_designator f.flight ≡ true → (es : List (ExpectedKey × Expected)) (all : List Expectation) → AllByRecursion (λ e. is_expected_row e ≡ true) es → map Some all ≡ map expectation_by es
+    → map expectation_by (filter (is_listed_on (flight_text f.flight) (pos f.day)) es) ≡ map Some (filter (asks_for (On f)) all)
+of_flight f is [] [] fits h = refl
+of_flight f is (e ∷ es) (row ∷ all) fits h =
+    let reads : Some row ≡ expectation_by e = cc in
+    let behind : map Some all ≡ map expectation_by es = cc in
+    let rest = of_flight f is es all fits.1 behind in
+    let few = filter (is_listed_on (flight_text f.flight) (pos f.day)) es in
+    ap (λ b. map expectation_by (cond b (e ∷ few) few)) (listed_on f is e row (is_expectation e row reads fits.0))
+    ∙ elim (same_flight_date f row.flight) as (λ b. map expectation_by (cond b (e ∷ few) few) ≡ map Some (cond b (row ∷ filter (asks_for (On f)) all) (filter (asks_for (On f)) all))) [
+      | true ↦ λ i. sym reads i ∷ rest i
+      | false ↦ rest
+    ]
+of_flight f is _ _ fits h = absurd (cc)
+
+one_by_one : (xs ys : List Expectation) → map Some xs ≡ map Some ys → xs ≡ ys
+one_by_one [] [] h = refl
+one_by_one (x ∷ xs) (y ∷ ys) h = let first : x ≡ y = cc in let rest = one_by_one xs ys (cc) in λ i. first i ∷ rest i
+one_by_one _ _ h = absurd (cc)
+
 -- ---- of tables that mean a state
 
 module _ (t : Tables) (s : State) (means : Means t (Some s)) where
@@ -200,3 +253,12 @@ module _ (t : Tables) (s : State) (means : Means t (Some s)) where
       let told = rows_told key_of at_waybill (λ (row : Expectation). row.expected) expected_by (λ (d : FlightDate × ℕ). is_designator d.0.flight)
       expected_cmp by_expectation same_expected expectation_by is_expected_row is_expectation same_expected_key same_expected_designator by_expectation_order t.expected rows means.0.expected is in
       subst (λ (x : State). AreExpectations x.cargo.expected rows) means.1 (record { rising = told.0; same = λ f w. told.1 (f, w) })
+
+  -- of the rows of a flight
+  pub expectations_on_told : (f : FlightDate) → is_designator f.flight ≡ true → (rows : List Expectation) → map Some rows ≡ map expectation_by (filter (is_listed_on (flight_text f.flight) (pos f.day)) (entries t.expected))
+      → AreExpectations (expected_for (On f) s.cargo.expected) rows
+  expectations_on_told f may rows is =
+      let fits = each_passes is_expected_row (entries t.expected) means.0.expected in
+      let all = all_decoded (entries t.expected) fits in
+      subst (AreExpectations (expected_for (On f) s.cargo.expected)) (sym (one_by_one rows (filter (asks_for (On f)) all.0) (is ∙ of_flight f may (entries t.expected) all.0 fits all.1)))
+      (are_asked (On f) s.cargo.expected all.0 (expectations_told all.0 all.1))

@@ -7,7 +7,7 @@ use Rattle.shipment_machine.specs.Book.{same_flight_date}
 use Rattle.shipment_machine.specs.declared.moves.Expected.{Expected}
 use Rattle.shipment_machine.proofs.FlightKeys.{same-is, same-refl}
 use Rattle.station_core.specs.declared.rows.ExpectedQuery.{ExpectedQuery}
-use Rattle.station_core.specs.declared.rows.ExpectedQuery.TheVariants.{All, Open}
+use Rattle.station_core.specs.declared.rows.ExpectedQuery.TheVariants.{All, On, Open}
 use Rattle.station_core.proofs.Rising.{found_kept, kept_rise, passing}
 
 pub flight_total : IsTotalOrder by_flight
@@ -34,23 +34,29 @@ one_is a b e =
 pub one-refl : (a : FlightDate × ℕ) → is_one a a ≡ true
 one-refl a = and_from _ _ (same-refl a.0) (eq-eqb a.1 a.1 refl)
 
+-- true if the query includes the line of a waybill on a flight
+abbrev includes : ExpectedQuery → FlightDate × ℕ → Expected → Bool
+includes query k line = asks_for query (record { flight = k.0; awb = k.1; expected = line })
+
 -- what is asked for is what passes
-asked_passes : (query : ExpectedQuery) (line : Option Expected) → passing (asks_for query) line ≡ asked_of query line
-asked_passes All None = refl
-asked_passes All (Some line) = refl
-asked_passes Open None = refl
-asked_passes Open (Some line) = elim line.checked as (λ b. cond (not b) (Some line) None ≡ cond b None (Some line)) [ true ↦ refl | false ↦ refl ]
+asked_passes : (query : ExpectedQuery) (k : FlightDate × ℕ) (line : Option Expected) → passing (includes query k) line ≡ asked_of query k.0 line
+asked_passes All k None = refl
+asked_passes All k (Some line) = refl
+asked_passes Open k None = refl
+asked_passes Open k (Some line) = elim line.checked as (λ b. cond (not b) (Some line) None ≡ cond b None (Some line)) [ true ↦ refl | false ↦ refl ]
+asked_passes (On flight) k None = elim (same_flight_date flight k.0) as (λ b. ◌≡◌ {A = Option Expected} None (cond b None None)) [ true ↦ refl | false ↦ refl ]
+asked_passes (On flight) k (Some line) = refl
 
 one_row : (x y : Expectation) → ◌≡◌ {A = FlightDate × ℕ} (x.flight, x.awb) (y.flight, y.awb) → x.expected ≡ y.expected → x ≡ y
 one_row x y key brings i = record { flight = (key i).0; awb = (key i).1; expected = brings i }
 
 pub are_asked : (query : ExpectedQuery) (lines : FlightDate → ℕ → Option Expected) (rows : List Expectation) → AreExpectations lines rows
-    → AreExpectations (expected_for query lines) (filter (λ row. asks_for query row.expected) rows)
+    → AreExpectations (expected_for query lines) (filter (asks_for query) rows)
 are_asked query lines rows are = record {
   rising = kept_rise by_expectation is_one (λ (row : Expectation). (row.flight, row.awb)) (λ (row : Expectation). row.expected) (apart by_expectation expectation_total) one_is one-refl one_row
-      (asks_for query) rows are.rising;
+      (includes query) rows are.rising;
   same = λ f w.
-      sym (asked_passes query (lines f w)) ∙ ap (passing (asks_for query)) (are.same f w)
+      sym (asked_passes query (f, w) (lines f w)) ∙ ap (passing (includes query (f, w))) (are.same f w)
       ∙ sym (found_kept by_expectation is_one (λ (row : Expectation). (row.flight, row.awb)) (λ (row : Expectation). row.expected) (apart by_expectation expectation_total) one_is one-refl one_row
-      (asks_for query) (f, w) rows are.rising);
+      (includes query) (f, w) rows are.rising);
 }

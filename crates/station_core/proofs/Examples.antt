@@ -1,11 +1,12 @@
 -- The worked rows of the whole station, computed.
-use Rattle.station_core.proofs.Common.{Answer, Designator, DeskCommand, Done, FlightDate, InboundLine, Input, Issue, Keyed, List, LocalMinute, None, Order, Refused, State, TakeIn, Void, Wire, [], after_all, answers_of, codes, command_text, flat_map, length, map, opening, refl, refusal_text, reply_text, ℕ, ◌*◌, ◌++◌, ◌+◌, ◌∷◌, ◌≡◌}
+use Rattle.station_core.proofs.Common.{Answer, Bool, Designator, DeskCommand, Done, Expectation, FlightDate, InboundLine, Input, Issue, Keyed, List, LocalMinute, None, Order, Refused, Some, State, TakeIn, Void, Wire, [], after_all, answers_of, asks_for, codes, command_text, expected_for, false, filter, flat_map, length, map, opening, refl, refusal_text, reply_text, true, ℕ, ◌*◌, ◌++◌, ◌+◌, ◌∷◌, ◌≡◌}
 use Rattle.std.specs.Fmt.{digits}
 use Rattle.jiff_core.specs.Calendar.{days_of_years, days_of_months, day_count, days_from_civil}
 use Rattle.agent_stock.specs.declared.stock.Run.{Run}
 use Rattle.shipment_machine.specs.declared.command.DeskCommand.TheVariants.{Notify, Book, Receive, Withdraw, Manifest, Offload, Reroute, Depart, CheckIn, Deliver, Missing, Confirm}
 use Rattle.desk_commands.specs.declared.command.Command.TheVariants.{Stock, Cargo}
 use Rattle.desk_commands.specs.Command.{day_line}
+use Rattle.station_core.specs.declared.rows.ExpectedQuery.TheVariants.{On}
 use Rattle.telegrams.specs.declared.telegram.Content.TheVariants.{Fwb, Ffm, Fsu}
 
 -- Short forms.
@@ -237,6 +238,21 @@ example_ffm : told (opening jfk) ((ffm (codes "FFM a") (line 10 1000 ∷ []), no
     ≡ codes "ok 1" ∷ codes "ok 1" ∷ codes "refused 213 LH400/2026-01-12/FRA/1" ∷ []
 unfolding digits day_line days_of_years days_of_months day_count days_from_civil
 example_ffm = refl
+
+-- what a flight is to bring is asked for of that flight, checked in or not
+abbrev to_bring : FlightDate → Bool → Expectation
+to_bring flight checked = record { flight = flight; awb = 201234567; expected = record { pieces = 10; tenths = 1000; checked = checked } }
+
+example_on : filter (asks_for (On (lh_on 400))) (to_bring (lh_on 400) true ∷ to_bring (lh_on 401) false ∷ []) ≡ to_bring (lh_on 400) true ∷ []
+example_on = refl
+
+example_on_flight : expected_for (On (lh_on 400)) announced.cargo.expected (lh_on 400) 201234567 ≡ Some (record { pieces = 10; tenths = 1000; checked = false })
+unfolding digits day_line days_of_years days_of_months day_count days_from_civil
+example_on_flight = refl
+
+example_on_another : expected_for (On (lh_on 401)) announced.cargo.expected (lh_on 400) 201234567 ≡ None
+unfolding digits day_line days_of_years days_of_months day_count days_from_civil
+example_on_another = refl
 
 abbrev pub counted : ℕ → List ℕ → Input × LocalMinute
 counted pieces key = (Keyed key (Cargo (CheckIn 201234567 (lh_on 400) pieces)), at_time 14 30)

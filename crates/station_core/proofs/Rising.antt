@@ -102,12 +102,12 @@ abbrev pub passing : {X : Type 0} → (X → Bool) → Option X → Option X
 passing test None = None
 passing test (Some x) = cond (test x) (Some x) None
 
--- Of rows that rise, those whose values pass a test rise, and a look-up among them finds what passes.
+-- Of rows that rise, those that pass a test by key and value rise, and a look-up among them finds what passes.
 module _ {K X Row : Type 0} (R : K → K → Ordering) (same : K → K → Bool) (key : Row → K) (value : Row → X)
     (apart : (a b : K) → R a b ≡ Less → R b a ≡ Less → ⊥)
     (same_is : (a b : K) → same a b ≡ true → a ≡ b)
     (itself : (a : K) → same a a ≡ true)
-    (one_row : (x y : Row) → key x ≡ key y → value x ≡ value y → x ≡ y) (test : X → Bool) where
+    (one_row : (x y : Row) → key x ≡ key y → value x ≡ value y → x ≡ y) (test : K → X → Bool) where
   abbrev Rise : List Row → Type 0
   Rise rows = Rises R same key value apart same_is itself one_row rows
 
@@ -115,7 +115,7 @@ module _ {K X Row : Type 0} (R : K → K → Ordering) (same : K → K → Bool)
   of_key q rows = found R same key value apart same_is itself one_row q rows
 
   abbrev kept : List Row → List Row
-  kept rows = filter (λ row. test (value row)) rows
+  kept rows = filter (λ row. test (key row) (value row)) rows
 
   abbrev IsBefore : K → List Row → Type 0
   IsBefore k rows = IsTrue (below_all R k (map (λ row. (key row, value row)) rows))
@@ -125,36 +125,36 @@ module _ {K X Row : Type 0} (R : K → K → Ordering) (same : K → K → Bool)
   before_kept k (row ∷ rows) h =
       let parts = and_parts _ _ h in
       let rest = before_kept k rows parts.1 in
-      elim (test (value row)) as (λ b. IsBefore k (cond b (row ∷ kept rows) (kept rows))) [ true ↦ and_from _ _ parts.0 rest | false ↦ rest ]
+      elim (test (key row) (value row)) as (λ b. IsBefore k (cond b (row ∷ kept rows) (kept rows))) [ true ↦ and_from _ _ parts.0 rest | false ↦ rest ]
 
   pub kept_rise : (rows : List Row) → Rise rows → Rise (kept rows)
   kept_rise [] h = h
   kept_rise (row ∷ rows) h =
       let parts = and_parts _ _ h in
       let rest = kept_rise rows parts.1 in
-      elim (test (value row)) as (λ b. Rise (cond b (row ∷ kept rows) (kept rows))) [
+      elim (test (key row) (value row)) as (λ b. Rise (cond b (row ∷ kept rows) (kept rows))) [
         | true ↦ and_from _ _ (before_kept (key row) rows parts.0) rest
         | false ↦ rest
       ]
 
-  pub found_kept : (q : K) (rows : List Row) → Rise rows → of_key q (kept rows) ≡ passing test (of_key q rows)
+  pub found_kept : (q : K) (rows : List Row) → Rise rows → of_key q (kept rows) ≡ passing (test q) (of_key q rows)
   found_kept q [] h = refl
   found_kept q (row ∷ rows) h =
       let parts = and_parts _ _ h in
-      let rest : of_key q (kept rows) ≡ passing test (of_key q rows) = found_kept q rows parts.1 in
-      elim (same q (key row)) as (λ b. same q (key row) ≡ b → of_key q (kept (row ∷ rows)) ≡ passing test (of_key q (row ∷ rows))) [
+      let rest : of_key q (kept rows) ≡ passing (test q) (of_key q rows) = found_kept q rows parts.1 in
+      elim (same q (key row)) as (λ b. same q (key row) ≡ b → of_key q (kept (row ∷ rows)) ≡ passing (test q) (of_key q (row ∷ rows))) [
         | true ↦ λ t.
             let k : q ≡ key row = same_is q (key row) t in
             let gone : of_key q rows ≡ None = ap (λ q. of_key q rows) k ∙ not_found R same key value apart same_is itself one_row (key row) rows parts.0 in
             let first : (more : List Row) → of_key q (row ∷ more) ≡ Some (value row) =
             λ more. ap (λ q. of_key q (row ∷ more)) k ∙ found_first R same key value apart same_is itself one_row row more in
-            elim (test (value row)) as (λ b. test (value row) ≡ b → of_key q (cond b (row ∷ kept rows) (kept rows)) ≡ passing test (of_key q (row ∷ rows))) [
-              | true ↦ λ p. first (kept rows) ∙ sym (ap (passing test) (first rows) ∙ ap (λ b. cond b (Some (value row)) None) p)
-              | false ↦ λ p. rest ∙ ap (passing test) gone ∙ sym (ap (passing test) (first rows) ∙ ap (λ b. cond b (Some (value row)) None) p)
+            elim (test (key row) (value row)) as (λ b. test (key row) (value row) ≡ b → of_key q (cond b (row ∷ kept rows) (kept rows)) ≡ passing (test q) (of_key q (row ∷ rows))) [
+              | true ↦ λ p. first (kept rows) ∙ sym (ap (passing (test q)) (first rows) ∙ ap (λ b. cond b (Some (value row)) None) (ap (λ a. test a (value row)) k ∙ p))
+              | false ↦ λ p. rest ∙ ap (passing (test q)) gone ∙ sym (ap (passing (test q)) (first rows) ∙ ap (λ b. cond b (Some (value row)) None) (ap (λ a. test a (value row)) k ∙ p))
             ] refl
         | false ↦ λ t.
             let behind : (more : List Row) → of_key q (row ∷ more) ≡ of_key q more = λ more. found_behind R same key value apart same_is itself one_row q row more t in
             let still : of_key q (kept (row ∷ rows)) ≡ of_key q (kept rows) =
-            elim (test (value row)) as (λ b. of_key q (cond b (row ∷ kept rows) (kept rows)) ≡ of_key q (kept rows)) [ true ↦ behind (kept rows) | false ↦ refl ] in
-            still ∙ rest ∙ ap (passing test) (sym (behind rows))
+            elim (test (key row) (value row)) as (λ b. of_key q (cond b (row ∷ kept rows) (kept rows)) ≡ of_key q (kept rows)) [ true ↦ behind (kept rows) | false ↦ refl ] in
+            still ∙ rest ∙ ap (passing (test q)) (sym (behind rows))
       ] refl

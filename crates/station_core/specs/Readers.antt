@@ -132,18 +132,21 @@ expected_row s row = record {
 abbrev pub AreExpectedRows : Cargo → List ExpectedRow → Type 0
 AreExpectedRows s rows = (all : List Expectation) × AreExpectations s.expected all × (rows ≡ map (expected_row s) all)
 
--- true if the query includes the expectation: each, or those not checked in
-abbrev pub asks_for : ExpectedQuery → Expected → Bool
-asks_for expected.All line = true
-asks_for expected.Open line = not line.checked
+-- true if the query includes the expectation: each, those not checked in, or those of a flight
+abbrev pub asks_for : ExpectedQuery → Expectation → Bool
+asks_for expected.All row = true
+asks_for expected.Open row = not row.expected.checked
+asks_for (expected.On flight) row = same_flight_date flight row.flight
 
-abbrev pub asked_of : ExpectedQuery → Option Expected → Option Expected
-asked_of expected.All line = line
-asked_of expected.Open None = None
-asked_of expected.Open (Some line) = if line.checked then None else Some line
+-- what a query includes of the line of a waybill on the flight
+abbrev pub asked_of : ExpectedQuery → FlightDate → Option Expected → Option Expected
+asked_of expected.All f line = line
+asked_of expected.Open f None = None
+asked_of expected.Open f (Some line) = if line.checked then None else Some line
+asked_of (expected.On flight) f line = if same_flight_date flight f then line else None
 
 abbrev pub expected_for : ExpectedQuery → (FlightDate → ℕ → Option Expected) → FlightDate → ℕ → Option Expected
-expected_for query lines f w = asked_of query (lines f w)
+expected_for query lines f w = asked_of query f (lines f w)
 
 abbrev pub AreExpectedBy : ExpectedQuery → Cargo → List ExpectedRow → Type 0
 AreExpectedBy query s rows =

@@ -127,6 +127,8 @@ pub enum ExpectedQuery {
     All,
     /// Those not checked in yet.
     Open,
+    /// Those of a flight, checked in or not.
+    On(FlightDate),
 }
 
 /// A row of the movement book.

@@ -12,7 +12,7 @@ use crate::rows::{Expectation, ExpectedQuery};
 use agent_stock::Order;
 use awb_number::Awb;
 use shipment_machine::{
-    CargoRef, Detail, Expected, InboundLines, InboundPart, InboundStatus, Refusal, ShipmentCommand,
+    CargoRef, Detail, InboundLines, InboundPart, InboundStatus, Refusal, ShipmentCommand,
     TrailLines,
 };
 use std::alloc::{AllocError, Global};
@@ -87,12 +87,13 @@ pub fn count_of_order(order: &Order) -> u32
 
 impl ExpectedQuery {
     /// Returns whether the query includes an expectation.
-    pub fn asks_for(&self, line: &Expected) -> bool
-        ensures { result ≡ asks_for self.now line.now }
+    pub fn asks_for(&self, row: &Expectation) -> bool
+        ensures { result ≡ asks_for self.now row.now }
     {
         match self {
             ExpectedQuery::All => true,
-            ExpectedQuery::Open => !line.checked,
+            ExpectedQuery::Open => !row.expected.checked,
+            ExpectedQuery::On(flight) => flight.is_same(&row.flight),
         }
     }
 }
@@ -109,7 +110,7 @@ pub fn expectations_for(
 {
     let mut asked = Vec::new(alloc);
     for expectation in all {
-        if query.asks_for(&expectation.expected) {
+        if query.asks_for(expectation) {
             asked.push(*expectation)?;
         }
     }

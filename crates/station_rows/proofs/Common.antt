@@ -25,7 +25,7 @@ pub use Rattle.sqlite_typed.proofs.TestLemmas.{at_ints, at_texts, last_key, last
 pub use Rattle.sqlite_value.proofs.OrderLemmas.{value_cmp-Int, value_cmp-Text}
 pub use Rattle.sqlite_value.specs.Keys.{plain}
 pub use Rattle.sqlite_value.specs.declared.keys.Key.{Key}
-pub use Rattle.station_rows.specs.Meant.{build_meant, changing_waybill, confirming, count_meant, counts_for, expected_meant, flight_meant, is_between, is_flown, is_flown_within, is_line_after, is_line_of, is_message_after, is_move_after, is_of, is_on, is_up_to, kept_meant, last_rows_up_to, last_up_to, listed_waybill_meant, message_meant, move_meant, noted_flight_meant, pieces_in, station_meant, stock_meant, trail_meant, waybill_meant, with_message, with_move, with_trail_line, with_waybill, AreRead, Queries, confirm_text, delete_build_text, delete_count_text, delete_stock_text, insert_build_text, insert_count_text, insert_expected_text, insert_flight_text, insert_kept_text, insert_kept_text_text, insert_message_text, insert_move_text, insert_part_text, insert_stock_text, insert_trail_text, insert_waybill_text, update_build_text, update_count_text, update_expected_text, update_flight_text, update_stock_text, update_waybill_text}
+pub use Rattle.station_rows.specs.Meant.{build_meant, changing_waybill, confirming, count_meant, counts_for, expected_meant, flight_meant, is_between, is_flown, is_flown_within, is_line_after, is_line_of, is_listed_on, is_message_after, is_move_after, is_of, is_on, is_up_to, kept_meant, last_rows_up_to, last_up_to, listed_waybill_meant, message_meant, move_meant, noted_flight_meant, pieces_in, station_meant, stock_meant, trail_meant, waybill_meant, with_message, with_move, with_trail_line, with_waybill, AreRead, Queries, confirm_text, delete_build_text, delete_count_text, delete_stock_text, insert_build_text, insert_count_text, insert_expected_text, insert_flight_text, insert_kept_text, insert_kept_text_text, insert_message_text, insert_move_text, insert_part_text, insert_stock_text, insert_trail_text, insert_waybill_text, update_build_text, update_count_text, update_expected_text, update_flight_text, update_stock_text, update_waybill_text}
 pub use Rattle.station_rows.specs.Shown.{build_read, count_read, expected_read, flight_read, kept_read, kept_text_shown, listed_waybill_read, message_shown, move_read, move_shown, noted_flight_read, part_shown, pieces_read, pieces_shown, station_read, stock_read, trail_shown, waybill_read, waybill_shown}
 pub use Rattle.station_schema.proofs.AnyTexts.{Asks, Means, asks, by_column}
 pub use Rattle.station_schema.proofs.ColumnKeys.{Compares, IsMap, deleted_at, inserted, map_of, row_shown, rows_in_order, updated_at}

@@ -1,6 +1,6 @@
-ghost use Rattle.std.specs.Prelude.{◌≡◌, map, option_map};
+ghost use Rattle.std.specs.Prelude.{◌≡◌, map, filter, option_map};
 ghost use Rattle.station_rows.specs.Common.{entries, get, expected_row};
-ghost use Rattle.station_rows.specs.Meant.{expected_meant, listed_waybill_meant, with_expected, changing_expected, insert_expected_text, update_expected_text};
+ghost use Rattle.station_rows.specs.Meant.{expected_meant, listed_waybill_meant, with_expected, changing_expected, is_listed_on, insert_expected_text, update_expected_text};
 ghost use Rattle.station_rows.specs.Shown.{expected_read, listed_waybill_read};
 
 use crate::statements::{Read, Write, all_rows, first_row};
@@ -156,6 +156,30 @@ impl Read for ExpectedOn<'_> {
             conn,
             "SELECT pieces, tenths, checked FROM expected WHERE flight = ?1 AND day = ?2 AND awb = ?3",
             params![self.flight, &self.day, &self.awb],
+        )
+    }
+}
+
+/// The rows of what a flight of a day is to bring, by waybill.
+#[derive(Drop)]
+pub struct ExpectedOnFlight<'a> {
+    /// The flight, as it is written.
+    pub flight: &'a str,
+    /// Its day.
+    pub day: i64,
+}
+
+impl Read for ExpectedOnFlight<'_> {
+    type Found = Vec<ListedWaybillRow>;
+
+    ghost tells = { λ it tables rows. map listed_waybill_meant rows.items
+        ≡ filter (is_listed_on it.flight.now it.day) (entries tables.expected) };
+
+    fn run<S: Alter>(self, conn: &mut Connection<S>) -> Result<Vec<ListedWaybillRow>, Error> {
+        all_rows(
+            conn,
+            "SELECT flight, day, awb, pieces, tenths, checked FROM expected WHERE flight = ?1 AND day = ?2 ORDER BY awb",
+            params![self.flight, &self.day],
         )
     }
 }

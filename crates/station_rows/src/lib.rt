@@ -24,7 +24,8 @@ mod waybills;
 pub use builds::{BuildOn, BuildRow, BuildsOn, DeleteBuild, InsertBuild, PiecesOn, UpdateBuild};
 pub use counts::{AllCounts, CountAt, CountRow, CountsOf, DeleteCount, InsertCount, UpdateCount};
 pub use expected::{
-    AllExpected, ExpectedOn, ExpectedRow, InsertExpected, ListedWaybillRow, UpdateExpected,
+    AllExpected, ExpectedOn, ExpectedOnFlight, ExpectedRow, InsertExpected, ListedWaybillRow,
+    UpdateExpected,
 };
 pub use flights::{AllFlights, FlightOn, FlightRow, InsertFlight, NotedFlightRow, UpdateFlight};
 pub use kept::{InsertKept, InsertKeptText, KeptRow, KeptTextCount, KeptUnder};

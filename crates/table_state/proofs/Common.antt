@@ -4,7 +4,7 @@ pub use Rattle.imp_fields.specs.Fields.{is_airport, Designator, flight_text, sam
 pub use Rattle.row_codec.proofs.Fits.{count_fits, part_fits}
 pub use Rattle.row_codec.proofs.Handing.{book_handed, book_on, message_of, messages_handed}
 pub use Rattle.row_codec.proofs.KeptRow.{kept_row}
-pub use Rattle.row_codec.proofs.Noted.{day_again, expectations_told, noted_told}
+pub use Rattle.row_codec.proofs.Noted.{day_again, expectations_on_told, expectations_told, noted_told}
 pub use Rattle.row_codec.proofs.SameMeaning.{same_meaning}
 pub use Rattle.row_codec.proofs.Telling.{book_told, declared_told, holders_told}
 pub use Rattle.row_codec.specs.Stored.{AreBuilds, AreCounts, build_here, build_in, count_here, count_in, running, written_flight, is_message_row, is_trail_row, line_row, message_row, trail_row_by, IsReadable, Means, meaning_of, book_in, book_row_by, is_move_row, plain_place, WereThere, kept_by, holder_by, holders_in, stands_for}
@@ -35,7 +35,7 @@ pub use Rattle.station_core.specs.declared.rows.ExpectedQuery.TheVariants.{Open}
 pub use Rattle.station_core.specs.declared.stored.Sizes.{Sizes}
 pub use Rattle.station_core.specs.declared.stored.WaybillBalances.{WaybillBalances}
 pub use Rattle.station_rows.specs.Shown.{HandsIfOpen, HandsOf, ShowsStill, WasOpen}
-pub use Rattle.station_rows.specs.Meant.{changing_expected, changing_flight, changing_waybill, confirming, expected_meant, flight_meant, is_flown, is_flown_within, is_message_after, is_move_after, is_of, kept_meant, lines_for, listed_waybill_meant, message_meant, move_meant, moves_for, noted_flight_meant, trail_meant, waybill_meant, with_expected, with_flight, with_kept, with_kept_text, with_message, with_move, with_part, with_trail_line, with_waybill}
+pub use Rattle.station_rows.specs.Meant.{changing_expected, changing_flight, changing_waybill, confirming, expected_meant, flight_meant, is_flown, is_flown_within, is_listed_on, is_message_after, is_move_after, is_of, kept_meant, lines_for, listed_waybill_meant, message_meant, move_meant, moves_for, noted_flight_meant, trail_meant, waybill_meant, with_expected, with_flight, with_kept, with_kept_text, with_message, with_move, with_part, with_trail_line, with_waybill}
 pub use Rattle.station_rows.specs.declared.expected.ExpectedRow.{ExpectedRow}
 pub use Rattle.station_rows.specs.declared.expected.ListedWaybillRow.{ListedWaybillRow}
 pub use Rattle.station_rows.specs.declared.flights.FlightRow.{FlightRow}

@@ -4,8 +4,8 @@ use Rattle.shipment_machine.specs.declared.moves.Expected.{Expected}
 
 module _ (lines : Lines) (flight : FlightDate) (w : ℕ) (e : Expected) where
   -- a line that is written is open as it is asked for
-  written_open : (line : Option Expected) → asked_of Open (Some e) ≡ line → with_line (expected_for Open lines) flight w line ≡ expected_for Open (with_line lines flight w (Some e))
-  written_open line is i f q = (elim (same_flight_date f flight && (q == w)) as (λ b. cond b line (asked_of Open (lines f q)) ≡ asked_of Open (cond b (Some e) (lines f q))) [
+  written_open : (line : Option Expected) → asked_of Open flight (Some e) ≡ line → with_line (expected_for Open lines) flight w line ≡ expected_for Open (with_line lines flight w (Some e))
+  written_open line is i f q = (elim (same_flight_date f flight && (q == w)) as (λ b. cond b line (asked_of Open f (lines f q)) ≡ asked_of Open f (cond b (Some e) (lines f q))) [
     | true ↦ sym is
     | false ↦ refl
   ]) i

@@ -1,8 +1,9 @@
 -- What was read of a row is what the state has that is shown.
-use Rattle.std.proofs.Common.{◌≡◌, ℕ, ℤ, pos, Bool, true, List, length, Option, Some, option_map, is_some, map, filter, not, sym, ap, subst, ◌∙◌}
-use Rattle.table_state.proofs.Common.{AnnouncedRow, AreAnnounced, AreBuilds, AreCounts, AreExpectations, AreNoted, BTreeSet, ExpectedRow, FlightDate, FlightRow, HaveCome, Holders, IsKeyedBy, KeptRow, ListedWaybillRow, Means, Move, NotedFlightRow, Part, State, Stocked, Tables, WaybillRow, announced_by, book_in, book_told, contains, declared_by, entries, expectation_by, expectations_told, expected_by, expected_meant, flight_meant, flight_text, get, get_by, has_moves, holders_in, holders_told, is_designator, is_of, kept_by, kept_meant, length-map, listed_waybill_meant, move_meant, nat_cmp, nat_lt, natural, noted_by, noted_flight_meant, noted_told, outbound_by, waybill_id, waybill_meant}
+use Rattle.std.proofs.Common.{◌≡◌, ℕ, ℤ, pos, Bool, true, List, length, Option, Some, option_map, is_some, map, filter, not, sym, ap, ap₂, subst, ◌∙◌}
+use Rattle.table_state.proofs.Common.{AnnouncedRow, AreAnnounced, AreBuilds, AreCounts, AreExpectations, AreNoted, BTreeSet, ExpectedRow, FlightDate, FlightRow, HaveCome, Holders, IsKeyedBy, KeptRow, ListedWaybillRow, Means, Move, NotedFlightRow, Part, State, Stocked, Tables, WaybillRow, announced_by, book_in, book_told, contains, declared_by, entries, expectation_by, expectations_on_told, expectations_told, expected_by, expected_for, expected_meant, flight_meant, flight_text, get, get_by, has_moves, holders_in, holders_told, is_designator, is_listed_on, is_of, kept_by, kept_meant, length-map, listed_waybill_meant, move_meant, nat_cmp, nat_lt, natural, noted_by, noted_flight_meant, noted_told, outbound_by, waybill_id, waybill_meant}
 use Rattle.sqlite_trees.proofs.ListLemmas.{map-map}
 use Rattle.station_core.specs.declared.rows.Expectation.{Expectation}
+use Rattle.station_core.specs.declared.rows.ExpectedQuery.TheVariants.{On}
 use Rattle.station_core.specs.declared.rows.NotedFlight.{NotedFlight}
 use Rattle.station_rows.specs.declared.moves.MoveRow.{MoveRow}
 use Rattle.row_codec.proofs.Reading.{declared_read, outbound_read, expected_read, part_read, kept_key_read, kept_text_read}
@@ -50,6 +51,14 @@ module _ (t : Tables) (s : State) (means : Means t (Some s)) where
   pub expectations_are : (rows : List ListedWaybillRow) (all : List Expectation) → map Some all ≡ map (λ (row : ListedWaybillRow). expectation_by (listed_waybill_meant row)) rows
       → map listed_waybill_meant rows ≡ entries t.expected → AreExpectations s.cargo.expected all
   expectations_are rows all by tells = expectations_told t s means all (by ∙ sym (map-map expectation_by listed_waybill_meant rows) ∙ ap (map expectation_by) tells)
+
+  pub expectations_on_are : (f : FlightDate) (name : List ℕ) (day : ℤ) → name ≡ flight_text f.flight → day ≡ pos f.day → is_designator f.flight ≡ true
+      → (rows : List ListedWaybillRow) (all : List Expectation) → map Some all ≡ map (λ (row : ListedWaybillRow). expectation_by (listed_waybill_meant row)) rows
+      → map listed_waybill_meant rows ≡ filter (is_listed_on name day) (entries t.expected) → AreExpectations (expected_for (On f) s.cargo.expected) all
+  expectations_on_are f name day is_name is_day may rows all by tells =
+      expectations_on_told t s means f may all
+      (by ∙ sym (map-map expectation_by listed_waybill_meant rows)
+      ∙ ap (map expectation_by) (tells ∙ ap₂ (λ (text : List ℕ) (on : ℤ). filter (is_listed_on text on) (entries t.expected)) is_name is_day))
 
   pub announced_are : (come : BTreeSet ℕ) (rows : List WaybillRow) (all : List AnnouncedRow) → all ≡ filter (λ (one : AnnouncedRow). not (contains nat_cmp come one.awb)) (map (λ (row : WaybillRow). announced_by (waybill_meant row)) rows)
       → (map waybill_meant rows ≡ t.waybills) × IsKeyedBy waybill_id t.waybills → HaveCome come s.cargo.book → AreAnnounced s.cargo all

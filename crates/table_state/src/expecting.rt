@@ -6,17 +6,18 @@ ghost use Rattle.std.specs.Prelude.{◌≡◌, ◌++◌, not, map, List, IfOk, O
 ghost use Rattle.table_state.specs.Common.{announced, contains, filter, nat_cmp, AreAnnounced, AreAllBalances, ReadsAtRest, waybill_meant, AreExpectations, expected_for, Open, StaysAtRest};
 ghost use Rattle.state_store.specs.Store.{Survives};
 ghost use Rattle.shipment_machine.specs.declared.moves.Move as cargo;
+ghost use Rattle.station_core.specs.declared.rows.ExpectedQuery.TheVariants.{On};
 ghost use Rattle.table_state.specs.Shown.{HasAnnounced, HaveCome, announced_by, announced_row, announcing, has_come_by, in_tables};
 
 use crate::open_lines::OpenLines;
 use crate::state::TableState;
 use crate::writing::waybills_expected;
 use awb_number::Awb;
-use row_codec::waybill_by;
-use shipment_machine::{Balances, Declared};
+use row_codec::{day_number, flight_text, waybill_by};
+use shipment_machine::{Balances, Declared, FlightDate};
 use state_store::{StateStore, StoreFault};
 use station_core::{AnnouncedRow, Expectation, ExpectedQuery, WaybillBalances, expectations_for};
-use station_rows::{AllExpected, AllWaybills, TableStore, WaybillRow};
+use station_rows::{AllExpected, AllWaybills, ExpectedOnFlight, TableStore, WaybillRow};
 use std::alloc::Global;
 use std::collections::BTreeSet;
 use std::slice;
@@ -178,6 +179,20 @@ impl<S: TableStore> TableState<S> {
             (λ s rows. AreExpectations s.cargo.expected rows.items) }
     {
         let rows = self.store.read(AllExpected)?;
+        waybills_expected(self.alloc, &rows)
+    }
+
+    /// What a flight is to bring: one read of its rows alone.
+    pub(crate) fn lines_on(&mut self, flight: &FlightDate) -> Result<Vec<Expectation>, StoreFault>
+        ensures { ReadsAtRest (in_tables S.view) self.old self.new result
+            (λ s rows. AreExpectations (expected_for (On flight.now) s.cargo.expected)
+            rows.items) }
+    {
+        let name = flight_text(self.alloc, &flight.flight)?;
+        let rows = self.store.read(ExpectedOnFlight {
+            flight: &name,
+            day: day_number(flight.day),
+        })?;
         waybills_expected(self.alloc, &rows)
     }
 

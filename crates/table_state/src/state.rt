@@ -345,6 +345,7 @@ impl<S: TableStore> StateStore for TableState<S> {
         match query {
             ExpectedQuery::All => self.all_lines(),
             ExpectedQuery::Open => self.open_lines(),
+            ExpectedQuery::On(flight) => self.lines_on(flight),
         }
     }
 

@@ -1,7 +1,7 @@
 use Rattle.std.proofs.Common.{◌≡◌, take, filter}
-use Rattle.station_core.proofs.Common.{Expectation, asks_for}
+use Rattle.station_core.proofs.Common.{asks_for}
 use Rattle.station_core.proofs.shipment.expectations_for.Given as goal
 
 -- what is asked for of the rows so far
 abbrev pub invariant-loop-expectation : goal.invariant-loop-expectation
-invariant-loop-expectation l = l.asked.items ≡ filter (λ (row : Expectation). asks_for l.query row.expected) (take l.expectation-index l.all)
+invariant-loop-expectation l = l.asked.items ≡ filter (asks_for l.query) (take l.expectation-index l.all)
