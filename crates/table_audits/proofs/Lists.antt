@@ -1,5 +1,5 @@
 -- Lists, index by index and one element more.
-use Rattle.table_audits.proofs.Common.{AllByRecursion, Bool, List, Some, [], ap, arith, false, get_or, length, list_any, list_any-append, map, none_is, refl, slice_get, some_is, suc, sym, true, true≢false, zero, ℕ, ◌++◌, ◌<◌, ◌||◌, ◌∙◌, ◌∷◌, ◌≡◌}
+use Rattle.table_audits.proofs.Common.{AllByRecursion, Bool, IsAscending, List, Some, [], ap, arith, false, get_or, length, list_any, list_any-append, map, none_is, refl, slice_get, some_is, suc, sym, true, true≢false, zero, ℕ, ◌++◌, ◌<◌, ◌||◌, ◌∙◌, ◌∷◌, ◌≡◌}
 
 pub or_no : (b : Bool) → (b || false) ≡ b
 or_no b = grind arith
@@ -15,6 +15,16 @@ got_map f (y ∷ xs) (suc i) x is = got_map f xs i x is
 pub all_pop : {X : Type 0} (P : X → Type 0) (xs : List X) (x : X) → AllByRecursion P (xs ++ x ∷ []) → AllByRecursion P xs × P x
 all_pop P [] x all = (tt, all.0)
 all_pop P (y ∷ xs) x all = let rest = all_pop P xs x all.1 in ((all.0, rest.0), rest.1)
+
+-- the elements before the last of an ascending list
+
+pub below_last : {X : Type 0} (R : X → X → Type 0) (xs : List X) (x : X) → IsAscending R (xs ++ x ∷ []) → AllByRecursion (λ y. R y x) xs
+below_last R [] x up = tt
+below_last R (y ∷ xs) x up = ((all_pop (R y) xs x up.0).1, below_last R xs x up.1)
+
+pub rises_before : {X : Type 0} (R : X → X → Type 0) (xs : List X) (x : X) → IsAscending R (xs ++ x ∷ []) → IsAscending R xs
+rises_before R [] x up = tt
+rises_before R (y ∷ xs) x up = ((all_pop (R y) xs x up.0).0, rises_before R xs x up.1)
 
 pub any_push : {X : Type 0} (p : X → Bool) (xs : List X) (x : X) → list_any p (xs ++ x ∷ []) ≡ (list_any p xs || p x)
 any_push p xs x = list_any-append p xs (x ∷ []) ∙ ap (λ b. list_any p xs || b) (or_no (p x))

@@ -55,8 +55,11 @@ module _ {X K V : Type 0} (R : K → K → Ordering) (total : IsTotalOrder R) (s
     rows_rise : IsAscending (λ a b. R (f a).0 (f b).0 ≡ Less) xs
     rows_rise = ascending_from_map (λ a b. R a.0 b.0 ≡ Less) f xs (subst (IsAscending (λ a b. R a.0 b.0 ≡ Less)) are (entries_rise R total m))
 
-    pub has_entry : (r : Result ℕ ℕ) → IsSearchInRange r (length xs) → IsBinarySearchResult (λ x. R (f x).0 q) xs r → is_ok r ≡ contains_key m q
-    has_entry r low h = is_found R total (λ x. (f x).0) q xs rows_rise r low h ∙ sym (ap is_some (get-entries m q ∙ ap (find_entry R q) are) ∙ found_any q xs)
+    pub any_entry : contains_key m q ≡ list_any (λ x. eq_by_cmp R (f x).0 q) xs
+    any_entry = ap is_some (get-entries m q ∙ ap (find_entry R q) are) ∙ found_any q xs
+
+    has_entry : (r : Result ℕ ℕ) → IsSearchInRange r (length xs) → IsBinarySearchResult (λ x. R (f x).0 q) xs r → is_ok r ≡ contains_key m q
+    has_entry r low h = is_found R total (λ x. (f x).0) q xs rows_rise r low h ∙ sym any_entry
 
     pub no_entry : (i : ℕ) → i ≤ length xs → IsBinarySearchResult (λ x. R (f x).0 q) xs (Err i) → get m q ≡ None
     no_entry i low h = not_some (get m q) (sym (has_entry (Err i) low h))

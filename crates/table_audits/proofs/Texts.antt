@@ -8,7 +8,7 @@ use Rattle.table_load.specs.declared.kept_text.KeptTextEntry.{KeptTextEntry}
 is_text : (text : String Global) → is_utf8 (string_bytes text) ≡ true
 is_text text = is_utf8-from_IsUtf8 _ (IsUtf8-string_bytes text)
 
-and_so : (b : Bool) → b && true ≡ b
+pub and_so : (b : Bool) → b && true ≡ b
 and_so true = refl
 and_so false = refl
 

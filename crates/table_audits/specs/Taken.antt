@@ -1,12 +1,17 @@
 -- The audit of a table whose rows are added one after another.
-use Rattle.std.specs.Prelude.{◌≡◌, ◌↔◌, ◌++◌, ◌∷◌, [], ℕ, ℤ, Bool, true, false, nat_le, if◌then◌else◌, IsTrue, Option, Some, None, List, length, map}
-use Rattle.table_audits.specs.Common.{AllByRecursion, list_all, FlightDate, StaysDeparted, move_meant, waybill_meant, trail_meant, message_meant, MoveRow, MessageRow, TrailRow, Tables, Kept, Waybill, move_id, trail_id, message_id, running, move_by, AreNumbered, is_kept_row, IsRequest, flight_entry, kept_key_entry, KeptKeyEntry, Posting}
+use Rattle.std.specs.Prelude.{◌≡◌, ◌≤◌, ◌<◌, ◌↔◌, ◌++◌, ◌∷◌, [], ℕ, ℤ, Bool, true, false, nat_le, if◌then◌else◌, IsTrue, Option, Some, None, List, length, map}
+use Rattle.std.specs.List.{AllWithin, HoldsAt}
+use Rattle.std.specs.List.Sorted.{IsSorted}
+use Rattle.table_audits.specs.Common.{AllByRecursion, IsAscending, Less, eq_by_cmp, list_all, list_any, is_kept_text_row, kept_text_cmp, kept_text_entry, part_entry, FlightDate, StaysDeparted, move_meant, waybill_meant, trail_meant, message_meant, MoveRow, MessageRow, TrailRow, Tables, Kept, Waybill, move_id, trail_id, message_id, running, move_by, AreNumbered, is_kept_row, IsRequest, flight_entry, kept_key_entry, KeptKeyEntry, Posting}
 use Rattle.station_schema.specs.Tables.{Move}
 use Rattle.table_audits.specs.Moves.{marks_of, RisesByNumber, AreBeside, IsGoodRow, listed_in, is_lawful_line, AreSums, IsPosting}
 use Rattle.table_audits.specs.declared.book.BookAudit.{BookAudit}
 use Rattle.table_audits.specs.declared.book.BookBeside.{BookBeside}
 use Rattle.table_audits.specs.declared.kept_key.KeptKeys.{KeptKeys}
+use Rattle.table_audits.specs.declared.kept_text.KeptTexts.{KeptTexts}
 use Rattle.table_audits.specs.declared.lookups.NumberedRows.{NumberedRows}
+use Rattle.table_load.specs.declared.kept_text.KeptTextEntry.{KeptTextEntry}
+use Rattle.table_load.specs.declared.part.PartEntry.{PartEntry}
 
 -- ---- numbered rows, each with whether it is lawful by itself
 
@@ -46,6 +51,30 @@ pub record IsLawfulKept (row : List ℕ × Kept) : Type 0 where
 -- true if each of the added rows is lawful
 abbrev pub AreKeysTaken : KeptKeys → List KeptKeyEntry → Type 0
 AreKeysTaken keys rows = IsTrue keys.are_lawful ↔ AllByRecursion IsLawfulKept (map kept_key_entry rows)
+
+-- ---- rows of `kept_text`
+
+-- the parts are in the order of their texts
+abbrev pub AreByText : List PartEntry → Type 0
+AreByText = IsSorted (λ (a b : PartEntry). kept_text_cmp (part_entry a).1 (part_entry b).1)
+
+-- true if one of the rows has the text
+abbrev pub is_among : List KeptTextEntry → List ℕ → Bool
+is_among rows text = list_any (λ (row : KeptTextEntry). eq_by_cmp kept_text_cmp (kept_text_entry row).0 text) rows
+
+-- the parts whose texts were found are those before the first whose text isn't among the rows
+pub record AreTextsTaken (parts : List PartEntry) (texts : KeptTexts) (rows : List KeptTextEntry) : Type 0 where
+  pub counts : texts.are_in_range ≡ list_all is_kept_text_row (map kept_text_entry rows)
+  pub bound : texts.found ≤ length parts
+  pub found : AllWithin (λ (part : PartEntry). IsTrue (is_among rows (part_entry part).1)) parts 0 texts.found
+  pub next : texts.found < length parts
+      → HoldsAt (λ (part : PartEntry). is_among rows (part_entry part).1 ≡ false) parts texts.found
+
+-- the same of rows in the order of their texts, with parts in the order of theirs
+abbrev pub AreTextsSought : List PartEntry → KeptTexts → List KeptTextEntry → Type 0
+AreTextsSought parts texts rows = AreByText parts
+    → IsAscending (λ (a b : List ℕ × ℤ). kept_text_cmp a.0 b.0 ≡ Less) (map kept_text_entry rows)
+    → AreTextsTaken parts texts rows
 
 -- ---- the book
 

@@ -1,5 +1,5 @@
 ghost use Rattle.std.specs.Prelude.{◌≡◌, ◌↔◌, map, length, pos, ℕ, ℤ, IsTrue, IsSome, true, List, ◌+◌, ◌++◌, ◌∷◌, [], Bool, IfOk, OnOk};
-ghost use Rattle.table_audits.specs.Common.{is_ok, IsBinarySearchResult, IsSearchInRange, FinMap, entries, contains_key, has_key, waybill_id, flight_cmp, kept_text_cmp, waybill_meant, declared_in, flight_entry, kept_text_entry, move_meant, NamesFlight, Place, Tables, Waybill, flight_date_of, are_flight_columns, is_built};
+ghost use Rattle.table_audits.specs.Common.{is_ok, IsBinarySearchResult, IsSearchInRange, has_key, waybill_id, flight_cmp, waybill_meant, declared_in, flight_entry, move_meant, NamesFlight, Place, Tables, Waybill, flight_date_of, are_flight_columns, is_built};
 ghost use Rattle.table_audits.specs.Moves.{RisesByNumber, AreBeside, IsSpotFound};
 ghost use Rattle.table_audits.specs.Taken.{AreSound, AreSoundOr, AreCounted};
 
@@ -9,7 +9,7 @@ use shipment_machine::Place;
 use sqlite::{Error, ErrorCode};
 use station_rows::{MoveRow, WaybillRow};
 use std::cmp::Ordering;
-use table_load::{FlightEntry, KeptTextEntry};
+use table_load::FlightEntry;
 
 /// Returns the index of a number's row, or of its place.
 fn place_of(waybills: &[WaybillRow], awb: &i64) -> Result<usize, usize>
@@ -49,24 +49,6 @@ pub(crate) fn flight_place(flights: &[FlightEntry], flight: &str, day: &i64) -> 
         (λ row. flight_cmp (flight_entry row).0 (flight.now, day.now)) flights.now result }
 {
     flights.binary_search_by(|row| compare_flight(row, flight, day))
-}
-
-/// Returns the index of a text's row, or of its place.
-fn text_place(texts: &[KeptTextEntry], text: &str) -> Result<usize, usize>
-    ensures bound { IsSearchInRange result (length texts.now) }
-    ensures place { IsBinarySearchResult (λ row. kept_text_cmp (kept_text_entry row).0 text.now)
-        texts.now result }
-{
-    texts.binary_search_by(|row| row.body.as_str().cmp(text))
-}
-
-/// Returns whether a text was accepted. `texts` is the whole table `kept_text`, in the order of its
-/// keys.
-pub(crate) fn is_kept(texts: &[KeptTextEntry], text: &str) -> bool
-    ensures { (rows : FinMap kept_text_cmp ℤ) → entries rows ≡ map kept_text_entry texts.now
-        → result ≡ contains_key rows text.now }
-{
-    text_place(texts, text).is_ok()
 }
 
 fn is_built(place: &Place) -> bool
