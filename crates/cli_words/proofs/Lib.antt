@@ -1,2 +1,3 @@
 mod Examples
 mod Services
+pub mod Sorting

@@ -171,7 +171,7 @@ IsAt (Some text) None = ⊥
 
 -- the words name a file, an airport or a zone, which a running service has itself
 abbrev pub has_own : Words → Bool
-has_own words = is_some words.db || is_some words.station || is_some words.zone
+has_own words = is_some words.options.db || is_some words.options.station || is_some words.options.zone
 
 -- the rule of the zone, UTC0 by default
 abbrev pub rule_of : Option (List ℕ) → List ℕ
@@ -180,9 +180,9 @@ rule_of (Some rule) = rule
 
 -- the command line has the meaning of the words
 pub record IsMeant (words : Words) (line : Line) : Type 0 where
-  pub db : line.db ≡ words.db
-  pub at : IsAt (option_map (λ text. text.now) words.at) line.at
+  pub db : line.db ≡ words.options.db
+  pub at : IsAt (option_map (λ text. text.now) words.options.at) line.at
   pub beside : IfSome line.at (λ port. has_own words ≡ false)
-  pub station : IsStation (option_map (λ text. text.now) words.station) line.station
-  pub zone : line.zone.now ≡ rule_of (option_map (λ text. text.now) words.zone)
+  pub station : IsStation (option_map (λ text. text.now) words.options.station) line.station
+  pub zone : line.zone.now ≡ rule_of (option_map (λ text. text.now) words.options.zone)
   pub command : Means words.request line.command

@@ -1,8 +1,10 @@
 //! Reading the words of a call.
 
-ghost use Rattle.std.specs.Prelude.{◌≡◌, true, false, IfOk, Ok, IsSome, option_map};
+ghost use Rattle.std.specs.Prelude.{◌≡◌, true, false, IfOk, Ok, IsSome, map, option_map};
 ghost use Rattle.awb_number.specs.Number.{number_of};
 ghost use Rattle.cli_words.specs.Line.{has_own, is_asked, IsAt, IsCalled, IsLine, IsMeant, IsStation, Means, rule_of};
+ghost use Rattle.cli_words.specs.Sorted.{IsSorted};
+ghost use Rattle.cli_words.specs.declared.words.Words.{Words};
 
 use crate::fault::{BadValue, KEY, ROW, WordsFault, value_fault};
 use crate::line::{Line, LineCommand};
@@ -153,7 +155,7 @@ fn is_asked(command: &LineCommand<'_>) -> bool
 fn has_own<'a>(words: &Words<'a>) -> bool
     ensures { result ≡ has_own words.now }
 {
-    words.db.is_some() || words.station.is_some() || words.zone.is_some()
+    words.options.db.is_some() || words.options.station.is_some() || words.options.zone.is_some()
 }
 
 fn rule_of<'a>(zone: Option<&'a str>) -> &'a str
@@ -173,14 +175,14 @@ fn read_asked<'a>(
 ) -> Result<LineCommand<'a>, BadValue<'a>>
     ensures means { IfOk result (Means words.entry.request) }
     ensures called { IfOk result
-        (λ command. IsCalled command (IsSome words.entry.db) (has_airport ≡ true)) }
+        (λ command. IsCalled command (IsSome words.entry.options.db) (has_airport ≡ true)) }
     ensures asked { IfOk result
         (λ command. at ≡ true → (is_asked command ≡ true) × (has_own words.entry ≡ false)) }
 {
     if at && has_own(&words) {
         return Err(BadValue::Beside);
     }
-    match read_command(words.request, words.db.is_some(), has_airport) {
+    match read_command(words.request, words.options.db.is_some(), has_airport) {
         Ok(command) => {
             if at && !is_asked(&command) {
                 Err(BadValue::Beside)
@@ -198,9 +200,9 @@ fn read_line<'a>(words: Words<'a>) -> Result<Line<'a>, BadValue<'a>>
     ensures whole { IfOk result IsLine }
     ensures meant { IfOk result (IsMeant words.entry) }
 {
-    let station = read_station(words.station)?;
-    let at = read_at(words.at)?;
-    let (db, zone) = (words.db, rule_of(words.zone));
+    let station = read_station(words.options.station)?;
+    let at = read_at(words.options.at)?;
+    let (db, zone) = (words.options.db, rule_of(words.options.zone));
     match read_asked(words, at.is_some(), station.is_some()) {
         Ok(command) => Ok(Line {
             db,
@@ -226,7 +228,10 @@ fn read_line<'a>(words: Words<'a>) -> Result<Line<'a>, BadValue<'a>>
 ///   The rule of a zone isn't tested.
 /// - [`WordsFault::Memory`]: memory ran out.
 pub fn parse_words<'a, S: AsStr>(alloc: Global, words: &'a [S]) -> Result<Line<'a>, WordsFault>
-    ensures { IfOk result IsLine }
+    ensures line { IfOk result IsLine }
+    // The options before the command and its name are those of the line.
+    ensures meant { IfOk result (λ line. (sorted : Words)
+        × IsSorted (map S.text words.entry.now) sorted × IsMeant sorted line) }
 {
     number_help(alloc, words)?;
     let words = sort_words(alloc, words)?;

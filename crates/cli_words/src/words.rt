@@ -1,4 +1,8 @@
-//! The words as `clap` sorts them. Values aren't read here.
+//! The words, sorted: the options before the command, and what `clap` finds in the others. Values
+//! aren't read here.
+
+ghost use Rattle.std.specs.Prelude.{◌≡◌, ◌++◌, ◌∷◌, IfOk, IfSome, map};
+ghost use Rattle.cli_words.specs.Sorted.{command_name, option_texts, BeginsWith, IsGiven, IsSorted};
 
 use crate::commands::{COMMANDS, CommandWords, Given, KEY, OPTIONS, Takes, Word};
 use crate::fault::{WordsFault, usage_fault};
@@ -48,14 +52,74 @@ pub(crate) struct ReportWords<'a> {
     pub(crate) json: bool,
 }
 
-/// The words of a call, sorted.
-#[derive(Drop)]
-pub(crate) struct Words<'a> {
+/// The values of the options before the command.
+#[derive(Clone, Copy)]
+pub(crate) struct OptionWords<'a> {
     pub(crate) db: Option<&'a str>,
     pub(crate) at: Option<&'a str>,
     pub(crate) station: Option<&'a str>,
     pub(crate) zone: Option<&'a str>,
+}
+
+/// The words of a call, sorted.
+#[derive(Drop)]
+pub(crate) struct Words<'a> {
+    pub(crate) options: OptionWords<'a>,
     pub(crate) request: Request<'a>,
+}
+
+const NO_OPTIONS: OptionWords<'static> = OptionWords {
+    db: None,
+    at: None,
+    station: None,
+    zone: None,
+};
+
+impl<'a> OptionWords<'a> {
+    /// Returns the options with another one, or `None` if there is no such option, or it already has
+    /// a value.
+    fn with(mut self, name: &str, value: &'a str) -> Option<OptionWords<'a>>
+        ensures { IfSome result (λ options. IsGiven (option_texts self.entry) name.now value.entry.now
+            (option_texts options)) }
+    {
+        let value = Some(value);
+        match name {
+            "--db" if self.db.is_none() => self.db = value,
+            "--at" if self.at.is_none() => self.at = value,
+            "--station" if self.station.is_none() => self.station = value,
+            "--zone" if self.zone.is_none() => self.zone = value,
+            _ => return None,
+        }
+        Some(self)
+    }
+}
+
+/// Returns the name and the value of an option in one word, such as `--db=fra.db`.
+fn name_and_value(word: &str) -> Option<(&str, &str)>
+    ensures { IfSome result (λ found. word.now ≡ found.0.now ++ 61 ∷ found.1.now) }
+{
+    word.split_once("=")
+}
+
+/// Returns the options at the start of words, beside those before, and the name of the command after
+/// them.
+fn begins_with<'a, S: AsStr>(
+    options: OptionWords<'a>,
+    words: &'a [S],
+) -> Option<(OptionWords<'a>, &'a str)>
+    ensures { IfSome result (λ found. BeginsWith (option_texts options.entry)
+        (map S.text words.entry.now) (option_texts found.0) found.1.now) }
+{
+    let (word, rest) = words.split_first()?;
+    let word = word.as_str();
+    if !word.starts_with("--") {
+        return Some((options, word));
+    }
+    if let Some((name, value)) = name_and_value(word) {
+        return begins_with(options.with(name, value)?, rest);
+    }
+    let (value, rest) = rest.split_first()?;
+    begins_with(options.with(word, value.as_str())?, rest)
 }
 
 /// Returns a word of a command as an argument of `clap`.
@@ -155,7 +219,9 @@ fn report_words<'a>(words: &ArgMatches<'a>) -> Option<ReportWords<'a>> {
 }
 
 /// Returns the request of a command without files.
-fn asked<'a>(name: &str, words: &ArgMatches<'a>) -> Option<Request<'a>> {
+fn asked<'a>(name: &str, words: &ArgMatches<'a>) -> Option<Request<'a>>
+    ensures { IfSome result (λ request. command_name request ≡ name.now) }
+{
     match name {
         "init" => Some(Request::Init),
         "migrate" => Some(Request::Migrate),
@@ -178,32 +244,41 @@ fn asked<'a>(name: &str, words: &ArgMatches<'a>) -> Option<Request<'a>> {
     }
 }
 
-/// Returns the request in words that `clap` accepted.
+/// Returns the request of a command.
 fn requested<'a>(
     alloc: Global,
-    matches: &ArgMatches<'a>,
-) -> Result<Option<Request<'a>>, AllocError> {
-    let Some((name, words)) = matches.subcommand() else {
-        return Ok(None);
-    };
+    name: &str,
+    words: &ArgMatches<'a>,
+) -> Result<Option<Request<'a>>, AllocError>
+    ensures { IfOk result (λ found. IfSome found (λ request. command_name request ≡ name.now)) }
+{
     if name == "take" {
         return Ok(Some(Request::Take(files_of(alloc, words)?)));
     }
     Ok(asked(name, words))
 }
 
-/// Returns the words that `clap` accepted, sorted.
-fn sorted<'a>(alloc: Global, matches: &ArgMatches<'a>) -> Result<Words<'a>, WordsFault> {
-    let Some(request) = requested(alloc, matches)? else {
-        return Err(WordsFault::Usage(String::new(alloc)));
+/// Returns the words of a call, sorted, in which `clap` found these.
+fn sorted<'a, S: AsStr>(
+    alloc: Global,
+    words: &'a [S],
+    matches: &ArgMatches<'a>,
+) -> Result<Option<Words<'a>>, AllocError>
+    ensures { IfOk result (λ found. IfSome found (IsSorted (map S.text words.entry.now))) }
+{
+    let Some((_program, behind)) = words.split_first() else {
+        return Ok(None);
     };
-    Ok(Words {
-        db: matches.get_str("db"),
-        at: matches.get_str("at"),
-        station: matches.get_str("station"),
-        zone: matches.get_str("zone"),
-        request,
-    })
+    let Some((options, name)) = begins_with(NO_OPTIONS, behind) else {
+        return Ok(None);
+    };
+    let Some((_, own)) = matches.subcommand() else {
+        return Ok(None);
+    };
+    match requested(alloc, name, own)? {
+        Some(request) => Ok(Some(Words { options, request })),
+        None => Ok(None),
+    }
 }
 
 /// Returns the message for an option after its command, which `clap` reports as an unexpected word.
@@ -248,9 +323,14 @@ pub(crate) fn verb_help(alloc: Global, verb: Verb) -> WordsFault {
 pub(crate) fn sort_words<'a, S: AsStr>(
     alloc: Global,
     words: &'a [S],
-) -> Result<Words<'a>, WordsFault> {
+) -> Result<Words<'a>, WordsFault>
+    ensures { IfOk result (IsSorted (map S.text words.entry.now)) }
+{
     match desk(alloc)?.try_get_matches_from(words) {
-        Ok(matches) => sorted(alloc, &matches),
+        Ok(matches) => match sorted(alloc, words, &matches)? {
+            Some(words) => Ok(words),
+            None => Err(WordsFault::Usage(String::new(alloc))),
+        },
         Err(error) => Err(words_fault(alloc, &error)?),
     }
 }

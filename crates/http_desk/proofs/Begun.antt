@@ -88,7 +88,7 @@ asked_told (posted_check verb) key body asks (d, checked, is) = subst IsBodyTold
 asked_told posted_telegram key body asks (inl (t, means, is)) = subst IsBodyTold (sym is) tt
 asked_told posted_telegram key body asks (inr (told, why, is)) = subst IsBodyTold (sym is) tt
 asked_told posted_look key body asks (inl (look, is_look, is)) = subst IsBodyTold (sym is) tt
-asked_told posted_look key body asks (inr (told, why, text, misread, is)) = subst IsBodyTold (sym is) tt
+asked_told posted_look key body asks (inr (told, why, (text, misread, is))) = subst IsBodyTold (sym is) tt
 
 -- only a dry run looks
 abbrev IsLooking : BodyAsks → Bool
