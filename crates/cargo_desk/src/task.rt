@@ -6,7 +6,7 @@ use cli_call::{
     tell_undeclared,
 };
 use cli_run::{Feed, RunFault, airport_of_line, is_migration, is_opening};
-use cli_words::Line;
+use cli_words::{Line, LineCommand};
 use desk_server::Unblocked;
 use sqlite::{Alter, Connection, File, FileStore};
 use sqlite_disk::Files;
@@ -15,6 +15,7 @@ use station_core::{ByteOut, Counted, InputReader, Keeper};
 use station_days::Moment;
 use station_engine::StoredStation;
 use station_files::{Connected, FileBacked};
+use std::io::IsTerminal;
 
 /// The task of a command line.
 #[derive(Drop)]
@@ -58,6 +59,19 @@ fn run_keeper<K: Keeper, R: InputReader + Drop>(
     status
 }
 
+/// Writes, to a person at a terminal, that nothing of what the command changes is kept.
+fn tell_unkept(rt: &HostRuntime, command: &LineCommand<'_>) {
+    let changes = matches!(
+        command,
+        LineCommand::Act { .. } | LineCommand::Acts | LineCommand::Stock | LineCommand::Take(_)
+    );
+    if changes && rt.stderr().is_terminal() {
+        let _told = eprint!(rt;
+            "nothing of this is kept: --db FILE before the command names a file\n"
+        );
+    }
+}
+
 /// Does a command line's task over a new station in memory.
 fn run_in_memory<R: InputReader + Drop>(
     rt: &HostRuntime,
@@ -68,7 +82,10 @@ fn run_in_memory<R: InputReader + Drop>(
     let state = MapState::new(alloc, airport_of_line(line));
     let mut station = StoredStation::over(alloc, state);
     match task {
-        Task::Run { reader, at } => run_keeper(rt, line, &mut station, reader, at),
+        Task::Run { reader, at } => {
+            tell_unkept(rt, &line.command);
+            run_keeper(rt, line, &mut station, reader, at)
+        }
         Task::Serve(service) => {
             let mut output = Counted::new(rt.stdout());
             let mut errors = Counted::new(Unblocked::new(rt, alloc, rt.stderr()));
