@@ -228,9 +228,7 @@ pub fn tell_unopened(rt: &HostRuntime, path: &str, fault: FileFault) {
 /// Writes where to find what to do, after the line of a fault of a file without a station for the
 /// command.
 pub fn tell_help(rt: &HostRuntime, path: &str) {
-    let _told = eprint!(rt;
-        "{path}: `cargo_desk help` and the number of this fault, as in `cargo_desk help 603`, say what to do\n"
-    );
+    let _told = eprint!(rt; "{path}: `cargo_desk help` with this number says what to do\n");
 }
 
 /// Writes how the disk failed, after the line of a store's fault: a write found no room, or a read
