@@ -1,0 +1,24 @@
+-- The words of other crates that this crate's definitions and contracts cite, passed on from one
+-- place. Declares nothing.
+pub use Rattle.std.specs.List.{AllByRecursion, filter, list_any, range_with_len, sum_by}
+pub use Rattle.std.specs.Str.{bytes_eq}
+pub use Rattle.agent_stock.specs.declared.stock.Holder.{Holder}
+pub use Rattle.agent_stock.specs.declared.stock.Holder.TheVariants.{Used}
+pub use Rattle.awb_number.specs.Number.{number_text}
+pub use Rattle.desk_commands.specs.Command.{IsCommand, command_text}
+pub use Rattle.desk_commands.specs.declared.command.Command.{Command}
+pub use Rattle.shipment_machine.specs.Book.{balances_of, built, has_moves, missing, pieces_of, same_place, store, tenths_of}
+pub use Rattle.shipment_machine.specs.Cargo.{Cargo}
+pub use Rattle.shipment_machine.specs.Effect.{is_closed}
+pub use Rattle.shipment_machine.specs.Lawful.{departs_with}
+pub use Rattle.shipment_machine.specs.declared.command.DeskCommand.{DeskCommand}
+pub use Rattle.shipment_machine.specs.declared.flight.FlightDate.{FlightDate}
+pub use Rattle.shipment_machine.specs.declared.moves.Declared.{Declared}
+pub use Rattle.shipment_machine.specs.declared.moves.Move.{Move}
+pub use Rattle.shipment_machine.specs.declared.moves.Outbound.{Outbound}
+pub use Rattle.shipment_machine.specs.declared.moves.Part.{Part}
+pub use Rattle.shipment_machine.specs.declared.moves.Place.{Place}
+pub use Rattle.shipment_machine.specs.declared.moves.Place.TheVariants.{Built}
+pub use Rattle.station_core.specs.Step.{IsLawfulState, Kept, State}
+pub use Rattle.telegrams.specs.Meaning.{IsMeant, Meant}
+pub use Rattle.telegrams.specs.declared.telegram.Content.{Content}

@@ -1,0 +1,34 @@
+-- What stays of carried waybills, and the sums of all places.
+use Rattle.std.specs.Prelude.{◌≡◌, ℕ, ◌+◌, ◌==◌, Bool, not, if◌then◌else◌, List}
+use Rattle.carried_station.specs.Common.{filter, sum_by, balances_of, built, Cargo, FlightDate, Move, Place}
+use Rattle.carried_station.specs.Carried.{Choice, carried_moves}
+
+-- A waybill has the same declaration, holder, balances, moves, lines of the trail and expectations
+-- in both.
+pub record IsSameWaybill (w : ℕ) (old new : Cargo) : Type 0 where
+  pub declared : new.declared w ≡ old.declared w
+  pub holder : new.holders w ≡ old.holders w
+  pub balances : balances_of new.book w ≡ balances_of old.book w
+  pub built : (f : FlightDate) → built new.book w f ≡ built old.book w f
+  pub moves : filter (λ m. m.awb == w) new.book ≡ filter (λ m. m.awb == w) old.book
+  pub trail : filter (λ line. line.0 == w) new.trail ≡ filter (λ line. line.0 == w) old.trail
+  pub expected : (f : FlightDate) → new.expected f w ≡ old.expected f w
+
+-- the moves of waybills that are left out
+abbrev pub left_moves : Choice → List Move → List Move
+left_moves c book = filter (λ m. not (c.waybill m.awb)) book
+
+-- what all moves, of whatever waybill, brought to places and took from them
+abbrev pub all_in : (Move → ℕ) → List Move → (Place → Bool) → ℕ
+all_in measure book there = sum_by (λ m. if there m.to then measure m else 0) book
+
+abbrev pub all_out : (Move → ℕ) → List Move → (Place → Bool) → ℕ
+all_out measure book there = sum_by (λ m. if there m.from then measure m else 0) book
+
+-- the sums of places are those of the carried and of the left out together
+pub record SumsAgree (measure : Move → ℕ) (c : Choice) (book : List Move) (there : Place → Bool)
+  : Type 0 where
+  pub came : all_in measure book there
+      ≡ all_in measure (carried_moves c book) there + all_in measure (left_moves c book) there
+  pub went : all_out measure book there
+      ≡ all_out measure (carried_moves c book) there + all_out measure (left_moves c book) there

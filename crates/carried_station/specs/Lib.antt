@@ -1,0 +1,4 @@
+pub mod Common
+pub mod Finished
+pub mod Carried
+pub mod Laws

@@ -1,0 +1,4 @@
+//! The part of a station that is carried into a new file, and its laws.
+#![tactic(auto)]
+
+pub mod laws;
