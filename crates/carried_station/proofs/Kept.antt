@@ -1,5 +1,5 @@
 -- The carried part of a lawful state is lawful, and a carried waybill is as it was.
-use Rattle.std.proofs.Common.{◌≡◌, ◌∙◌, refl, sym, ap, subst, arith, ℕ, ◌+◌, ◌-◌, ◌≤◌, ◌==◌, Bool, true, false, true≢false, ◌&&◌, ◌||◌, List, [], ◌∷◌, length, Option, Some, None, IfSome, IsSome, nat_le, nat_lt, not}
+use Rattle.std.proofs.Common.{◌≡◌, ◌∙◌, refl, sym, ap, subst, arith, ℕ, ◌≤◌, ◌==◌, Bool, true, false, true≢false, ◌&&◌, ◌||◌, List, [], ◌∷◌, length, Option, Some, None, IfSome, IsSome, nat_le, nat_lt, not}
 use Rattle.std.specs.Prelude.{IsTrue, ◌↔◌}
 use Rattle.std.specs.Bool.{if◌then◌else◌}
 use Rattle.std.specs.List.{AllByRecursion, filter, list_any}
@@ -15,8 +15,8 @@ use Rattle.shipment_machine.specs.declared.moves.Part.{Part}
 use Rattle.shipment_machine.specs.declared.moves.Place.{Place}
 use Rattle.shipment_machine.specs.declared.moves.Place.TheVariants.{Built, Departed, Hand}
 use Rattle.shipment_machine.specs.declared.moves.Outbound.{Outbound}
-use Rattle.shipment_machine.specs.Book.{amount, built, fits, held, moved_in, moved_out, pieces_of, same_place, taken_and_found, tenths_of, waybills_of, waybills_on}
-use Rattle.shipment_machine.specs.Cargo.{Cargo, is_in}
+use Rattle.shipment_machine.specs.Book.{built, fits, pieces_of, same_place, taken_and_found, tenths_of, waybills_on}
+use Rattle.shipment_machine.specs.Cargo.{Cargo}
 use Rattle.shipment_machine.specs.Effect.{is_closed}
 use Rattle.shipment_machine.specs.Lawful.{IsCovered, IsLawful, IsLawfulAmount, IsLawfulMove, IsNoted, IsStocked, StaysDeparted, builds_on, departs_with}
 use Rattle.shipment_machine.proofs.FlightKeys.{same-refl}
@@ -25,7 +25,7 @@ use Rattle.shipment_machine.proofs.Rising.{Rising-filter, is_in-filter, same_ris
 use Rattle.station_core.specs.Step.{IsLawfulState, State}
 use Rattle.carried_station.specs.Carried.{Choice, MayCarry, carried, carried_cargo, carried_lines, carried_moves, holder_if_carried, if_carried, names_built}
 use Rattle.carried_station.specs.Laws.{IsSameWaybill}
-use Rattle.carried_station.proofs.Sums.{differs, same_in, same_out, same_held, same_balances, same_taken_and_found, nothing_in, nothing_out, nothing_held, nothing_taken_and_found}
+use Rattle.carried_station.proofs.Sums.{same_in, same_out, same_held, same_balances, same_taken_and_found, nothing_in, nothing_out, nothing_held, nothing_taken_and_found}
 
 -- Lists.
 

@@ -1,2 +1,3 @@
 pub mod Sums
 pub mod Kept
+mod Examples

@@ -1,16 +1,16 @@
 -- Sums of the carried waybills, of those left out, and of all.
 use Rattle.std.proofs.Common.{◌≡◌, ◌∙◌, refl, sym, ap, arith, ℕ, ◌+◌, ◌-◌, ◌==◌, Bool, true, false, true≢false, not, ◌&&◌, List, [], ◌∷◌}
 use Rattle.std.specs.Bool.{if◌then◌else◌}
-use Rattle.std.specs.List.{filter, sum_by}
+use Rattle.std.specs.List.{sum_by}
 use Rattle.std.proofs.lemmas.Bool.{eqb-true}
 use Rattle.std.proofs.lemmas.List.Sums.{sum_by-cons}
 use Rattle.std.proofs.lemmas.List.Filters.{sum_by-filter_both}
 use Rattle.shipment_machine.specs.declared.moves.Move.{Move}
 use Rattle.shipment_machine.specs.declared.moves.Place.{Place}
 use Rattle.shipment_machine.specs.declared.moves.Place.TheVariants.{Hand, Surplus, Free, Missing, Departed, Delivered, Transferred}
-use Rattle.shipment_machine.specs.Book.{amount, balances_of, brings, built, drawn, held, moved_in, moved_out, pieces_of, plus, same_place, takes, taken_and_found, tenths_of}
+use Rattle.shipment_machine.specs.Book.{amount, balances_of, brings, drawn, held, moved_in, moved_out, pieces_of, plus, same_place, takes, taken_and_found, tenths_of}
 use Rattle.carried_station.specs.Carried.{Choice, carried_moves}
-use Rattle.carried_station.specs.Laws.{SumsAgree, left_moves, all_in, all_out}
+use Rattle.carried_station.specs.Laws.{SumsAgree}
 
 -- a waybill that is left out isn't one that is carried
 pub differs : (c : Choice) (v w : ℕ) → c.waybill v ≡ false → c.waybill w ≡ true → (v == w) ≡ false

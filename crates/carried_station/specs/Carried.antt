@@ -1,5 +1,5 @@
 -- The part of a station that is carried, and what may be left out.
-use Rattle.std.specs.Prelude.{◌≡◌, ◌⊎◌, ◌↔◌, ℕ, ◌≤◌, Bool, true, false, not, ◌&&◌, ◌||◌, nat_le, IsTrue, IsSome, IfSome, Option, Some, None, List, [], ◌∷◌, take, drop, length}
+use Rattle.std.specs.Prelude.{◌≡◌, ◌⊎◌, ◌↔◌, ℕ, ◌≤◌, Bool, true, false, not, ◌&&◌, ◌||◌, nat_le, IsTrue, IsSome, IfSome, Option, Some, None, List, ◌∷◌, take, drop, length}
 use Rattle.carried_station.specs.Common.{filter, list_any, range_with_len, bytes_eq, Holder, Used, number_text, IsCommand, command_text, Command, same_place, Cargo, is_closed, departs_with, DeskCommand, FlightDate, Move, Part, Built, State, IsMeant, Meant, Content}
 use Rattle.carried_station.specs.Finished.{IsFinished}
 use Rattle.shipment_machine.specs.declared.command.DeskCommand.TheVariants as desk

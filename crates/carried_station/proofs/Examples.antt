@@ -1,0 +1,205 @@
+-- The worked rows: three waybills of March, of which one is left out in December.
+use Rattle.std.proofs.Common.{◌≡◌, ◌∷◌, [], refl, ℕ, ◌*◌, ◌+◌, Bool, true, false, not, ◌||◌, ◌&&◌, ◌==◌, Some, None, List, length, map, codes, arith}
+use Rattle.std.specs.Fmt.{digits}
+use Rattle.std.specs.List.{list_any}
+use Rattle.std.specs.Str.{bytes_eq}
+use Rattle.station_days.specs.Date.{LocalMinute, day_line}
+use Rattle.agent_stock.specs.declared.stock.Holder.TheVariants.{Desk, Used}
+use Rattle.agent_stock.specs.declared.stock.Order.TheVariants.{TakeIn, Issue}
+use Rattle.shipment_machine.specs.Book.{amount, store, same_flight_date}
+use Rattle.shipment_machine.specs.Effect.{is_closed}
+use Rattle.shipment_machine.specs.Lawful.{departs_with}
+use Rattle.shipment_machine.specs.declared.flight.FlightDate.{FlightDate}
+use Rattle.shipment_machine.specs.declared.command.DeskCommand.{DeskCommand}
+use Rattle.shipment_machine.specs.declared.command.DeskCommand.TheVariants.{Book, Receive, Manifest, Offload, Depart, Confirm}
+use Rattle.desk_commands.specs.declared.command.Command.TheVariants.{Stock, Cargo}
+use Rattle.station_core.specs.declared.answer.Input.{Input}
+use Rattle.station_core.specs.declared.answer.Input.TheVariants.{Keyed}
+use Rattle.station_core.specs.declared.answer.Answer.{Answer}
+use Rattle.station_core.specs.declared.answer.Answer.TheVariants.{Done, Refused}
+use Rattle.station_core.specs.Step.{State, after_all, answers_of, opening, refusal_text, reply_text}
+use Rattle.carried_station.specs.Carried.{Choice, carried, carried_moves, names, names_built}
+use Rattle.carried_station.specs.Finished.{IsFinished}
+
+-- Short forms.
+
+-- 3 March 2025, 10:00
+abbrev ten : LocalMinute
+ten = record { day = 20150; minute = 10 * 60 }
+
+-- 1 December 2025
+abbrev december : ℕ
+december = 20423
+
+abbrev pub flight : ℕ → FlightDate
+flight number = record { flight = record { carrier = codes "LH"; number = number; suffix = None }; day = 20150 }
+
+abbrev printed : Answer → List ℕ
+printed (Done reply) = reply_text reply
+printed (Refused refusal) = refusal_text refusal
+
+abbrev desk : List ℕ → DeskCommand → Input × LocalMinute
+desk key command = (Keyed key (Cargo command), ten)
+
+abbrev w1 : ℕ
+w1 = 201234567
+
+abbrev w2 : ℕ
+w2 = 201234568
+
+abbrev w3 : ℕ
+w3 = 201234569
+
+-- Three waybills are booked and received, and built on two flights. The second is taken off again,
+-- and both flights leave. All eleven messages are confirmed.
+abbrev inputs : List (Input × LocalMinute)
+inputs =
+    (Keyed (codes "t1") (Stock (TakeIn (record { first = w1; count = 4 }))), ten)
+    ∷ (Keyed (codes "i1") (Stock (Issue (record { first = w1; count = 3 }) (codes "ACME"))), ten)
+    ∷ desk (codes "b1") (Book w1 (codes "FRA") (codes "JFK") 10 1000 (codes "PARTS"))
+    ∷ desk (codes "b2") (Book w2 (codes "FRA") (codes "JFK") 5 500 (codes "PARTS"))
+    ∷ desk (codes "b3") (Book w3 (codes "FRA") (codes "ORD") 2 200 (codes "PARTS"))
+    ∷ desk (codes "r1") (Receive w1 10 1000 (codes "ACME"))
+    ∷ desk (codes "r2") (Receive w2 5 500 (codes "ACME"))
+    ∷ desk (codes "r3") (Receive w3 2 200 (codes "ACME"))
+    ∷ desk (codes "m1") (Manifest w1 (flight 400) (codes "JFK") 10)
+    ∷ desk (codes "m2") (Manifest w2 (flight 400) (codes "JFK") 5)
+    ∷ desk (codes "o2") (Offload w2 (flight 400) 5)
+    ∷ desk (codes "m3") (Manifest w3 (flight 430) (codes "ORD") 2)
+    ∷ desk (codes "d1") (Depart (flight 400))
+    ∷ desk (codes "d2") (Depart (flight 430))
+    ∷ desk (codes "c1") (Confirm 11) ∷ []
+
+abbrev old : State
+old = after_all (opening (codes "FRA")) inputs
+
+example_messages : length old.cargo.outbox ≡ 11
+unfolding digits day_line
+example_messages = refl
+
+example_confirmed : old.cargo.confirmed ≡ 11
+unfolding digits day_line
+example_confirmed = refl
+
+-- What is finished.
+
+-- the third has left
+example_finished : IsFinished old.cargo december w3
+unfolding digits day_line
+example_finished = record {
+  declared = omega arith;
+  moved = ((λ _. omega arith), ((λ _. omega arith), ((λ _. omega arith), ((λ _. omega arith), ((λ _. omega arith), ((λ _. omega arith), ((λ _. omega arith), ((λ _. omega arith), ((λ _. omega arith), tt)))))))));
+  stored = refl;
+  missing = refl;
+  expected = λ _. tt;
+}
+
+-- the second is in store
+example_in_store : store old.cargo.book w2 ≡ amount 5 500
+unfolding digits day_line
+example_in_store = refl
+
+-- What is carried: the second, and the first.
+
+abbrev has_key : List (List ℕ) → List ℕ → Bool
+has_key listed key = list_any (λ k. bytes_eq k key) listed
+
+abbrev choice_of : (ℕ → Bool) → Choice
+choice_of waybill = record {
+  waybill = waybill;
+  flight = same_flight_date (flight 400);
+  part = λ _. false;
+  message = λ text. (waybill w1 && names w1 text) || (waybill w2 && names w2 text) || (waybill w3 && names w3 text);
+  key = λ key. not (has_key (codes "r3" ∷ codes "m3" ∷ codes "d2" ∷ codes "c1" ∷ []) key);
+  text = λ _. false;
+}
+
+abbrev second_alone : Choice
+second_alone = choice_of (λ w. w == w2)
+
+abbrev two : Choice
+two = choice_of (λ w. not (w == w3))
+
+-- the second was built on LH400, which left without it: with it goes the first, which left with it
+example_was_built : list_any (names_built (flight 400)) (carried_moves second_alone old.cargo.book) ≡ true
+unfolding digits day_line
+example_was_built = refl
+
+example_left_without : list_any (departs_with (flight 400)) (carried_moves second_alone old.cargo.book) ≡ false
+unfolding digits day_line
+example_left_without = refl
+
+example_left_with : list_any (departs_with (flight 400)) (carried_moves two old.cargo.book) ≡ true
+unfolding digits day_line
+example_left_with = refl
+
+abbrev new : State
+new = carried two old
+
+example_moves : length new.cargo.book ≡ 6
+unfolding digits day_line
+example_moves = refl
+
+example_in_store_still : store new.cargo.book w2 ≡ amount 5 500
+unfolding digits day_line
+example_in_store_still = refl
+
+example_flight : is_closed (new.cargo.flights (flight 400)) ≡ true
+unfolding digits day_line
+example_flight = refl
+
+example_no_flight : new.cargo.flights (flight 430) ≡ None
+unfolding digits day_line
+example_no_flight = refl
+
+-- the number of the third is in stock no more
+example_used : new.cargo.holders w1 ≡ Some Used
+unfolding digits day_line
+example_used = refl
+
+example_left_out : new.cargo.holders w3 ≡ None
+unfolding digits day_line
+example_left_out = refl
+
+example_unused : new.cargo.holders (w3 + 1) ≡ Some Desk
+unfolding digits day_line
+example_unused = refl
+
+-- the messages: of the third those of its receipt, its building and its departure, and the manifest
+example_named : map (names w3) old.cargo.outbox ≡ false ∷ false ∷ true ∷ false ∷ false ∷ false ∷ true ∷ false ∷ false ∷ true ∷ true ∷ []
+unfolding digits day_line
+example_named = refl
+
+example_seven : length new.cargo.outbox ≡ 7
+unfolding digits day_line
+example_seven = refl
+
+example_all_confirmed : new.cargo.confirmed ≡ 7
+unfolding digits day_line
+example_all_confirmed = refl
+
+-- Later inputs: what the old station answered, and what the new one does.
+
+abbrev answers : State → List (Input × LocalMinute) → List (List ℕ)
+answers s again = map printed (answers_of s again)
+
+-- a kept key: as before, though the third isn't declared any more
+example_known : answers new (desk (codes "b3") (Book w3 (codes "FRA") (codes "ORD") 2 200 (codes "PARTS")) ∷ desk (codes "r1") (Receive w1 10 1000 (codes "ACME")) ∷ [])
+    ≡ codes "ok 2" ∷ codes "ok 10" ∷ []
+unfolding digits day_line
+example_known = refl
+
+-- a key that is known no more: refused
+example_unknown : answers new (desk (codes "r3") (Receive w3 2 200 (codes "ACME")) ∷ desk (codes "d2") (Depart (flight 430)) ∷ desk (codes "c1") (Confirm 11) ∷ [])
+    ≡ codes "refused 201 020-12345690" ∷ codes "refused 209 LH430/2025-03-03" ∷ codes "refused 401 7 7" ∷ []
+unfolding digits day_line
+example_unknown = refl
+
+-- a new key: a flight that left stays closed, and the number can come again
+example_closed : answers new (desk (codes "n1") (Manifest w2 (flight 400) (codes "JFK") 1) ∷ []) ≡ codes "refused 208 LH400/2025-03-03" ∷ []
+unfolding digits day_line
+example_closed = refl
+
+example_again : answers new (desk (codes "n2") (Book w3 (codes "FRA") (codes "ORD") 3 300 (codes "PARTS")) ∷ []) ≡ codes "ok 3" ∷ []
+unfolding digits day_line
+example_again = refl
