@@ -121,8 +121,10 @@ module _ (s : Cargo) (c : Choice) where
       elim (c.waybill m.awb) as (λ b. c.waybill m.awb ≡ b
       → ((f : FlightDate) → list_any (names_built f) (if b then m ∷ carried_moves c book else carried_moves c book) ≡ true → IsSome (s.flights f) → c.flight f ≡ true)
       → AllByRecursion (IsLawfulMove (carried_cargo c s)) (if b then m ∷ carried_moves c book else carried_moves c book)) [
-        | true ↦ λ on named. (move_kept m law.0 on (λ f e. named f (or_left (names_built f m) (list_any (names_built f) (carried_moves c book)) e)),
-            moves_kept book law.1 (λ f e. named f (or_right (names_built f m) (list_any (names_built f) (carried_moves c book)) e)))
+        | true ↦ λ on named. (
+          move_kept m law.0 on (λ f e. named f (or_left (names_built f m) (list_any (names_built f) (carried_moves c book)) e)),
+          moves_kept book law.1 (λ f e. named f (or_right (names_built f m) (list_any (names_built f) (carried_moves c book)) e)),
+        )
         | false ↦ λ _ named. moves_kept book law.1 named
       ] refl named
 
@@ -198,13 +200,13 @@ module _ (s : Cargo) (c : Choice) where
   covered_kept : (w : ℕ) → IsCovered s.book w → IsCovered (carried_moves c s.book) w
   covered_kept w law = elim (c.waybill w) as (λ b. c.waybill w ≡ b → IsCovered (carried_moves c s.book) w) [
     | true ↦ λ on. record {
-        pieces = omega (arith, same_in c s.book w on pieces_of (same_place Hand), same_out c s.book w on pieces_of (same_place Hand), law.pieces);
-        tenths = omega (arith, same_in c s.book w on tenths_of (same_place Hand), same_out c s.book w on tenths_of (same_place Hand), law.tenths);
-      }
+      pieces = omega (arith, same_in c s.book w on pieces_of (same_place Hand), same_out c s.book w on pieces_of (same_place Hand), law.pieces);
+      tenths = omega (arith, same_in c s.book w on tenths_of (same_place Hand), same_out c s.book w on tenths_of (same_place Hand), law.tenths);
+    }
     | false ↦ λ off. record {
-        pieces = omega (arith, nothing_in c s.book w off pieces_of (same_place Hand), nothing_out c s.book w off pieces_of (same_place Hand));
-        tenths = omega (arith, nothing_in c s.book w off tenths_of (same_place Hand), nothing_out c s.book w off tenths_of (same_place Hand));
-      }
+      pieces = omega (arith, nothing_in c s.book w off pieces_of (same_place Hand), nothing_out c s.book w off pieces_of (same_place Hand));
+      tenths = omega (arith, nothing_in c s.book w off tenths_of (same_place Hand), nothing_out c s.book w off tenths_of (same_place Hand));
+    }
   ] refl
 
   within_kept : (w : ℕ) → fits (taken_and_found s.book w) ≡ true → fits (taken_and_found (carried_moves c s.book) w) ≡ true
@@ -236,10 +238,12 @@ module _ (s : State) (day : ℕ) (c : Choice) (law : IsLawful s.cargo) (may : Ma
       over (Some o) _ e = e ∙ or_left (list_any (names_built f) (carried_moves c s.cargo.book)) (not o.closed && nat_le day f.day) named
 
   closed_kept : (f : FlightDate) → IsTrue (is_closed ((carried_cargo c s.cargo).flights f)) ↔ IsTrue (list_any (departs_with f) (carried_moves c s.cargo.book))
-  closed_kept f = ((λ e. let was = was_closed s.cargo c f e in may.left f was.0 was.1),
-      (λ e. let closed : is_closed (s.cargo.flights f) ≡ true = (law.closed f).1 (any_kept (departs_with f) (λ m. c.waybill m.awb) s.cargo.book e) in
-      let named = any_more (departs_with f) (names_built f) (leaving_named s.cargo c f) (carried_moves c s.cargo.book) e in
-      subst (λ b. is_closed (if_carried b (s.cargo.flights f)) ≡ true) (sym (named_carried f named (closed_noted s.cargo c (s.cargo.flights f) closed))) closed))
+  closed_kept f = (
+    (λ e. let was = was_closed s.cargo c f e in may.left f was.0 was.1),
+    (λ e. let closed : is_closed (s.cargo.flights f) ≡ true = (law.closed f).1 (any_kept (departs_with f) (λ m. c.waybill m.awb) s.cargo.book e) in
+        let named = any_more (departs_with f) (names_built f) (leaving_named s.cargo c f) (carried_moves c s.cargo.book) e in
+        subst (λ b. is_closed (if_carried b (s.cargo.flights f)) ≡ true) (sym (named_carried f named (closed_noted s.cargo c (s.cargo.flights f) closed))) closed),
+  )
 
   pub cargo_kept : IsLawful (carried_cargo c s.cargo)
   cargo_kept = record {

@@ -1,3 +1,4 @@
 pub mod Sums
 pub mod Kept
+pub mod Late
 mod Examples

@@ -1,6 +1,6 @@
 -- The part of a station that is carried, and what may be left out.
 use Rattle.std.specs.Prelude.{◌≡◌, ◌⊎◌, ◌↔◌, ℕ, ◌≤◌, Bool, true, false, not, ◌&&◌, ◌||◌, nat_le, IsTrue, IsSome, IfSome, Option, Some, None, List, ◌∷◌, take, drop, length}
-use Rattle.carried_station.specs.Common.{filter, list_any, range_with_len, bytes_eq, Holder, Used, number_text, IsCommand, command_text, Command, same_place, Cargo, is_closed, departs_with, DeskCommand, FlightDate, Move, Part, Built, State, IsMeant, Meant, Content}
+use Rattle.carried_station.specs.Common.{AllByRecursion, filter, list_any, range_with_len, bytes_eq, Holder, Used, number_text, IsCommand, command_text, Command, same_place, Cargo, is_closed, departs_with, DeskCommand, FlightDate, Move, Part, Built, State, IsMeant, Meant, Content}
 use Rattle.carried_station.specs.Finished.{IsFinished}
 use Rattle.shipment_machine.specs.declared.command.DeskCommand.TheVariants as desk
 use Rattle.desk_commands.specs.declared.command.Command.TheVariants as command
@@ -130,7 +130,8 @@ pub record MayCarry (s : State) (day : ℕ) (c : Choice) : Type 0 where
       → IsTrue (c.text text))
   -- no message is unconfirmed; those that name a carried waybill are carried
   pub confirmed : s.cargo.confirmed ≡ length s.cargo.outbox
-  pub messages : (text : List ℕ) → IsTrue (c.message text) ↔ NamesCarried c s.cargo text
+  pub messages : AllByRecursion (λ text. IsTrue (c.message text) ↔ NamesCarried c s.cargo text)
+      s.cargo.outbox
   -- which keys and texts of telegrams are still known
   pub keys : (key : List ℕ) (order : Command) → IsCommand order
       → IfSome (s.kept_keys key) (λ kept. kept.request ≡ command_text order

@@ -1,7 +1,7 @@
--- What stays of carried waybills, and the sums of all places.
-use Rattle.std.specs.Prelude.{◌≡◌, ℕ, ◌+◌, ◌==◌, Bool, not, if◌then◌else◌, List}
-use Rattle.carried_station.specs.Common.{filter, sum_by, balances_of, built, Cargo, FlightDate, Move, Place}
-use Rattle.carried_station.specs.Carried.{Choice, carried_moves}
+-- What stays of carried waybills, the sums of all places, and late repeats.
+use Rattle.std.specs.Prelude.{◌≡◌, ℕ, ◌+◌, ◌==◌, Bool, not, if◌then◌else◌, List, None}
+use Rattle.carried_station.specs.Common.{filter, sum_by, balances_of, built, Cargo, FlightDate, IsCommand, IsMeant, Move, Place, State, WasKept, repeated, Input, Keyed, Wire, Reply}
+use Rattle.carried_station.specs.Carried.{Choice, carried, carried_moves}
 
 -- A waybill has the same declaration, holder, balances, moves, lines of the trail and expectations
 -- in both.
@@ -27,8 +27,20 @@ all_out measure book there = sum_by (λ m. if there m.from then measure m else 0
 
 -- the sums of places are those of the carried and of the left out together
 pub record SumsAgree (measure : Move → ℕ) (c : Choice) (book : List Move) (there : Place → Bool)
-  : Type 0 where
+    : Type 0 where
   pub came : all_in measure book there
       ≡ all_in measure (carried_moves c book) there + all_in measure (left_moves c book) there
   pub went : all_out measure book there
       ≡ all_out measure (carried_moves c book) there + all_out measure (left_moves c book) there
+
+-- a command in range, or a telegram whose text says its content, as the types guarantee
+abbrev pub IsProper : Input → Type 0
+IsProper (Keyed key order) = IsCommand order
+IsProper (Wire telegram) = IsMeant telegram
+
+-- an input that the old station accepted, and that the new one doesn't know
+pub record IsLate (s : State) (c : Choice) (input : Input) : Type 0 where
+  pub proper : IsProper input
+  pub reply : Reply
+  pub kept : WasKept s input reply
+  pub unknown : repeated (carried c s) input ≡ None

@@ -1,8 +1,8 @@
 //! Laws about the definitions.
 ghost use Rattle.std.specs.Prelude.{◌≡◌, ℕ, Bool, true, List};
-ghost use Rattle.carried_station.specs.Common.{IsLawfulState, Move, Place, State, pieces_of, tenths_of};
+ghost use Rattle.carried_station.specs.Common.{Input, IsLawfulState, LocalMinute, Move, Place, State, pieces_of, step, tenths_of};
 ghost use Rattle.carried_station.specs.Carried.{Choice, MayCarry, carried};
-ghost use Rattle.carried_station.specs.Laws.{IsSameWaybill, SumsAgree};
+ghost use Rattle.carried_station.specs.Laws.{IsLate, IsSameWaybill, SumsAgree};
 
 /// The carried part of a lawful state is lawful. Each carried waybill is as it was, and the sums of
 /// each place, or of several, are those of the carried and of the left out together.
@@ -15,4 +15,12 @@ pub fn carry_law()
         → SumsAgree pieces_of c book there }
     ensures tenths { (c : Choice) (book : List Move) (there : Place → Bool)
         → SumsAgree tenths_of c book there }
+{}
+
+/// A repeat of an input that the old station accepted, and that the new one doesn't know, changes
+/// no cargo.
+pub fn late_law()
+    ensures { (s : State) (day : ℕ) (c : Choice) (input : Input) (at : LocalMinute)
+        → IsLawfulState s → MayCarry s day c → IsLate s c input
+        → (step (carried c s) input at).state.cargo ≡ (carried c s).cargo }
 {}
