@@ -1,6 +1,6 @@
 -- The part of a station that is carried, and what may be left out.
 use Rattle.std.specs.Prelude.{◌≡◌, ◌⊎◌, ◌↔◌, ℕ, ◌≤◌, Bool, true, false, not, ◌&&◌, ◌||◌, nat_le, IsTrue, IsSome, IfSome, Option, Some, None, List, ◌∷◌, take, drop, length}
-use Rattle.carried_station.specs.Common.{AllByRecursion, filter, list_any, range_with_len, bytes_eq, Holder, Used, number_text, IsCommand, command_text, Command, same_place, Cargo, is_closed, departs_with, DeskCommand, FlightDate, Move, Part, Built, State, IsMeant, Meant, Content}
+use Rattle.carried_station.specs.Common.{AllByRecursion, filter, list_any, range_with_len, bytes_eq, Holder, Used, number_text, IsCommand, command_text, Command, same_place, Cargo, is_closed, departs_with, DeskCommand, FlightDate, Move, Outbound, Part, Built, State, IsMeant, Meant, Content}
 use Rattle.carried_station.specs.Finished.{IsFinished}
 use Rattle.shipment_machine.specs.declared.command.DeskCommand.TheVariants as desk
 use Rattle.desk_commands.specs.declared.command.Command.TheVariants as command
@@ -64,6 +64,12 @@ carried c s = record {
 abbrev pub names_built : FlightDate → Move → Bool
 names_built f m = same_place m.from (Built f) || same_place m.to (Built f)
 
+-- a noted flight is carried if a carried move names it as built, or if it is open, of the day or
+-- later
+abbrev pub is_carried_flight : Choice → ℕ → List Move → FlightDate → Outbound → Bool
+is_carried_flight c day book f outbound =
+    list_any (names_built f) (carried_moves c book) || (not outbound.closed && nat_le day f.day)
+
 -- a carried waybill is or was expected on a flight
 abbrev pub IsExpectedOn : Choice → Cargo → FlightDate → Type 0
 IsExpectedOn c s f = (w : ℕ) × IsTrue (c.waybill w) × IsSome (s.expected f w)
@@ -114,11 +120,11 @@ is_known_text c (content.Fsu status) = c.waybill status.awb
 
 -- What may be carried by a day. More waybills may be carried than must be.
 pub record MayCarry (s : State) (day : ℕ) (c : Choice) : Type 0 where
-  -- what is left out was finished before the day
+  -- what is left out was finished before the day; a number that isn't declared counts as carried
   pub finished : (w : ℕ) → c.waybill w ≡ false → IsFinished s.cargo day w
-  -- a flight is carried if a carried move names it as built, or if it is open, of that day or later
-  pub flights : (f : FlightDate) → IfSome (s.cargo.flights f) (λ o. c.flight f
-      ≡ (list_any (names_built f) (carried_moves c s.cargo.book) || (not o.closed && nat_le day f.day)))
+  -- which flights are carried
+  pub flights : (f : FlightDate)
+      → IfSome (s.cargo.flights f) (λ o. c.flight f ≡ is_carried_flight c day s.cargo.book f o)
   -- with a carried waybill that was built on a closed flight goes one that left with it
   pub left : (f : FlightDate) → IsTrue (c.flight f) → IsTrue (is_closed (s.cargo.flights f))
       → IsTrue (list_any (departs_with f) (carried_moves c s.cargo.book))
