@@ -1,15 +1,22 @@
 -- The worked rows: three waybills of March, of which one is left out in December.
-use Rattle.std.proofs.Common.{◌≡◌, ◌∷◌, [], refl, ℕ, ◌*◌, ◌+◌, Bool, true, false, not, ◌||◌, ◌&&◌, ◌==◌, Some, None, List, length, map, codes, arith}
+use Rattle.std.proofs.Common.{◌≡◌, ◌∷◌, [], refl, ℕ, ◌*◌, ◌+◌, Bool, true, false, not, ◌||◌, ◌&&◌, ◌==◌, Some, None, List, length, map, codes, arith, sym, subst, true≢false, Option, IfSome, IsSome, get_or, ◌∙◌}
+use Rattle.std.specs.Prelude.{IsTrue, ◌↔◌}
+use Rattle.std.specs.Bool.{if◌then◌else◌}
 use Rattle.std.specs.Fmt.{digits}
 use Rattle.std.specs.List.{list_any}
 use Rattle.std.specs.Str.{bytes_eq}
 use Rattle.station_days.specs.Date.{LocalMinute, day_line}
 use Rattle.agent_stock.specs.declared.stock.Holder.TheVariants.{Desk, Used}
 use Rattle.agent_stock.specs.declared.stock.Order.TheVariants.{TakeIn, Issue}
+use Rattle.std.proofs.lemmas.Bool.{eqb-true}
+use Rattle.std.proofs.lemmas.Option.{none-some}
+use Rattle.shipment_machine.proofs.FlightKeys.{same-is}
 use Rattle.shipment_machine.specs.Book.{amount, store, same_flight_date}
 use Rattle.shipment_machine.specs.Effect.{is_closed}
 use Rattle.shipment_machine.specs.Lawful.{departs_with}
 use Rattle.shipment_machine.specs.declared.flight.FlightDate.{FlightDate}
+use Rattle.shipment_machine.specs.declared.moves.Declared.{Declared}
+use Rattle.shipment_machine.specs.declared.moves.Outbound.{Outbound}
 use Rattle.shipment_machine.specs.declared.command.DeskCommand.{DeskCommand}
 use Rattle.shipment_machine.specs.declared.command.DeskCommand.TheVariants.{Book, Receive, Manifest, Offload, Depart, Confirm}
 use Rattle.desk_commands.specs.declared.command.Command.TheVariants.{Stock, Cargo}
@@ -18,7 +25,7 @@ use Rattle.station_core.specs.declared.answer.Input.TheVariants.{Keyed}
 use Rattle.station_core.specs.declared.answer.Answer.{Answer}
 use Rattle.station_core.specs.declared.answer.Answer.TheVariants.{Done, Refused}
 use Rattle.station_core.specs.Step.{State, after_all, answers_of, opening, refusal_text, reply_text}
-use Rattle.carried_station.specs.Carried.{Choice, carried, carried_moves, names, names_built}
+use Rattle.carried_station.specs.Carried.{Choice, MayCarry, NamesCarried, carried, carried_moves, is_carried_flight, names, names_built}
 use Rattle.carried_station.specs.Finished.{IsFinished}
 
 -- Short forms.
@@ -203,3 +210,100 @@ example_closed = refl
 example_again : answers new (desk (codes "n2") (Book w3 (codes "FRA") (codes "ORD") 3 300 (codes "PARTS")) ∷ []) ≡ codes "ok 3" ∷ []
 unfolding digits day_line
 example_again = refl
+
+-- The two may be carried: this choice meets the conditions, but for the keys, whose entries are
+-- left out of account here.
+
+abbrev quiet : State
+quiet = record old { kept_keys = λ _. None }
+
+only_third : (w : ℕ) → not (w == w3) ≡ false → IsFinished old.cargo december w
+only_third w left = elim (w == w3) as (λ b. (w == w3) ≡ b → not b ≡ false → IsFinished old.cargo december w) [
+  | true ↦ λ is _. subst (λ v. IsFinished old.cargo december v) (sym (eqb-true w w3 is)) example_finished
+  | false ↦ λ _ e. absurd (true≢false e)
+] refl left
+
+abbrev to_jfk : Bool → Outbound
+to_jfk closed = record { unload = codes "JFK"; closed = closed }
+
+abbrev to_ord : Bool → Outbound
+to_ord closed = record { unload = codes "ORD"; closed = closed }
+
+neither : (a b : Bool) (w x y z : Outbound) → a ≡ false → b ≡ false → (if a then Some w else (if b then Some x else (if a then Some y else (if b then Some z else None)))) ≡ None
+neither true b w x y z e f = absurd (true≢false e)
+neither false true w x y z e f = absurd (true≢false f)
+neither false false w x y z e f = refl
+
+-- the two flights are noted, and no other
+noted : (f : FlightDate) (P : FlightDate → Type 0) → P (flight 400) → P (flight 430) → (old.cargo.flights f ≡ None → P f) → P f
+unfolding digits day_line
+noted f P first second none =
+    elim (same_flight_date f (flight 430)) as (λ b. same_flight_date f (flight 430) ≡ b → P f) [
+      | true ↦ λ is. subst P (sym (same-is f (flight 430) is)) second
+      | false ↦ λ not430. elim (same_flight_date f (flight 400)) as (λ b. same_flight_date f (flight 400) ≡ b → P f) [
+        | true ↦ λ is. subst P (sym (same-is f (flight 400) is)) first
+        | false ↦ λ not400. none (neither (same_flight_date f (flight 430)) (same_flight_date f (flight 400)) (to_ord true) (to_jfk true) (to_ord false) (to_jfk false) not430 not400)
+      ] refl
+    ] refl
+
+abbrev to_airport : List ℕ → ℕ → ℕ → Declared
+to_airport destination pieces tenths =
+    record { origin = codes "FRA"; destination = destination; pieces = pieces; tenths = tenths; goods = codes "PARTS"; notified = false; since = Some 20150 }
+
+none_of : (a b c : Bool) (x y z : Declared) → a ≡ false → b ≡ false → c ≡ false → (if a then Some x else (if b then Some y else (if c then Some z else None))) ≡ None
+none_of true b c x y z e f g = absurd (true≢false e)
+none_of false true c x y z e f g = absurd (true≢false f)
+none_of false false true x y z e f g = absurd (true≢false g)
+none_of false false false x y z e f g = refl
+
+nothing_noted : (o : Option Outbound) (P : Outbound → Type 0) → o ≡ None → IfSome o P
+nothing_noted None P e = tt
+nothing_noted (Some o) P e = absurd (none-some o (sym e))
+
+nothing_declared : (o : Option Declared) → o ≡ None → IsSome o → ⊥
+nothing_declared None e some = true≢false (sym some)
+nothing_declared (Some d) e some = none-some d (sym e)
+
+only_three : (w : ℕ) (P : ℕ → Type 0) → P w1 → P w2 → P w3 → (old.cargo.declared w ≡ None → P w) → P w
+unfolding digits day_line
+only_three w P first second third none =
+    elim (w == w3) as (λ b. (w == w3) ≡ b → P w) [
+      | true ↦ λ is. subst P (sym (eqb-true w w3 is)) third
+      | false ↦ λ not3. elim (w == w2) as (λ b. (w == w2) ≡ b → P w) [
+        | true ↦ λ is. subst P (sym (eqb-true w w2 is)) second
+        | false ↦ λ not2. elim (w == w1) as (λ b. (w == w1) ≡ b → P w) [
+          | true ↦ λ is. subst P (sym (eqb-true w w1 is)) first
+          | false ↦ λ not1. none (none_of (w == w3) (w == w2) (w == w1) (to_airport (codes "ORD") 2 200) (to_airport (codes "JFK") 5 500) (to_airport (codes "JFK") 10 1000) not3 not2 not1)
+        ] refl
+      ] refl
+    ] refl
+
+carried_message : (text : List ℕ) (w : ℕ) → IsSome (old.cargo.declared w) → not (w == w3) ≡ true → names w text ≡ true → two.message text ≡ true
+    → IsTrue (two.message text) ↔ NamesCarried two old.cargo text
+unfolding digits day_line
+carried_message text w declared carried named is = ((λ _. (w, declared, carried, named)), (λ _. is))
+
+left_message : (text : List ℕ) → two.message text ≡ false → names w1 text ≡ false → names w2 text ≡ false → IsTrue (two.message text) ↔ NamesCarried two old.cargo text
+unfolding digits day_line
+left_message text off not1 not2 = (
+  (λ e. absurd (true≢false (sym e ∙ off))),
+  (λ told. absurd (only_three told.0 (λ w. IsSome (old.cargo.declared w) → not (w == w3) ≡ true → names w text ≡ true → ⊥)
+      (λ _ _ e. true≢false (sym e ∙ not1)) (λ _ _ e. true≢false (sym e ∙ not2)) (λ _ e _. true≢false (sym e)) (λ none some _ _. nothing_declared (old.cargo.declared told.0) none some) told.1 told.2 told.3)),
+)
+
+abbrev message_at : ℕ → List ℕ
+message_at n = get_or old.cargo.outbox n []
+
+example_may : MayCarry quiet december two
+unfolding digits day_line
+example_may = record {
+  finished = only_third;
+  flights = λ f. noted f (λ f. IfSome (old.cargo.flights f) (λ o. two.flight f ≡ is_carried_flight two december old.cargo.book f o)) refl refl (λ none. nothing_noted (old.cargo.flights f) (λ o. two.flight f ≡ is_carried_flight two december old.cargo.book f o) none);
+  left = λ f named closed. subst (λ f. list_any (departs_with f) (carried_moves two old.cargo.book) ≡ true) (same-is (flight 400) f named) refl;
+  parts = λ p. tt;
+  manifests = λ p. tt;
+  confirmed = example_confirmed ∙ sym example_messages;
+  messages = (carried_message (message_at 0) w1 refl refl refl refl, (carried_message (message_at 1) w2 refl refl refl refl, (left_message (message_at 2) refl refl refl, (carried_message (message_at 3) w1 refl refl refl refl, (carried_message (message_at 4) w2 refl refl refl refl, (carried_message (message_at 5) w2 refl refl refl refl, (left_message (message_at 6) refl refl refl, (carried_message (message_at 7) w1 refl refl refl refl, (carried_message (message_at 8) w1 refl refl refl refl, (left_message (message_at 9) refl refl refl, (left_message (message_at 10) refl refl refl, tt)))))))))));
+  keys = λ key order proper. tt;
+  texts = λ telegram said kept. cc;
+}
