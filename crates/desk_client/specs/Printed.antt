@@ -116,7 +116,7 @@ pub record HasPrinted (form : Form) (a : Response) (talk_old talk_new : Talk) (o
 
 abbrev pub reply_line : Reply → Option (List ℕ)
 reply_line (json_reply status allow d) = told_line status d
-reply_line (look_reply seen) = None
+reply_line (look_reply status seen) = None
 reply_line (history_reply w known) = None
 reply_line (report_reply name) = None
 
