@@ -1,4 +1,5 @@
 pub mod Sums
 pub mod Kept
 pub mod Late
+pub mod Named
 mod Examples

@@ -1,6 +1,8 @@
--- What stays of carried waybills, the sums of all places, and late repeats.
+-- What stays of carried waybills, the sums of all places, late repeats, and the
+-- messages of a waybill.
 use Rattle.std.specs.Prelude.{◌≡◌, ℕ, ◌+◌, ◌==◌, Bool, not, if◌then◌else◌, List, None}
-use Rattle.carried_station.specs.Common.{filter, sum_by, balances_of, built, Cargo, FlightDate, IsCommand, IsMeant, Move, Place, State, WasKept, repeated, Input, Keyed, Wire, Reply}
+use Rattle.carried_station.specs.Common.{filter, list_any, sum_by, balances_of, built, Cargo, FlightDate, IsCommand, IsMeant, Move, Place, State, WasKept, repeated, Input, Keyed, Wire, Reply, ManifestLine, Notice}
+use Rattle.shipment_machine.specs.declared.notice.Notice.TheVariants as notice
 use Rattle.carried_station.specs.Carried.{Choice, carried, carried_moves}
 
 -- A waybill has the same declaration, holder, balances, moves, lines of the trail and expectations
@@ -44,3 +46,9 @@ pub record IsLate (s : State) (c : Choice) (input : Input) : Type 0 where
   pub reply : Reply
   pub kept : WasKept s input reply
   pub unknown : repeated (carried c s) input ≡ None
+
+-- true if a notice is of a waybill: a status of it, or a manifest with it
+abbrev pub is_of : ℕ → Notice → Bool
+is_of w (notice.Status here consigned event pieces tenths) = consigned.awb == w
+is_of w (notice.Manifest here flight unload lines) =
+    list_any (λ (line : ManifestLine). line.consigned.awb == w) lines

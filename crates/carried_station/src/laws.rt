@@ -1,8 +1,8 @@
 //! Laws about the definitions.
 ghost use Rattle.std.specs.Prelude.{◌≡◌, ℕ, Bool, true, List};
-ghost use Rattle.carried_station.specs.Common.{Input, IsLawfulState, LocalMinute, Move, Place, State, pieces_of, step, tenths_of};
-ghost use Rattle.carried_station.specs.Carried.{Choice, MayCarry, carried};
-ghost use Rattle.carried_station.specs.Laws.{IsLate, IsSameWaybill, SumsAgree};
+ghost use Rattle.carried_station.specs.Common.{Input, IsLawfulState, LocalMinute, Move, Notice, Place, State, notice_text, pieces_of, step, tenths_of};
+ghost use Rattle.carried_station.specs.Carried.{Choice, MayCarry, carried, names};
+ghost use Rattle.carried_station.specs.Laws.{IsLate, IsSameWaybill, SumsAgree, is_of};
 
 /// The carried part of a lawful state is lawful. Each carried waybill is as it was, and the sums of
 /// each place, or of several, are those of the carried and of the left out together.
@@ -23,4 +23,9 @@ pub fn late_law()
     ensures { (s : State) (day : ℕ) (c : Choice) (input : Input) (at : LocalMinute)
         → IsLawfulState s → MayCarry s day c → IsLate s c input
         → (step (carried c s) input at).state.cargo ≡ (carried c s).cargo }
+{}
+
+/// The text of a status message names its waybill, and that of a manifest each of its waybills.
+pub fn message_law()
+    ensures { (w : ℕ) (n : Notice) → is_of w n ≡ true → names w (notice_text n) ≡ true }
 {}
