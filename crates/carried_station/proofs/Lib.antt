@@ -2,4 +2,5 @@ pub mod Sums
 pub mod Kept
 pub mod Late
 pub mod Named
+pub mod Unfinished
 mod Examples

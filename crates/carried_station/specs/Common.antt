@@ -21,11 +21,13 @@ pub use Rattle.shipment_machine.specs.declared.moves.Place.{Place}
 pub use Rattle.shipment_machine.specs.declared.moves.Place.TheVariants.{Built}
 pub use Rattle.shipment_machine.specs.declared.notice.ManifestLine.{ManifestLine}
 pub use Rattle.shipment_machine.specs.declared.notice.Notice.{Notice}
+pub use Rattle.station_core.specs.Readers.{expected_for, shed_rows}
 pub use Rattle.station_core.specs.Retries.{WasKept}
 pub use Rattle.station_core.specs.Step.{IsLawfulState, State, repeated, step}
 pub use Rattle.station_core.specs.declared.answer.Input.{Input}
 pub use Rattle.station_core.specs.declared.answer.Input.TheVariants.{Keyed, Wire}
 pub use Rattle.station_core.specs.declared.answer.Reply.{Reply}
+pub use Rattle.station_core.specs.declared.rows.ExpectedQuery.TheVariants.{Open}
 pub use Rattle.station_days.specs.Date.{LocalMinute}
 pub use Rattle.telegrams.specs.Meaning.{IsMeant, Meant, notice_text}
 pub use Rattle.telegrams.specs.declared.telegram.Content.{Content}
