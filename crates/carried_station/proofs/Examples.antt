@@ -1,5 +1,5 @@
 -- The worked rows: three waybills of March, of which one is left out in December.
-use Rattle.std.proofs.Common.{◌≡◌, ◌∷◌, [], refl, ℕ, ◌*◌, ◌+◌, Bool, true, false, not, ◌||◌, ◌&&◌, ◌==◌, Some, None, List, length, map, codes, arith, sym, subst, true≢false, Option, IfSome, IsSome, get_or, ◌∙◌}
+use Rattle.std.proofs.Common.{◌≡◌, ◌∷◌, [], refl, ℕ, ◌*◌, ◌+◌, Bool, true, false, not, ◌||◌, ◌&&◌, ◌==◌, Some, None, List, length, map, codes, arith, sym, subst, true≢false, Option, IfSome, IsSome, get_or, ◌∙◌, ap, take, drop, ◌++◌, Result, Ok, Err}
 use Rattle.std.specs.Prelude.{IsTrue, ◌↔◌}
 use Rattle.std.specs.Bool.{if◌then◌else◌}
 use Rattle.std.specs.Fmt.{digits}
@@ -7,9 +7,13 @@ use Rattle.std.specs.List.{list_any}
 use Rattle.std.specs.Str.{bytes_eq}
 use Rattle.station_days.specs.Date.{LocalMinute, day_line}
 use Rattle.agent_stock.specs.declared.stock.Holder.TheVariants.{Desk, Used}
-use Rattle.agent_stock.specs.declared.stock.Order.TheVariants.{TakeIn, Issue}
+use Rattle.agent_stock.specs.declared.stock.Order.TheVariants.{TakeIn, Issue, GiveBack, Void}
 use Rattle.std.proofs.lemmas.Bool.{eqb-true}
 use Rattle.std.proofs.lemmas.Option.{none-some}
+use Rattle.std.proofs.lemmas.Slice.Eq.{bytes_eq-Decides}
+use Rattle.awb_number.specs.Number.{IsNumber, number_of, number_text}
+use Rattle.awb_number.specs.declared.awb.AwbFault.{AwbFault}
+use Rattle.awb_number.proofs.NumberLaws.{number_again}
 use Rattle.shipment_machine.proofs.FlightKeys.{same-is}
 use Rattle.shipment_machine.specs.Book.{amount, store, same_flight_date}
 use Rattle.shipment_machine.specs.Effect.{is_closed}
@@ -18,15 +22,18 @@ use Rattle.shipment_machine.specs.declared.flight.FlightDate.{FlightDate}
 use Rattle.shipment_machine.specs.declared.moves.Declared.{Declared}
 use Rattle.shipment_machine.specs.declared.moves.Outbound.{Outbound}
 use Rattle.shipment_machine.specs.declared.command.DeskCommand.{DeskCommand}
-use Rattle.shipment_machine.specs.declared.command.DeskCommand.TheVariants.{Book, Receive, Manifest, Offload, Depart, Confirm}
+use Rattle.shipment_machine.specs.declared.command.DeskCommand.TheVariants.{Book, Amend, Receive, Withdraw, Manifest, Offload, Reroute, Depart, CheckIn, Strike, Notify, Deliver, Transfer, Missing, Found, Confirm}
+use Rattle.desk_commands.specs.Command.{IsCommand, command_text}
+use Rattle.desk_commands.specs.declared.command.Command.{Command}
 use Rattle.desk_commands.specs.declared.command.Command.TheVariants.{Stock, Cargo}
 use Rattle.station_core.specs.declared.answer.Input.{Input}
 use Rattle.station_core.specs.declared.answer.Input.TheVariants.{Keyed}
 use Rattle.station_core.specs.declared.answer.Answer.{Answer}
 use Rattle.station_core.specs.declared.answer.Answer.TheVariants.{Done, Refused}
-use Rattle.station_core.specs.Step.{State, after_all, answers_of, opening, refusal_text, reply_text}
-use Rattle.carried_station.specs.Carried.{Choice, MayCarry, NamesCarried, carried, carried_moves, is_carried_flight, names, names_built}
+use Rattle.station_core.specs.Step.{Kept, State, after_all, answers_of, opening, refusal_text, reply_text}
+use Rattle.carried_station.specs.Carried.{Choice, is_known_command, MayCarry, NamesCarried, carried, carried_moves, is_carried_flight, names, names_built}
 use Rattle.carried_station.specs.Finished.{IsFinished}
+use Rattle.carried_station.specs.Laws.{IsLate}
 
 -- Short forms.
 
@@ -211,11 +218,21 @@ example_again : answers new (desk (codes "n2") (Book w3 (codes "FRA") (codes "OR
 unfolding digits day_line
 example_again = refl
 
--- The two may be carried: this choice meets the conditions, but for the keys, whose entries are
--- left out of account here.
+-- The two may be carried: this choice meets the conditions. Of the keys only that of the receipt of
+-- the third is taken into account.
 
-abbrev quiet : State
-quiet = record old { kept_keys = λ _. None }
+abbrev receipt : Command
+receipt = Cargo (Receive w3 2 200 (codes "ACME"))
+
+abbrev entry : Kept
+entry = record { request = command_text receipt; count = 2 }
+
+example_entry : old.kept_keys (codes "r3") ≡ Some entry
+unfolding digits day_line
+example_entry = refl
+
+abbrev few : State
+few = record old { kept_keys = λ key. if bytes_eq key (codes "r3") then Some entry else None }
 
 only_third : (w : ℕ) → not (w == w3) ≡ false → IsFinished old.cargo december w
 only_third w left = elim (w == w3) as (λ b. (w == w3) ≡ b → not b ≡ false → IsFinished old.cargo december w) [
@@ -294,7 +311,52 @@ left_message text off not1 not2 = (
 abbrev message_at : ℕ → List ℕ
 message_at n = get_or old.cargo.outbox n []
 
-example_may : MayCarry quiet december two
+-- a text that begins with the word of a receipt
+abbrev is_receipt : List ℕ → Bool
+is_receipt text = bytes_eq (take 8 text) (codes "receive" ++ (10 ∷ []))
+
+abbrev number_or : Result ℕ AwbFault → ℕ
+number_or (Ok w) = w
+number_or (Err fault) = 0
+
+same_number : (w : ℕ) → IsNumber w → number_text w ≡ number_text w3 → w ≡ w3
+same_number w proper same = ap number_or (sym (number_again w proper) ∙ ap number_of same ∙ number_again w3 (omega arith))
+
+-- the command of this text isn't known any more
+unknown : (command : Command) → IsCommand command → is_receipt (command_text command) ≡ true → take 12 (drop 8 (command_text command)) ≡ number_text w3 → is_known_command two command ≡ false
+unfolding digits day_line
+unknown (Cargo (Receive w pieces tenths name)) proper is same = ap (λ v. not (v == w3)) (same_number w proper.0 same)
+unknown (Cargo (Book w origin destination pieces tenths goods)) proper is same = absurd (true≢false (sym is))
+unknown (Cargo (Amend w origin destination pieces tenths goods)) proper is same = absurd (true≢false (sym is))
+unknown (Cargo (Withdraw w pieces name)) proper is same = absurd (true≢false (sym is))
+unknown (Cargo (Manifest w flight unload pieces)) proper is same = absurd (true≢false (sym is))
+unknown (Cargo (Offload w flight pieces)) proper is same = absurd (true≢false (sym is))
+unknown (Cargo (Reroute flight unload)) proper is same = absurd (true≢false (sym is))
+unknown (Cargo (Depart flight)) proper is same = absurd (true≢false (sym is))
+unknown (Cargo (CheckIn w flight counted)) proper is same = absurd (true≢false (sym is))
+unknown (Cargo (Strike w flight pieces)) proper is same = absurd (true≢false (sym is))
+unknown (Cargo (Notify w name)) proper is same = absurd (true≢false (sym is))
+unknown (Cargo (Deliver w pieces name)) proper is same = absurd (true≢false (sym is))
+unknown (Cargo (Transfer w pieces airline)) proper is same = absurd (true≢false (sym is))
+unknown (Cargo (Missing w pieces flight)) proper is same = absurd (true≢false (sym is))
+unknown (Cargo (Found w pieces tenths flight)) proper is same = absurd (true≢false (sym is))
+unknown (Cargo (Confirm upto)) proper is same = absurd (true≢false (sym is))
+unknown (Stock (TakeIn run)) proper is same = absurd (true≢false (sym is))
+unknown (Stock (Issue run agent)) proper is same = absurd (true≢false (sym is))
+unknown (Stock (GiveBack run agent)) proper is same = absurd (true≢false (sym is))
+unknown (Stock (Void run)) proper is same = absurd (true≢false (sym is))
+
+only_receipt : (key : List ℕ) (command : Command) → IsCommand command
+    → IfSome (few.kept_keys key) (λ kept. kept.request ≡ command_text command → two.key key ≡ is_known_command two command)
+unfolding digits day_line
+only_receipt key command proper = elim (bytes_eq key (codes "r3")) as (λ b. bytes_eq key (codes "r3") ≡ b
+    → IfSome (if b then Some entry else None) (λ kept. kept.request ≡ command_text command → two.key key ≡ is_known_command two command)) [
+      | true ↦ λ is same. subst (λ k. two.key k ≡ false) (sym ((bytes_eq-Decides key (codes "r3")).0 is)) refl
+          ∙ sym (unknown command proper (ap is_receipt (sym same)) (ap (λ text. take 12 (drop 8 text)) (sym same)))
+      | false ↦ λ _. tt
+    ] refl
+
+example_may : MayCarry few december two
 unfolding digits day_line
 example_may = record {
   finished = only_third;
@@ -304,6 +366,16 @@ example_may = record {
   manifests = λ p. tt;
   confirmed = example_confirmed ∙ sym example_messages;
   messages = (carried_message (message_at 0) w1 refl refl refl refl, (carried_message (message_at 1) w2 refl refl refl refl, (left_message (message_at 2) refl refl refl, (carried_message (message_at 3) w1 refl refl refl refl, (carried_message (message_at 4) w2 refl refl refl refl, (carried_message (message_at 5) w2 refl refl refl refl, (left_message (message_at 6) refl refl refl, (carried_message (message_at 7) w1 refl refl refl refl, (carried_message (message_at 8) w1 refl refl refl refl, (left_message (message_at 9) refl refl refl, (left_message (message_at 10) refl refl refl, tt)))))))))));
-  keys = λ key order proper. tt;
+  keys = only_receipt;
   texts = λ telegram said kept. cc;
+}
+
+-- the receipt of the third is a late repeat
+example_late : IsLate few two (Keyed (codes "r3") receipt)
+unfolding digits day_line
+example_late = record {
+  proper = (omega arith, (omega arith, omega arith), omega arith, refl);
+  reply = record { count = 2 };
+  kept = refl;
+  unknown = refl;
 }
