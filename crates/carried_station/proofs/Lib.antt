@@ -3,4 +3,6 @@ pub mod Kept
 pub mod Late
 pub mod Named
 pub mod Unfinished
+pub mod Walked
+pub mod Judged
 mod Examples

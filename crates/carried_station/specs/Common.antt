@@ -8,7 +8,7 @@ pub use Rattle.awb_number.specs.Number.{number_text}
 pub use Rattle.desk_commands.specs.Command.{IsCommand, command_text}
 pub use Rattle.desk_commands.specs.declared.command.Command.{Command}
 pub use Rattle.shipment_machine.specs.Book.{balances_of, built, has_moves, missing, pieces_of, same_place, store, tenths_of}
-pub use Rattle.shipment_machine.specs.Cargo.{Cargo}
+pub use Rattle.shipment_machine.specs.Cargo.{Cargo, IsAscending, is_in}
 pub use Rattle.shipment_machine.specs.Effect.{is_closed}
 pub use Rattle.shipment_machine.specs.Lawful.{departs_with}
 pub use Rattle.shipment_machine.specs.declared.command.DeskCommand.{DeskCommand}

@@ -2,3 +2,4 @@ pub mod Common
 pub mod Finished
 pub mod Carried
 pub mod Laws
+pub mod Compared

@@ -2,3 +2,6 @@
 #![tactic(auto)]
 
 pub mod laws;
+mod waybills;
+
+pub use waybills::{WaybillRow, left_out};
