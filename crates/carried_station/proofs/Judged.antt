@@ -1,7 +1,7 @@
 -- What walking through both lists finds.
-use Rattle.std.proofs.Common.{◌≡◌, ◌≢◌, ◌∙◌, refl, sym, ap, subst, arith, ℕ, ◌<◌, ◌==◌, Bool, true, false, true≢false, not, ◌&&◌, ◌||◌, List, [], ◌∷◌, length, map, Option, Some, None, IfSome, Result, Ok, Err}
+use Rattle.std.proofs.Common.{◌≡◌, ◌≢◌, ◌∙◌, refl, sym, ap, subst, arith, ℕ, ◌<◌, ◌==◌, Bool, true, false, true≢false, not, ◌||◌, List, [], ◌∷◌, length, map, Option, Some, None, IfSome, Result, Ok, Err}
 use Rattle.std.specs.Bool.{if◌then◌else◌}
-use Rattle.std.specs.List.{AllByRecursion, filter}
+use Rattle.std.specs.List.{AllByRecursion, filter, find}
 use Rattle.std.specs.Prelude.{IfOk}
 use Rattle.std.specs.Option.{option_map}
 use Rattle.std.proofs.lemmas.Bool.{and_parts, and_from, eqb-true, eq-eqb}
@@ -10,7 +10,9 @@ use Rattle.std.proofs.lemmas.Slice.Eq.{bytes_eq-Decides}
 use Rattle.shipment_machine.specs.Cargo.{IsAscending, is_in}
 use Rattle.shipment_machine.specs.declared.moves.Declared.{Declared}
 use Rattle.shipment_machine.proofs.Rising.{not_in}
-use Rattle.carried_station.specs.Compared.{and_left, left_of, rows_without, same_bool, same_day, same_declared, same_row}
+use Rattle.carried_station.specs.Carried.{if_carried}
+use Rattle.carried_station.specs.Compared.{declared_by, rows_without}
+use Rattle.carried_station.specs.Walk.{and_left, left_of, same_bool, same_day, same_row}
 use Rattle.carried_station.proofs.Walked.{passed}
 use Rattle.carried_station.specs.declared.waybills.WaybillRow.{WaybillRow}
 
@@ -93,18 +95,20 @@ abbrev Judges : List WaybillRow → List WaybillRow → List ℕ → Type 0
 Judges rows rest left = (rest ≡ rows_without left rows) × ((b : ℕ) → Above b (awbs rows) → Above b left)
 
 kept_case : (row next : WaybillRow) (rows rest : List WaybillRow) (left : List ℕ) → Above row.awb (awbs rows) → same_row next row ≡ true → Judges rows rest left → Judges (row ∷ rows) (next ∷ rest) left
-kept_case row next rows rest left above is so =
-    ((λ i. one_row next row is i ∷ so.0 i) ∙ ap (λ b. if not b then row ∷ rows_without left rows else rows_without left rows) (sym (not_in row.awb left (so.1 row.awb above))),
-    λ b all. so.1 b all.1)
+kept_case row next rows rest left above is so = (
+  (λ i. one_row next row is i ∷ so.0 i) ∙ ap (λ b. if not b then row ∷ rows_without left rows else rows_without left rows) (sym (not_in row.awb left (so.1 row.awb above))),
+  λ b all. so.1 b all.1,
+)
 
 left_case : (row : WaybillRow) (rows rest : List WaybillRow) (left : List ℕ) (o : Option (List ℕ)) → Above row.awb (awbs rows) → and_left row.awb o ≡ Some left → ((more : List ℕ) → o ≡ Some more → Judges rows rest more) → Judges (row ∷ rows) rest left
 left_case row rows rest left None above e so = absurd (none-some left e)
 left_case row rows rest left (Some more) above e so =
     let found = so more refl in
     let itself : (row.awb == row.awb) ≡ true = eq-eqb row.awb row.awb refl in
-    subst (Judges (row ∷ rows) rest) (same_Some (row.awb ∷ more) left e)
-    (found.0 ∙ sym (still row.awb more rows above) ∙ ap (λ b. if not (b || is_in row.awb more) then row ∷ rows_without (row.awb ∷ more) rows else rows_without (row.awb ∷ more) rows) (sym itself),
-    λ b all. (all.0, found.1 b all.1))
+    subst (Judges (row ∷ rows) rest) (same_Some (row.awb ∷ more) left e) (
+      found.0 ∙ sym (still row.awb more rows above) ∙ ap (λ b. if not (b || is_in row.awb more) then row ∷ rows_without (row.awb ∷ more) rows else rows_without (row.awb ∷ more) rows) (sym itself),
+      λ b all. (all.0, found.1 b all.1),
+    )
 
 sound : (rows rest : List WaybillRow) (left : List ℕ) → IsAscending (awbs rows) → left_of rows rest ≡ Some left → Judges rows rest left
 sound [] [] left asc e = (refl, λ b _. subst (Above b) (same_Some [] left e) tt)
@@ -141,7 +145,7 @@ complete (row ∷ rows) rest asc keeps e none =
     elim (keeps row.awb) as (λ b. rest ≡ (if b then row ∷ kept else kept) → ⊥) [
       | true ↦ λ e. complete rows kept asc.1 keeps refl (sym (passed rows rest kept row row e (row_again row)) ∙ none)
       | false ↦ λ e. complete rows rest asc.1 keeps e (no_more row.awb (left_of rows rest)
-        (sym (other_row row rows rest (subst (λ rs. Above row.awb (awbs rs)) (sym e) (above_filter row.awb (λ row. keeps row.awb) rows asc.0))) ∙ none))
+          (sym (other_row row rows rest (subst (λ rs. Above row.awb (awbs rs)) (sym e) (above_filter row.awb (λ row. keeps row.awb) rows asc.0))) ∙ none))
     ] e
 
 pub judged_found : {V E : Type 0} (items : V → List ℕ) (r : Result (Option V) E) (old new : List WaybillRow) → IsAscending (awbs old) → IfOk r (λ found. option_map items found ≡ left_of old new)
@@ -155,3 +159,34 @@ pub judged_none : {V E : Type 0} (items : V → List ℕ) (r : Result (Option V)
 judged_none items (Err e) old new asc h = tt
 judged_none items (Ok None) old new asc h = λ _ keeps same. complete old new asc keeps same (sym h)
 judged_none items (Ok (Some v)) old new asc h = λ is. absurd (none-some v (sym is))
+
+-- the declarations by the rows that are carried
+carried_by : (left : List ℕ) (w : ℕ) (rows : List WaybillRow) → declared_by (rows_without left rows) w ≡ if_carried (not (is_in w left)) (declared_by rows w)
+carried_by left w [] = none_carried (not (is_in w left))
+  where
+    none_carried : (b : Bool) → None ≡ if_carried {X = Declared} b None
+    none_carried true = refl
+    none_carried false = refl
+carried_by left w (row ∷ rows) =
+    let rest : List WaybillRow = rows_without left rows in
+    let more = carried_by left w rows in
+    elim (row.awb == w) as (λ t. (row.awb == w) ≡ t → declared_by (rows_without left (row ∷ rows)) w
+    ≡ if_carried (not (is_in w left)) (option_map (λ (r : WaybillRow). r.declared) (if t then Some row else find (λ (r : WaybillRow). r.awb == w) rows))) [
+      | true ↦ λ is. elim (is_in row.awb left) as (λ b. is_in row.awb left ≡ b → declared_by (if not b then row ∷ rest else rest) w ≡ if_carried (not (is_in w left)) (Some row.declared)) [
+        | true ↦ λ inside. let here : is_in w left ≡ true = ap (λ v. is_in v left) (sym (eqb-true row.awb w is)) ∙ inside in
+            more ∙ ap (λ b. if_carried (not b) (declared_by rows w)) here ∙ ap (λ b. if_carried (not b) (Some row.declared)) (sym here)
+        | false ↦ λ outside. let here : is_in w left ≡ false = ap (λ v. is_in v left) (sym (eqb-true row.awb w is)) ∙ outside in
+            ap (λ t. option_map (λ (r : WaybillRow). r.declared) (if t then Some row else find (λ (r : WaybillRow). r.awb == w) rest)) is
+            ∙ ap (λ b. if_carried (not b) (Some row.declared)) (sym here)
+      ] refl
+      | false ↦ λ differ. elim (is_in row.awb left) as (λ b. declared_by (if not b then row ∷ rest else rest) w ≡ if_carried (not (is_in w left)) (declared_by rows w)) [
+        | true ↦ more
+        | false ↦ ap (λ t. option_map (λ (r : WaybillRow). r.declared) (if t then Some row else find (λ (r : WaybillRow). r.awb == w) rest)) differ ∙ more
+      ]
+    ] refl
+
+pub judged_declared : {V E : Type 0} (items : V → List ℕ) (r : Result (Option V) E) (old new : List WaybillRow) → IsAscending (awbs old) → IfOk r (λ found. option_map items found ≡ left_of old new)
+    → IfOk r (λ found. IfSome found (λ left. (w : ℕ) → declared_by new w ≡ if_carried (not (is_in w (items left))) (declared_by old w)))
+judged_declared items (Err e) old new asc h = tt
+judged_declared items (Ok None) old new asc h = tt
+judged_declared items (Ok (Some v)) old new asc h = λ w. ap (λ rows. declared_by rows w) (sound old new (items v) asc (sym h)).0 ∙ carried_by (items v) w old

@@ -1,6 +1,7 @@
 -- The words of other crates that this crate's definitions and contracts cite, passed on from one
 -- place. Declares nothing.
-pub use Rattle.std.specs.List.{AllByRecursion, filter, list_any, range_with_len, sum_by}
+pub use Rattle.std.specs.List.{AllByRecursion, filter, find, list_any, range_with_len, sum_by}
+pub use Rattle.std.specs.Option.{option_map}
 pub use Rattle.std.specs.Str.{bytes_eq}
 pub use Rattle.agent_stock.specs.declared.stock.Holder.{Holder}
 pub use Rattle.agent_stock.specs.declared.stock.Holder.TheVariants.{Used}

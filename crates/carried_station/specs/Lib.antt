@@ -3,3 +3,4 @@ pub mod Finished
 pub mod Carried
 pub mod Laws
 pub mod Compared
+pub mod Walk

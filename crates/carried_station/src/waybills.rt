@@ -1,8 +1,9 @@
 //! The waybills of an old and a new file, compared.
-ghost use Rattle.std.specs.Prelude.{◌≡◌, ◌≢◌, ◌↔◌, ℕ, Bool, IsTrue, IfOk, IfSome, Some, None, length, map};
-ghost use Rattle.carried_station.specs.Common.{IsAscending, filter};
-ghost use Rattle.std.specs.Option.{option_map};
-ghost use Rattle.carried_station.specs.Compared.{left_of, rows_without, same_declared, stands_at};
+ghost use Rattle.std.specs.Prelude.{◌≡◌, ◌≢◌, ℕ, Bool, not, IfOk, IfSome, None, map};
+ghost use Rattle.carried_station.specs.Carried.{if_carried};
+ghost use Rattle.carried_station.specs.Common.{IsAscending, filter, is_in, option_map};
+ghost use Rattle.carried_station.specs.Compared.{declared_by, rows_without};
+ghost use Rattle.carried_station.specs.Walk.{left_of, same_declared, stands_at};
 
 use awb_number::Awb;
 use shipment_machine::Declared;
@@ -68,6 +69,9 @@ pub fn left_out(
 ) -> Result<Option<Vec<Awb>>, AllocError>
     ensures found { IsAscending (map (λ row. row.awb) old.now)
         → IfOk result (λ found. IfSome found (λ left. new.now ≡ rows_without left.items old.now)) }
+    ensures declared { IsAscending (map (λ row. row.awb) old.now)
+        → IfOk result (λ found. IfSome found (λ left. (w : ℕ) → declared_by new.now w
+        ≡ if_carried (not (is_in w left.items)) (declared_by old.now w))) }
     ensures none { IsAscending (map (λ row. row.awb) old.now)
         → IfOk result (λ found. found ≡ None
         → (keeps : ℕ → Bool) → new.now ≢ filter (λ row. keeps row.awb) old.now) }
