@@ -1,5 +1,5 @@
 -- Two lists of rows, walked through side by side.
-use Rattle.std.proofs.Common.{◌≡◌, ◌∙◌, sym, ap, arith, ℕ, ◌+◌, ◌≤◌, ◌<◌, true, false, List, [], ◌∷◌, ◌++◌, length, drop, get_or, Option, Some, None}
+use Rattle.std.proofs.Common.{◌≡◌, ◌∙◌, sym, ap, arith, ℕ, ◌+◌, ◌≤◌, ◌<◌, true, List, [], ◌∷◌, ◌++◌, length, drop, get_or, Option, Some, None}
 use Rattle.std.specs.Bool.{if◌then◌else◌}
 use Rattle.std.proofs.lemmas.List.{drop_more, drop_all}
 use Rattle.carried_station.specs.Walk.{and_left, left_of, same_row}
@@ -16,11 +16,6 @@ here new at row low = drop_more new at row low
 
 pub passed : (rows rest more : List WaybillRow) (row next : WaybillRow) → rest ≡ next ∷ more → same_row next row ≡ true → left_of (row ∷ rows) rest ≡ left_of rows more
 passed rows rest more row next is same = ap (left_of (row ∷ rows)) is ∙ ap (λ b. if b then left_of rows more else and_left row.awb (left_of rows (next ∷ more))) same
-
-missed : (rows rest more : List WaybillRow) (row next : WaybillRow) → rest ≡ next ∷ more → same_row next row ≡ false → left_of (row ∷ rows) rest ≡ and_left row.awb (left_of rows rest)
-missed rows rest more row next is same =
-    ap (left_of (row ∷ rows)) is ∙ ap (λ b. if b then left_of rows more else and_left row.awb (left_of rows (next ∷ more))) same
-    ∙ ap (λ xs. and_left row.awb (left_of rows xs)) (sym is)
 
 -- the rows before an index are taken into account
 abbrev pub Walks : List WaybillRow → List WaybillRow → ℕ → ℕ → List ℕ → Type 0
