@@ -4,7 +4,7 @@ import { AGAIN, EARLIER, FAULTS, REFUSALS } from "./words.js";
 
 const PATIENCE = 40000; // milliseconds until an answer counts as lost
 
-// One request at a time, since the desk serves one connection after another.
+// One request at a time, since the desk answers one request after another.
 let turn = Promise.resolve();
 
 export function ask(path, options = {}) {

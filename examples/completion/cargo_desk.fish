@@ -35,7 +35,7 @@ function __cargo_desk_words
                 holder 'Prints who holds a number' \
                 history 'Prints what is known of a waybill, its moves, its trail and what was sent' \
                 key 'Prints the command that was accepted under a key' \
-                serve 'Serves HTTP on 127.0.0.1, one connection after another' \
+                serve 'Serves HTTP on 127.0.0.1, one request after another' \
                 help 'Explains a command or a refusal'
         case 'act:act'
             printf '%s\t%s\n' \
@@ -93,7 +93,7 @@ function __cargo_desk_words
                 holder 'Prints who holds a number' \
                 history 'Prints what is known of a waybill, its moves, its trail and what was sent' \
                 key 'Prints the command that was accepted under a key' \
-                serve 'Serves HTTP on 127.0.0.1, one connection after another' \
+                serve 'Serves HTTP on 127.0.0.1, one request after another' \
                 help 'Explains a command or a refusal' \
                 101 'already in stock' \
                 102 'not at the desk' \

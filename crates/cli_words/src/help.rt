@@ -249,9 +249,10 @@ Example:
 pub(crate) const KEPT_KEY: &str = "The key of a command, 1 to 40 printable characters";
 
 pub(crate) const SERVE: (&str, &str) = (
-    "Serves HTTP on 127.0.0.1, one connection after another",
+    "Serves HTTP on 127.0.0.1, one request after another",
     "\
-Prints `listening` once it accepts connections. With --count it exits after K connections.
+Prints `listening` once it accepts connections, of which it holds up to 256. With --count it exits
+after K connections.
 
 Example:
   cargo_desk serve --port 8080 --count 1",

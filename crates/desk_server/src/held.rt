@@ -1,7 +1,7 @@
 //! A connection that the service holds: its request so far, its answer, or its end.
 
 use crate::outgoing::Outgoing;
-use crate::paced::{MOST_WAIT, seconds_for};
+use crate::paced::{MOST_STILL, seconds_for};
 use std::alloc::Global;
 use std::io;
 use std::io::{ErrorKind, Read};
@@ -11,6 +11,9 @@ use std::time::Duration;
 
 /// The longest silence of a new connection, in seconds.
 const MOST_SILENCE: u64 = 5;
+
+/// The longest silence within a request, in seconds.
+const MOST_WAIT: u64 = 10;
 
 /// The longest time in which a request arrives, in seconds.
 const MOST_REQUEST: u64 = 30;
@@ -122,7 +125,7 @@ impl Held {
         let (silence, all) = match self.stage {
             Stage::Request if self.bytes.is_empty() => (MOST_SILENCE, MOST_REQUEST),
             Stage::Request => (MOST_WAIT, MOST_REQUEST),
-            Stage::Answer => (MOST_WAIT, seconds_for(self.outgoing.sent())),
+            Stage::Answer => (MOST_STILL, seconds_for(self.outgoing.sent())),
             Stage::End => (MOST_CLOSE, MOST_CLOSE),
         };
         let next = self.last.saturating_add(Duration::from_secs(silence));

@@ -11,8 +11,9 @@ use std::time::{Clock, Duration};
 /// its peer reads it, until no more of it is left.
 pub(crate) const MOST_WAITING: usize = 67_108_864;
 
-/// The longest wait of a write, in seconds.
-pub(crate) const MOST_WAIT: u64 = 10;
+/// The longest time in which a peer takes nothing of its answer, in seconds. The system has room
+/// again only once the peer took a third of what it buffers, which may be 4 MiB.
+pub(crate) const MOST_STILL: u64 = 30;
 
 /// The longest time of an answer from its first byte on, in seconds.
 const MOST_ANSWER: u64 = 30;
@@ -30,7 +31,7 @@ pub(crate) fn seconds_for(sent: u64) -> u64
 }
 
 /// A writer of a connection's answer, which holds its bytes. While as many bytes wait as may be
-/// held, each write waits until the peer has taken some: no longer than ten seconds, nor past the
+/// held, each write waits until the peer has taken some: no longer than 30 seconds, nor past the
 /// time that the answer has: 30 seconds from its first wait, or more if the peer reads 64 KiB a
 /// second.
 #[derive(Drop)]
@@ -78,7 +79,7 @@ impl<'a, C: Clock> Paced<'a, C> {
         if gone >= all {
             return Err(io::Error::from(ErrorKind::TimedOut));
         }
-        Ok(Duration::from_secs(MOST_WAIT).min(all.saturating_sub(gone)))
+        Ok(Duration::from_secs(MOST_STILL).min(all.saturating_sub(gone)))
     }
 
     /// Waits until fewer bytes wait than may be held.
